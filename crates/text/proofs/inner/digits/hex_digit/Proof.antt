@@ -1,0 +1,16 @@
+use borrow.Author.Needs.{needs}
+use Rattle.text.proofs.inner.digits.hex_digit.Statement.{statement}
+use Rattle.text.proofs.inner.digits.hex_digit.Tie as tie
+use Rattle.text.proofs.inner.digits.hex_digit.Reads as reads
+use Rattle.text.proofs.inner.digits.hex_digit.Lts as lts
+
+-- src/inner/digits.rt:80:5
+element-copy-out-result : tie.Need-element-copy-out-result
+element-copy-out-result c = search needs
+
+-- src/inner/digits.rt:75:1
+returns : tie.Need-returns
+returns c = ?
+
+pub hex-digit-spec : {M : Type 1} → statement M
+hex-digit-spec = tie.close (tie.spec element-copy-out-result returns)

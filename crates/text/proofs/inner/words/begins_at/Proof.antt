@@ -1,0 +1,67 @@
+use Rattle.text.proofs.inner.words.begins_at.Statement.{statement}
+use Rattle.text.proofs.inner.words.begins_at.Tie as tie
+use Rattle.text.proofs.inner.words.begins_at.Reads as reads
+use Rattle.text.proofs.inner.words.begins_at.Lts as lts
+
+abbrev Inv-loop : tie.InvT-loop
+Inv-loop p s at j₀ j = ?
+
+abbrev μ-loop : tie.MeasureT-loop
+μ-loop p s at j₀ j = ?
+
+-- src/inner/words.rt:52:5
+loop-holds : tie.Need-loop-holds Inv-loop μ-loop
+loop-holds c = ?
+
+-- src/inner/words.rt:53:17
+add-i : tie.Need-add-i Inv-loop μ-loop
+add-i c = ?
+
+-- src/inner/words.rt:55:13
+returns : tie.Need-returns Inv-loop μ-loop
+returns c = ?
+
+-- src/inner/words.rt:57:12
+shared-slice-read-if2 : tie.Need-shared-slice-read-if2 Inv-loop μ-loop
+shared-slice-read-if2 c = ?
+
+-- src/inner/words.rt:57:20
+shared-slice-read-if2-2 : tie.Need-shared-slice-read-if2-2 Inv-loop μ-loop
+shared-slice-read-if2-2 c = ?
+
+-- src/inner/words.rt:58:13
+returns-2 : tie.Need-returns-2 Inv-loop μ-loop
+returns-2 c = ?
+
+-- src/inner/words.rt:60:9
+add-j : tie.Need-add-j Inv-loop μ-loop
+add-j c = ?
+
+-- src/inner/words.rt:52:5
+loop-less : tie.Need-loop-less Inv-loop μ-loop
+loop-less c = ?
+
+-- src/inner/words.rt:52:5
+loop-again : tie.Need-loop-again Inv-loop μ-loop
+loop-again c = ?
+
+-- src/inner/words.rt:47:1
+returns-3 : tie.Need-returns-3 Inv-loop μ-loop
+returns-3 c = ?
+
+pub begins-at-spec : {M : Type 1} → statement M
+begins-at-spec =
+    tie.close
+    (tie.spec
+    Inv-loop
+    μ-loop
+    loop-holds
+    add-i
+    returns
+    shared-slice-read-if2
+    shared-slice-read-if2-2
+    returns-2
+    add-j
+    loop-less
+    loop-again
+    returns-3)

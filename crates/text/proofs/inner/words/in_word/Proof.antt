@@ -1,0 +1,25 @@
+use borrow.Author.Needs.{needs}
+use Rattle.text.proofs.inner.words.in_word.Statement.{statement}
+use Rattle.text.proofs.inner.words.in_word.Tie as tie
+use Rattle.text.proofs.inner.words.in_word.Reads as reads
+use Rattle.text.proofs.inner.words.in_word.Lts as lts
+use Rattle.text.proofs.inner.classes.class.Reads as class-reads
+
+-- src/inner/words.rt:23:9
+class-requires : tie.Need-class-requires
+class-requires c κs = search needs
+
+-- src/inner/words.rt:19:1
+returns : tie.Need-returns
+returns c = ?
+
+-- src/inner/words.rt:19:1
+returns-2 : tie.Need-returns-2
+returns-2 c = ?
+
+-- src/inner/words.rt:19:1
+returns-3 : tie.Need-returns-3
+returns-3 c = ?
+
+pub in-word-spec : {M : Type 1} → statement M
+in-word-spec = tie.close (tie.spec class-requires returns returns-2 returns-3)

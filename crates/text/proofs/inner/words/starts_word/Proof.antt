@@ -1,0 +1,17 @@
+use borrow.Author.Needs.{needs}
+use Rattle.text.proofs.inner.words.starts_word.Statement.{statement}
+use Rattle.text.proofs.inner.words.starts_word.Tie as tie
+use Rattle.text.proofs.inner.words.starts_word.Reads as reads
+use Rattle.text.proofs.inner.words.starts_word.Lts as lts
+use Rattle.text.proofs.inner.classes.class.Reads as class-reads
+
+-- src/inner/words.rt:15:5
+class-requires : tie.Need-class-requires
+class-requires c κs = search needs
+
+-- src/inner/words.rt:11:1
+returns : tie.Need-returns
+returns c = ?
+
+pub starts-word-spec : {M : Type 1} → statement M
+starts-word-spec = tie.close (tie.spec class-requires returns)

@@ -1,0 +1,111 @@
+// Decimal and hex digits.
+use crate::Decimal;
+ghost use mathlib.Core.Path.{_≡_};
+ghost use Prim.Native.Nat.{_+_, _*_, _≤_, _<_};
+ghost use lib.Dec.{leb};
+ghost use Rattle.text.specs.Choice.{choose};
+ghost use Rattle.text.specs.Splice.{Room, Wrote, spent};
+ghost use Rattle.text.specs.Digits.{decimalFrom, decimal, hexDigits, hexDigit, hexes};
+
+// One more digit, unless the limit is exceeded already: then it stays exceeded.
+fn decimal_more(v: u64, limit: u32, d: u64) -> u64
+    requires { ⌜ d < 10 ⌝ }
+    ensures { λ r. ⌜ r ≡ choose (leb v limit) (λ u. v * 10 + d) (λ u. v) ⌝ }
+{
+    if v <= limit as u64 {
+        return v * 10 + d;
+    }
+    v
+}
+
+// What decimal digits are worth, if it is at most a limit; none are worth 0.
+pub fn decimal_from(s: &[u8], limit: u32) -> Decimal
+    ensures { λ r. ⌜ r ≡ decimalFrom limit 0 (now (s .entry)) ⌝ }
+{
+    let mut v: u64 = 0;
+    let mut i = 0;
+    while i < s.len() {
+        let x = super::utf8::wide(s[i]) as u64;
+        if x < 48 {
+            return Decimal::NotDigits;
+        }
+        if 57 < x {
+            return Decimal::NotDigits;
+        }
+        v = decimal_more(v, limit, x - 48);
+        i += 1;
+    }
+    if v <= limit as u64 {
+        return Decimal::Is(v as u32);
+    }
+    Decimal::Over
+}
+
+// What is left after a number in decimal.
+pub fn spend_decimal(left: usize, n: u32) -> usize
+    ensures { λ r. ⌜ r ≡ spent left (decimal n) ⌝ }
+{
+    if n < 10 {
+        return super::splice::spend(left, 1);
+    }
+    super::splice::spend(spend_decimal(left, n / 10), 1)
+}
+
+// Writes a number in decimal.
+pub fn put_decimal(n: u32, out: &mut [u8], at: usize) -> usize
+    requires { ⌜ Room (now out) at (decimal n) ⌝ }
+    ensures { λ r. ⌜ Wrote (now (out .entry)) at (decimal n) (now (out .exit)) r ⌝ }
+{
+    if n < 10 {
+        return super::splice::put_byte(48 + n as u8, out, at);
+    }
+    let next = put_decimal(n / 10, out, at);
+    super::splice::put_byte(48 + (n % 10) as u8, out, next)
+}
+
+const HEX_DIGITS: [u8; 16] = [
+    48,
+    49,
+    50,
+    51,
+    52,
+    53,
+    54,
+    55,
+    56,
+    57,
+    97,
+    98,
+    99,
+    100,
+    101,
+    102,
+];
+
+// The fixed table of sixteen, made once by each entry point and lent to whoever reads it.
+pub fn hex_digits() -> [u8; 16]
+    ensures { λ r. ⌜ r ≡ hexDigits ⌝ }
+{
+    HEX_DIGITS
+}
+
+pub fn hex_digit(t: &[u8; 16], d: u32) -> u8
+    requires { ⌜ now t ≡ hexDigits ⌝ }
+    requires { ⌜ d < 16 ⌝ }
+    ensures { λ r. ⌜ r ≡ hexDigit d ⌝ }
+{
+    t[d as usize]
+}
+
+// Writes the last k hex digits of a number.
+pub fn put_hex(t: &[u8; 16], k: usize, c: u32, out: &mut [u8], at: usize) -> usize
+    requires { ⌜ now t ≡ hexDigits ⌝ }
+    requires { ⌜ Room (now out) at (hexes k c) ⌝ }
+    ensures { λ r. ⌜ Wrote (now (out .entry)) at (hexes k c) (now (out .exit)) r ⌝ }
+{
+    if k == 0 {
+        return at;
+    }
+    let next = put_hex(t, k - 1, c / 16, out, at);
+    super::splice::put_byte(hex_digit(t, c % 16), out, next)
+}
