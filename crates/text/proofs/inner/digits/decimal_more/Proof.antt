@@ -1,3 +1,4 @@
+use borrow.Author.Tests.{lt-leb, le-leb}
 use borrow.Author.Needs.{needs}
 use Rattle.text.proofs.inner.digits.decimal_more.Statement.{statement}
 use Rattle.text.proofs.inner.digits.decimal_more.Tie as tie
@@ -14,11 +15,11 @@ add-result c = search needs
 
 -- src/inner/digits.rt:16:9
 returns : tie.Need-returns
-returns c = ?
+returns c = rw (le-leb _ _ (c .if1 .taken))
 
 -- src/inner/digits.rt:11:1
 returns-2 : tie.Need-returns-2
-returns-2 c = ?
+returns-2 c = rw (lt-leb _ _ (c .if1 .left))
 
 pub decimal-more-spec : {M : Type 1} → statement M
 decimal-more-spec = tie.close (tie.spec mul-result add-result returns returns-2)

@@ -1,3 +1,6 @@
+use lib.Dec.{eqb}
+use Prim.Native.Nat.{ℕ}
+use mathlib.Core.Path.{ap}
 use borrow.Author.Needs.{needs}
 use Rattle.text.proofs.inner.words.starts_word.Statement.{statement}
 use Rattle.text.proofs.inner.words.starts_word.Tie as tie
@@ -11,7 +14,7 @@ class-requires c κs = search needs
 
 -- src/inner/words.rt:11:1
 returns : tie.Need-returns
-returns c = ?
+returns c = ap (λ (k : ℕ). eqb k 2) (c .class .ensures)
 
 pub starts-word-spec : {M : Type 1} → statement M
 starts-word-spec = tie.close (tie.spec class-requires returns)
