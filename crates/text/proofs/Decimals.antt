@@ -1,19 +1,19 @@
 -- Laws of decimals: how a number is written, and what digits are worth.
+use Prim.Native.Nat.{ℕ, zero, suc, _+_, _-_, _*_, _/_, _%_, _≤_, _<_}
 use mathlib.Core.Path.{_≡_, refl, sym, ap, _∙_}
-use mathlib.Core.Bool.{Bool, true, false}
+use mathlib.Core.Bool.{false}
 use mathlib.Core.List.{List, [], _∷_, _++_, append-assoc, append-nil}
 use mathlib.Core.Logic.{⊎-elim}
-use Prim.Native.Nat.{ℕ, zero, suc, _+_, _-_, _*_, _/_, _%_, _≤_, _<_}
 use native.Mathlib.Omega.{arith}
-use lib.Dec.{leb, ltb}
+use lib.Dec.{leb}
 use lib.ListN.{length, getD, drop, length-append}
 use borrow.Author.Tests.{lt-ltb, le-ltb, le-leb, lt-leb}
-use Rattle.text.specs.Choice.{choose, within}
+use Rattle.text.specs.declared.Decimal.the-variants as Decimal
+use Rattle.text.specs.Choice.{choose}
 use Rattle.text.specs.Classes.{digit}
 use Rattle.text.specs.Digits.{digits, decimal, decimalFrom, decimalOf}
 use Rattle.text.specs.declared.Decimal.{Decimal}
-use Rattle.text.specs.declared.Decimal.the-variants as Decimal
-use Rattle.text.proofs.Tests.{choose-by, lt-or-ge, at-byte, at-end, within-yes, within-low, within-high}
+use Rattle.text.proofs.Tests.{choose-by, lt-or-ge, at-byte, at-end, within-yes}
 
 digits-one : (k n : ℕ) → n < 10 → digits (suc k) n ≡ (48 + n) ∷ []
 unfolding digits

@@ -1,20 +1,18 @@
 -- What is known of a sequence that was found: its bytes, and that they are its character's encoding.
-use Prim.Native.Nat.{ℕ, zero, suc, _+_, _-_, _*_, _/_, _%_, _≤_, _<_}
-use mathlib.Core.Path.{_≡_, refl, sym, ap, _∙_}
+use Prim.Native.Nat.{ℕ, suc, _+_, _-_, _*_, _/_, _%_, _≤_, _<_}
+use mathlib.Core.Path.{_≡_, refl, sym, _∙_}
 use mathlib.Core.Bool.{Bool, true, false}
-use mathlib.Core.List.{List, [], _∷_, _++_}
+use mathlib.Core.List.{List, [], _∷_}
 use mathlib.Core.Logic.{_⊎_, inl, inr}
 use native.Mathlib.Omega.{arith}
 use lib.ListN.{length, take}
 use lib.Dec.{leb, ltb}
-use borrow.Author.Tests.{leb-true, ltb-true, ltb-false, lt-ltb, le-ltb, le-leb}
-use Rattle.text.specs.Choice.{choose, and, within}
+use borrow.Author.Tests.{leb-true, ltb-true, ltb-false, lt-ltb, le-ltb}
+use Rattle.text.specs.Choice.{choose, within}
 use Rattle.text.specs.Utf8.{scalar, leadOf, gathered, judged, sequenceBy, charOf, encoded, Tail}
 use Rattle.text.specs.declared.Value.{Value}
 use Rattle.text.specs.declared.Value.the-variants.{Number, Nothing}
 use Rattle.text.specs.declared.Lead.{Lead}
-use Rattle.text.specs.declared.Lead.the-variants.{Row, Stray}
-use Rattle.text.specs.declared.Sequence.{Sequence}
 use Rattle.text.specs.declared.Sequence.the-variants.{Is, Broken}
 use Rattle.text.proofs.Tests.{choose-by, within-is, within-yes}
 

@@ -1,22 +1,17 @@
 -- A character's bytes are read as the character.
-use Prim.Native.Nat.{ℕ, zero, suc, _+_, _-_, _*_, _/_, _%_, _≤_, _<_}
+use Prim.Native.Nat.{ℕ, suc, _+_, _-_, _*_, _/_, _%_, _≤_, _<_}
 use mathlib.Core.Path.{_≡_, refl, sym, ap, _∙_}
-use mathlib.Core.Bool.{Bool, true, false}
-use mathlib.Core.List.{List, [], _∷_, _++_}
+use mathlib.Core.Bool.{true}
+use mathlib.Core.List.{List, _∷_, _++_}
 use mathlib.Core.Logic.{⊎-elim}
 use native.Mathlib.Omega.{arith}
 use lib.ListN.{length, getD, drop}
-use lib.Dec.{leb, ltb}
 use borrow.Author.Tests.{lt-ltb, le-ltb, le-leb}
-use Rattle.text.specs.Choice.{choose, and, within}
 use Rattle.text.specs.Scans.{sought, later}
-use Rattle.text.specs.Utf8.{scalar, leadOf, gathered, judged, sequenceBy, charOf, encoded, Tail, seqLook, lookBy}
-use Rattle.text.specs.declared.Value.{Value}
-use Rattle.text.specs.declared.Value.the-variants.{Number, Nothing}
-use Rattle.text.specs.declared.Lead.{Lead}
+use Rattle.text.specs.Utf8.{scalar, leadOf, gathered, judged, charOf, encoded, seqLook, lookBy}
+use Rattle.text.specs.declared.Value.the-variants.{Number}
 use Rattle.text.specs.declared.Lead.the-variants.{Row, Stray}
-use Rattle.text.specs.declared.Sequence.{Sequence}
-use Rattle.text.specs.declared.Sequence.the-variants.{Is, Broken}
+use Rattle.text.specs.declared.Sequence.the-variants.{Is}
 use Rattle.text.proofs.Tests.{within-yes, lt-or-ge, at-byte}
 use Rattle.text.proofs.Walks.{sought-past}
 use Rattle.text.proofs.Decodes.{Found, one, two, three, four, decoded, scalar-is, scalar-low, encoded-one, encoded-two, encoded-three, encoded-four}

@@ -1,16 +1,13 @@
 -- Laws of hex digits.
 use Prim.Native.Nat.{ℕ, zero, suc, _+_, _-_, _/_, _%_, _≤_, _<_}
-use mathlib.Core.Path.{_≡_, refl, sym, ap, _∙_}
-use mathlib.Core.Bool.{Bool, true, false}
-use mathlib.Core.List.{List, [], _∷_, _++_}
+use mathlib.Core.Path.{_≡_, refl, ap, _∙_}
+use mathlib.Core.List.{[], _∷_, _++_}
 use mathlib.Core.Logic.{⊎-elim}
 use native.Mathlib.Omega.{arith}
 use lib.ListN.{length, length-append}
 use borrow.Author.Tests.{lt-ltb, le-ltb}
-use Rattle.text.specs.Choice.{choose, within}
 use Rattle.text.specs.Digits.{hexOf, hexDigit, hexes}
-use Rattle.text.specs.declared.Value.{Value}
-use Rattle.text.specs.declared.Value.the-variants.{Number, Nothing}
+use Rattle.text.specs.declared.Value.the-variants.{Number}
 use Rattle.text.proofs.Tests.{lt-or-ge, within-yes, within-high}
 
 pub hexes-none : (k c : ℕ) → k ≡ 0 → hexes k c ≡ []

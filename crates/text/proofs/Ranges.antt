@@ -1,13 +1,13 @@
 -- The table of RFC 3629's section 3 and the byte ranges of its section 4 agree.
 use Prim.Native.Nat.{ℕ, _+_, _-_, _*_, _≤_, _<_}
-use mathlib.Core.Path.{_≡_, refl, sym}
-use mathlib.Core.Bool.{Bool, true, false}
+use mathlib.Core.Path.{_≡_, refl}
+use mathlib.Core.Bool.{true}
 use mathlib.Core.List.{List, [], _∷_, _++_}
 use mathlib.Core.Logic.{⊎-elim}
 use native.Mathlib.Omega.{arith}
 use lib.ListN.{length, take}
 use Rattle.text.specs.Utf8.{scalar, charOf, Tail, Utf8Char, utf8-1, utf8-2, utf8-3-e0, utf8-3-e1, utf8-3-ed, utf8-3-ee, utf8-4-f0, utf8-4-f1, utf8-4-f4}
-use Rattle.text.specs.declared.Sequence.the-variants.{Is, Broken}
+use Rattle.text.specs.declared.Sequence.the-variants.{Is}
 use Rattle.text.proofs.Tests.{lt-or-ge}
 use Rattle.text.proofs.Decodes.{Found, one, two, three, four, found, scalar-is, scalar-low, scalar-high}
 use Rattle.text.proofs.Encodes.{found-read, scalar-below}

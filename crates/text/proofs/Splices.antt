@@ -1,15 +1,15 @@
 -- Laws of stores in a row, and of the room that is left.
+use Prim.Native.Nat.{ℕ, suc, _+_, _-_, _≤_, _<_}
 use mathlib.Core.Path.{_≡_, refl, sym, ap, _∙_}
 use mathlib.Core.List.{List, [], _∷_, _++_}
-use Prim.Native.Nat.{ℕ, zero, suc, _+_, _-_, _≤_, _<_}
+use mathlib.Core.Logic.{⊎-elim}
 use native.Mathlib.Nat.{add-zero, add-suc, suc-add, zero-add}
 use native.Mathlib.Omega.{arith}
 use native.Mathlib.Numerals.{add-one}
-use lib.ListN.{length, take, drop, set, getD, length-append}
+use lib.ListN.{length, take, set, getD, length-append}
 use lib.Seq.{sets, sets-eq, length-sets, take-suc, length-take-le}
-use mathlib.Core.Logic.{⊎-elim}
-use Rattle.text.proofs.Tests.{lt-or-ge}
 use Rattle.text.specs.Splice.{Room, Wrote, spent, fronted}
+use Rattle.text.proofs.Tests.{lt-or-ge}
 
 -- a run of stores, and then another right after it
 pub sets-append : (o : List ℕ) (at : ℕ) (x y : List ℕ) → sets o at (x ++ y) ≡ sets (sets o at x) (at + length x) y

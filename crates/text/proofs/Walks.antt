@@ -3,10 +3,9 @@ use Prim.Native.Nat.{ℕ, zero, suc, _+_, _≤_, _<_}
 use mathlib.Core.Path.{_≡_, refl, sym, ap, _∙_}
 use mathlib.Core.List.{List, [], _∷_, _++_}
 use native.Mathlib.Nat.{add-assoc, zero-add}
-use native.Mathlib.Numerals.{add-one}
 use native.Mathlib.Omega.{arith}
 use lib.ListN.{length, getD, drop, length-append}
-use lib.Seq.{drop-drop, drop-nil, sets}
+use lib.Seq.{drop-drop, sets}
 use Rattle.text.specs.Scans.{Piece, spelled, later, sought}
 use Rattle.text.specs.Splice.{Room, Wrote, spent}
 use Rattle.text.specs.declared.Check.{Check}

@@ -1,6 +1,6 @@
 -- The classes of bytes by which a token's kind is chosen.
 use Prim.Native.Nat.{ℕ}
-use mathlib.Core.Bool.{Bool, true, false}
+use mathlib.Core.Bool.{Bool}
 use mathlib.Core.List.{List, [], _∷_}
 use lib.Dec.{eqb}
 use Rattle.text.specs.Choice.{choose, or, within, among}

@@ -1,18 +1,17 @@
 -- Decimal and hex digits: what a run of them is worth, and how a number is written.
 use Prim.Native.Nat.{ℕ, zero, suc, _+_, _-_, _*_, _/_, _%_}
-use mathlib.Core.Bool.{Bool, true, false}
 use mathlib.Core.List.{List, [], _∷_, _++_}
 use lib.Dec.{leb, ltb}
 use lib.ListN.{length}
+use Rattle.text.specs.declared.Decimal.the-variants as Decimal
+use Rattle.text.specs.declared.Put.the-variants as Put
 use Rattle.text.specs.Choice.{choose, within}
 use Rattle.text.specs.Classes.{digit}
 use Rattle.text.specs.Splice.{fronted}
 use Rattle.text.specs.declared.Value.{Value}
 use Rattle.text.specs.declared.Value.the-variants.{Number, Nothing}
 use Rattle.text.specs.declared.Decimal.{Decimal}
-use Rattle.text.specs.declared.Decimal.the-variants as Decimal
 use Rattle.text.specs.declared.Put.{Put}
-use Rattle.text.specs.declared.Put.the-variants as Put
 
 -- the digits that are left, after some that are worth v
 unfoldable pub decimalFrom : ℕ → ℕ → List ℕ → Decimal

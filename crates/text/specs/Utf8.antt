@@ -1,10 +1,10 @@
 -- UTF-8 as RFC 3629 has it: the table of its section 3, and the byte ranges of its section 4.
 use Prim.Native.Nat.{ℕ, zero, suc, _+_, _-_, _*_, _/_, _%_, _≤_}
-use mathlib.Core.Bool.{Bool, true, false}
+use mathlib.Core.Bool.{Bool, true}
 use mathlib.Core.List.{List, [], _∷_}
 use lib.Dec.{leb, ltb}
 use lib.ListN.{length}
-use Rattle.text.specs.Choice.{choose, and, within}
+use Rattle.text.specs.Choice.{choose, within}
 use Rattle.text.specs.Scans.{sought}
 use Rattle.text.specs.Splice.{fronted}
 use Rattle.text.specs.declared.Value.{Value}

@@ -1,71 +1,53 @@
 use Prim.Native.Nat.{_<_}
-use Rattle.text.proofs.Encodes.{lead-small}
-use Rattle.text.proofs.Tests.{at-end, at-byte}
-use Rattle.text.specs.Utf8.{charOf}
-use mathlib.Core.Path.{refl, sym, ap, _∙_}
+use mathlib.Core.Path.{sym, _∙_}
 use native.Mathlib.Omega.{arith}
 use borrow.Author.Needs.{needs}
-use Rattle.text.proofs.char_at.Statement.{statement}
+use Rattle.text.specs.Utf8.{charOf}
+use Rattle.text.proofs.Encodes.{lead-small}
+use Rattle.text.proofs.Tests.{at-end, at-byte}
 use Rattle.text.proofs.char_at.Tie as tie
-use Rattle.text.proofs.char_at.Reads as reads
-use Rattle.text.proofs.char_at.Lts as lts
-use Rattle.text.proofs.inner.utf8.gather.Reads as gather-reads
-use Rattle.text.proofs.inner.utf8.judge.Reads as judge-reads
-use Rattle.text.proofs.inner.utf8.lead_of.Reads as lead-of-reads
-use Rattle.text.proofs.inner.utf8.wide.Reads as wide-reads
+use Rattle.text.proofs.char_at.Statement.{statement}
 
--- src/lib.rt:77:9
 returns : tie.Need-returns
 unfolding charOf
 returns c = rw (at-end _ _ (c .if1 .taken))
 
--- src/lib.rt:79:55
 shared-slice-read-wide : tie.Need-shared-slice-read-wide
 shared-slice-read-wide c = search needs
 
--- src/lib.rt:79:37
 wide-requires : tie.Need-wide-requires
 wide-requires c κs = search needs
 
--- src/lib.rt:79:9
 lead-of-requires : tie.Need-lead-of-requires
 lead-of-requires c κs = search needs
 
--- src/lib.rt:81:19
 enum-known-lead : tie.Need-enum-known-lead
 enum-known-lead c = search needs
 
--- src/lib.rt:83:13
 add-judge : tie.Need-add-judge
 add-judge c =
     let b : c .before .before .before .before .wide .result < 256 = omega (arith, c .before .before .before .before .wide .ensures, c .before .before .before .before .before .shared-slice-known2 .given (c .before .before .before .before .before .before .before .before .args .at)) in
     omega (arith, lead-small _ _ _ _ b (sym (c .before .before .before .lead-of .ensures) ∙ c .before .lead .given .1) .few)
 
--- src/lib.rt:84:36
 add-gather : tie.Need-add-gather
 add-gather c = search needs
 
--- src/lib.rt:84:13
 gather-requires : tie.Need-gather-requires
 gather-requires c κs =
     let b : c .before .before .before .before .wide .result < 256 = omega (arith, c .before .before .before .before .wide .ensures, c .before .before .before .before .before .shared-slice-known2 .given (c .before .before .before .before .before .before .before .before .args .at)) in
     let l = lead-small _ _ _ _ b (sym (c .before .before .before .lead-of .ensures) ∙ c .before .lead .given .1) in
     (l .few, (l .low, omega (arith, c .before .before .before .before .before .before .if1 .left)))
 
--- src/lib.rt:81:39
 judge-requires : tie.Need-judge-requires
 judge-requires c κs = search needs
 
--- src/lib.rt:86:24
 enum-told : tie.Need-enum-told
 enum-told c = search needs
 
--- src/lib.rt:73:1
 returns-2 : tie.Need-returns-2
 unfolding charOf
 returns-2 c = rw (at-byte _ _ (c .before .before .before .before .before .before .before .before .if1 .left), ← c .before .before .before .before .before .before .wide .ensures, ← c .before .before .before .before .before .lead-of .ensures, c .before .before .before .lead .given .1) (c .judge .ensures ∙ rw (c .before .gather .ensures))
 
--- src/lib.rt:73:1
 returns-3 : tie.Need-returns-3
 unfolding charOf
 returns-3 c = rw (at-byte _ _ (c .before .before .before .before .before .if1 .left), ← c .before .before .before .wide .ensures, ← c .before .before .lead-of .ensures, c .enum-told .given .1)

@@ -1,22 +1,15 @@
-use Rattle.text.proofs.Decimals.{of-none, of-from}
-use native.Mathlib.Omega.{arith}
 use mathlib.Core.Path.{sym, _∙_}
 use borrow.Author.Needs.{needs}
-use Rattle.text.proofs.decimal_of.Statement.{statement}
+use Rattle.text.proofs.Decimals.{of-none, of-from}
 use Rattle.text.proofs.decimal_of.Tie as tie
-use Rattle.text.proofs.decimal_of.Reads as reads
-use Rattle.text.proofs.decimal_of.Lts as lts
-use Rattle.text.proofs.inner.digits.decimal_from.Reads as decimal-from-reads
+use Rattle.text.proofs.decimal_of.Statement.{statement}
 
--- src/lib.rt:148:9
 returns : tie.Need-returns
 returns c = sym (of-none _ _ (c .if1 .taken))
 
--- src/lib.rt:150:5
 decimal-from-requires : tie.Need-decimal-from-requires
 decimal-from-requires c κs = search needs
 
--- src/lib.rt:144:1
 returns-2 : tie.Need-returns-2
 returns-2 c = c .decimal-from .ensures ∙ sym (of-from _ _ (c .before .if1 .left))
 

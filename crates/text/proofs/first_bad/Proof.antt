@@ -1,18 +1,15 @@
 use Prim.Native.Nat.{_-_}
-use lib.ListN.{length, drop}
-use mathlib.Core.Path.{_≡_, refl, sym, ap, _∙_}
+use mathlib.Core.Path.{_≡_, sym, ap, _∙_}
 use native.Mathlib.Omega.{arith}
+use lib.ListN.{length, drop}
 use borrow.Author.Needs.{needs}
 use Rattle.text.specs.Scans.{sought, later}
 use Rattle.text.specs.Utf8.{seqLook, lookBy, firstBad}
 use Rattle.text.proofs.Walks.{later-zero, sought-stop, sought-end}
 use Rattle.text.proofs.Decodes.{decoded}
 use Rattle.text.proofs.Encodes.{look-ascii, look-step}
-use Rattle.text.proofs.first_bad.Statement.{statement}
 use Rattle.text.proofs.first_bad.Tie as tie
-use Rattle.text.proofs.first_bad.Reads as reads
-use Rattle.text.proofs.first_bad.Lts as lts
-use Rattle.text.proofs.char_at.Reads as char-at-reads
+use Rattle.text.proofs.first_bad.Statement.{statement}
 
 abbrev Inv-loop : tie.InvT-loop
 Inv-loop s i₀ i = later i (sought seqLook 0 (drop i s)) ≡ firstBad s
@@ -20,60 +17,47 @@ Inv-loop s i₀ i = later i (sought seqLook 0 (drop i s)) ≡ firstBad s
 abbrev μ-loop : tie.MeasureT-loop
 μ-loop s i₀ i = length s - i
 
--- src/lib.rt:95:5
 loop-holds : tie.Need-loop-holds Inv-loop μ-loop
 unfolding firstBad
 loop-holds c = later-zero _
 
--- src/lib.rt:96:12
 shared-slice-read-if1 : tie.Need-shared-slice-read-if1 Inv-loop μ-loop
 shared-slice-read-if1 c = omega arith
 
--- src/lib.rt:97:13
 add-i : tie.Need-add-i Inv-loop μ-loop
 add-i c = omega arith
 
--- src/lib.rt:95:5
 loop-less : tie.Need-loop-less Inv-loop μ-loop
 loop-less c = omega arith
 
--- src/lib.rt:95:5
 loop-again : tie.Need-loop-again Inv-loop μ-loop
 loop-again c = sym (look-ascii _ _ (c .before .before .loop-test .taken) (c .if1 .taken)) ∙ c .before .before .before .loop .inv
 
--- src/lib.rt:99:17
 char-at-requires : tie.Need-char-at-requires Inv-loop μ-loop
 char-at-requires c κs = search needs
 
--- src/lib.rt:101:33
 enum-known-sequence : tie.Need-enum-known-sequence Inv-loop μ-loop
 enum-known-sequence c = search needs
 
--- src/lib.rt:102:21
 add-i-2 : tie.Need-add-i-2 Inv-loop μ-loop
 add-i-2 c =
     let d = decoded _ _ _ (sym (c .before .before .before .char-at .ensures) ∙ c .before .sequence .given .1) in
     omega (arith, d .few)
 
--- src/lib.rt:95:5
 loop-less-2 : tie.Need-loop-less-2 Inv-loop μ-loop
 loop-less-2 c =
     let d = decoded _ _ _ (sym (c .before .before .before .char-at .ensures) ∙ c .before .sequence .given .1) in
     omega (arith, d .some)
 
--- src/lib.rt:95:5
 loop-again-2 : tie.Need-loop-again-2 Inv-loop μ-loop
 loop-again-2 c = sym (look-step _ _ _ _ (c .before .before .before .before .before .before .loop-test .taken) (sym (c .before .before .before .char-at .ensures) ∙ c .before .sequence .given .1)) ∙ c .before .before .before .before .before .before .before .loop .inv
 
--- src/lib.rt:105:21
 enum-told : tie.Need-enum-told Inv-loop μ-loop
 enum-told c = search needs
 
--- src/lib.rt:105:21
 returns : tie.Need-returns Inv-loop μ-loop
 returns c = sym (sought-stop seqLook _ _ (c .before .before .before .before .before .loop-test .taken) (ap lookBy (sym (c .before .before .char-at .ensures) ∙ c .enum-told .given .1))) ∙ c .before .before .before .before .before .before .loop .inv
 
--- src/lib.rt:91:1
 returns-2 : tie.Need-returns-2 Inv-loop μ-loop
 returns-2 c = sym (sought-end seqLook _ _ (c .loop-test .left)) ∙ c .before .loop .inv
 

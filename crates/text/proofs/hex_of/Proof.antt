@@ -1,19 +1,14 @@
-use Rattle.text.proofs.Tests.{within-low, within-high, within-yes}
 use Prim.Native.Nat.{ℕ, _<_}
 use native.Mathlib.Omega.{arith}
-use Rattle.text.specs.Digits.{hexOf}
 use borrow.Author.Needs.{needs}
-use Rattle.text.proofs.hex_of.Statement.{statement}
+use Rattle.text.specs.Digits.{hexOf}
+use Rattle.text.proofs.Tests.{within-low, within-high, within-yes}
 use Rattle.text.proofs.hex_of.Tie as tie
-use Rattle.text.proofs.hex_of.Reads as reads
-use Rattle.text.proofs.hex_of.Lts as lts
-use Rattle.text.proofs.inner.utf8.wide.Reads as wide-reads
+use Rattle.text.proofs.hex_of.Statement.{statement}
 
--- src/lib.rt:164:9
 wide-requires : tie.Need-wide-requires
 wide-requires c κs = search needs
 
--- src/lib.rt:166:9
 returns : tie.Need-returns
 unfolding hexOf
 returns c =
@@ -23,12 +18,10 @@ returns c =
     let k : x < 97 = omega arith in
     rw (← c .before .wide .ensures, within-low 48 57 x h, within-low 65 70 x j, within-low 97 102 x k)
 
--- src/lib.rt:169:9
 returns-2 : tie.Need-returns-2
 unfolding hexOf
 returns-2 c = rw (← c .before .before .wide .ensures, within-yes 48 57 _ (c .before .if1 .left) (c .if2 .taken))
 
--- src/lib.rt:172:9
 returns-3 : tie.Need-returns-3
 unfolding hexOf
 returns-3 c =
@@ -36,30 +29,24 @@ returns-3 c =
     let k : x < 97 = omega (arith, c .if3 .taken) in
     rw (← c .before .before .before .wide .ensures, within-high 48 57 x (c .before .if2 .left), within-low 65 70 x (c .if3 .taken), within-low 97 102 x k)
 
--- src/lib.rt:175:30
 sub-t5 : tie.Need-sub-t5
 sub-t5 c = search needs
 
--- src/lib.rt:175:9
 returns-4 : tie.Need-returns-4
 unfolding hexOf
 returns-4 c = rw (← c .before .before .before .before .wide .ensures, within-high 48 57 _ (c .before .before .if2 .left), within-yes 65 70 _ (c .before .if3 .left) (c .if4 .taken))
 
--- src/lib.rt:178:9
 returns-5 : tie.Need-returns-5
 unfolding hexOf
 returns-5 c = rw (← c .before .before .before .before .before .wide .ensures, within-high 48 57 _ (c .before .before .before .if2 .left), within-high 65 70 _ (c .before .if4 .left), within-low 97 102 _ (c .if5 .taken))
 
--- src/lib.rt:181:30
 sub-t6 : tie.Need-sub-t6
 sub-t6 c = search needs
 
--- src/lib.rt:181:9
 returns-6 : tie.Need-returns-6
 unfolding hexOf
 returns-6 c = rw (← c .before .before .before .before .before .before .wide .ensures, within-high 48 57 _ (c .before .before .before .before .if2 .left), within-high 65 70 _ (c .before .before .if4 .left), within-yes 97 102 _ (c .before .if5 .left) (c .if6 .taken))
 
--- src/lib.rt:161:1
 returns-7 : tie.Need-returns-7
 unfolding hexOf
 returns-7 c = rw (← c .before .before .before .before .before .before .wide .ensures, within-high 48 57 _ (c .before .before .before .before .if2 .left), within-high 65 70 _ (c .before .before .if4 .left), within-high 97 102 _ (c .if6 .left))

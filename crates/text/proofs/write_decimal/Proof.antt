@@ -1,40 +1,30 @@
-use Rattle.text.proofs.Splices.{spent-over, spent-fits, wrote-front}
-use Rattle.text.specs.Digits.{decimalPut, decimalIn}
 use mathlib.Core.Path.{refl, sym, _∙_}
 use native.Mathlib.Omega.{arith}
 use borrow.Author.Tests.{le-leb, lt-leb}
 use borrow.Author.Needs.{needs}
-use Rattle.text.proofs.write_decimal.Statement.{statement}
+use Rattle.text.specs.Digits.{decimalPut, decimalIn}
+use Rattle.text.proofs.Splices.{spent-over, spent-fits, wrote-front}
 use Rattle.text.proofs.write_decimal.Tie as tie
-use Rattle.text.proofs.write_decimal.Reads as reads
-use Rattle.text.proofs.write_decimal.Lts as lts
-use Rattle.text.proofs.inner.digits.put_decimal.Reads as put-decimal-reads
-use Rattle.text.proofs.inner.digits.spend_decimal.Reads as spend-decimal-reads
+use Rattle.text.proofs.write_decimal.Statement.{statement}
 
--- src/lib.rt:158:37
 add-spend-decimal : tie.Need-add-spend-decimal
 add-spend-decimal c = search needs
 
--- src/lib.rt:158:8
 spend-decimal-requires : tie.Need-spend-decimal-requires
 spend-decimal-requires c κs = search needs
 
--- src/lib.rt:159:9
 returns : tie.Need-returns
 unfolding decimalPut decimalIn
 returns c = (rw (lt-leb _ _ (spent-over _ _ (sym (c .before .spend-decimal .ensures) ∙ c .if1 .taken))), refl)
 
--- src/lib.rt:161:16
 put-decimal-requires : tie.Need-put-decimal-requires
 put-decimal-requires c κs =
     let f = spent-fits _ _ (λ z. c .before .if1 .left (c .before .before .spend-decimal .ensures ∙ z)) in
     record { fits = omega (arith, f) }
 
--- src/lib.rt:154:1
 same-length : tie.Need-same-length
 same-length c = search needs
 
--- src/lib.rt:154:1
 returns-2 : tie.Need-returns-2
 unfolding decimalPut decimalIn
 returns-2 c =

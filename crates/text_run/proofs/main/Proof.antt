@@ -1,17 +1,10 @@
-use lib.Seq.{length-take-le}
-use lib.ListN.{length, take}
-use mathlib.Core.Path.{_≡_}
 use Prim.Native.Nat.{_≤_, _-_}
-use borrow.Author.Needs.{needs}
+use mathlib.Core.Path.{_≡_}
 use native.Mathlib.Omega.{arith}
-use Rattle.text_run.proofs.main.Statement.{statement}
+use lib.ListN.{length, take}
+use borrow.Author.Needs.{needs}
 use Rattle.text_run.proofs.main.Tie as tie
-use Rattle.text_run.proofs.main.Reads as reads
-use Rattle.text_run.proofs.main.Lts as lts
-use Rattle.io.proofs.large_buffer.Reads as large-buffer-reads
-use Rattle.io.proofs.read_full.Reads as read-full-reads
-use Rattle.text_run.proofs.run_line.Reads as run-line-reads
-use Rattle.vectors.proofs.line_end.Reads as line-end-reads
+use Rattle.text_run.proofs.main.Statement.{statement}
 
 abbrev Inv-loop : tie.InvT-loop
 Inv-loop input n at₀ at = (n ≤ length input) × (n ≡ length (take n input)) × (length input ≡ 65536)
@@ -19,63 +12,48 @@ Inv-loop input n at₀ at = (n ≤ length input) × (n ≡ length (take n input)
 abbrev μ-loop : tie.MeasureT-loop
 μ-loop input n at₀ at = n - at
 
--- src/main.rt:154:21
 large-buffer-requires : tie.Need-large-buffer-requires Inv-loop μ-loop
 large-buffer-requires c κs = search needs
 
--- src/main.rt:155:30
 slice-aggregate-read-full : tie.Need-slice-aggregate-read-full Inv-loop μ-loop
 slice-aggregate-read-full c = search needs
 
--- src/main.rt:155:9
 read-full-requires : tie.Need-read-full-requires Inv-loop μ-loop
 read-full-requires c κs = search needs
 
--- src/main.rt:157:5
 loop-holds : tie.Need-loop-holds Inv-loop μ-loop
 loop-holds c = search needs
 
--- src/main.rt:158:37
 array-share-prefix-input : tie.Need-array-share-prefix-input Inv-loop μ-loop
 array-share-prefix-input c = search needs
 
--- src/main.rt:158:37
 slice-aggregate-line-end : tie.Need-slice-aggregate-line-end Inv-loop μ-loop
 slice-aggregate-line-end c = search needs
 
--- src/main.rt:158:13
 line-end-requires : tie.Need-line-end-requires Inv-loop μ-loop
 line-end-requires c κs = search needs
 
--- src/main.rt:159:18
 sub-run-line : tie.Need-sub-run-line Inv-loop μ-loop
 sub-run-line c = c .line-end .ensures .1 (omega arith)
 
--- src/main.rt:159:18
 part-run-line-start : tie.Need-part-run-line-start Inv-loop μ-loop
 part-run-line-start c = c .before .line-end .ensures .1 (omega arith)
 
--- src/main.rt:159:18
 part-run-line-end : tie.Need-part-run-line-end Inv-loop μ-loop
 part-run-line-end c = omega arith
 
--- src/main.rt:159:9
 run-line-requires : tie.Need-run-line-requires Inv-loop μ-loop
 run-line-requires c κs = search needs
 
--- src/main.rt:160:14
 add-at : tie.Need-add-at Inv-loop μ-loop
 add-at c = omega arith
 
--- src/main.rt:157:5
 loop-less : tie.Need-loop-less Inv-loop μ-loop
 loop-less c = omega (arith, c .before .before .before .line-end .ensures .1 (omega arith))
 
--- src/main.rt:157:5
 loop-again : tie.Need-loop-again Inv-loop μ-loop
 loop-again c = search needs
 
--- src/main.rt:153:1
 returns : tie.Need-returns Inv-loop μ-loop
 returns c = search needs
 

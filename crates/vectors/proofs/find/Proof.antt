@@ -1,10 +1,8 @@
-use lib.ListN.{length}
 use Prim.Native.Nat.{_≤_, _-_}
 use native.Mathlib.Omega.{arith}
-use Rattle.vectors.proofs.find.Statement.{statement}
+use lib.ListN.{length}
 use Rattle.vectors.proofs.find.Tie as tie
-use Rattle.vectors.proofs.find.Reads as reads
-use Rattle.vectors.proofs.find.Lts as lts
+use Rattle.vectors.proofs.find.Statement.{statement}
 
 abbrev Inv-loop : tie.InvT-loop
 Inv-loop s at b wanted i₀ i = (at ≤ i) × (i ≤ length s)
@@ -12,35 +10,27 @@ Inv-loop s at b wanted i₀ i = (at ≤ i) × (i ≤ length s)
 abbrev μ-loop : tie.MeasureT-loop
 μ-loop s at b wanted i₀ i = length s - i
 
--- src/lib.rt:18:9
 returns : tie.Need-returns Inv-loop μ-loop
 returns c = (omega arith, λ h. omega arith)
 
--- src/lib.rt:21:5
 loop-holds : tie.Need-loop-holds Inv-loop μ-loop
 loop-holds c = omega arith
 
--- src/lib.rt:22:19
 shared-slice-read-met : tie.Need-shared-slice-read-met Inv-loop μ-loop
 shared-slice-read-met c = omega arith
 
--- src/lib.rt:24:13
 returns-2 : tie.Need-returns-2 Inv-loop μ-loop
 returns-2 c = (omega arith, λ h. omega arith)
 
--- src/lib.rt:26:9
 add-i : tie.Need-add-i Inv-loop μ-loop
 add-i c = omega arith
 
--- src/lib.rt:21:5
 loop-less : tie.Need-loop-less Inv-loop μ-loop
 loop-less c = omega arith
 
--- src/lib.rt:21:5
 loop-again : tie.Need-loop-again Inv-loop μ-loop
 loop-again c = omega arith
 
--- src/lib.rt:14:1
 returns-3 : tie.Need-returns-3 Inv-loop μ-loop
 returns-3 c = (omega arith, λ h. omega arith)
 

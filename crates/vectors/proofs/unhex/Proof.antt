@@ -1,14 +1,11 @@
+use Prim.Native.Nat.{_≤_, _-_}
+use mathlib.Core.Path.{_≡_, refl, sym}
+use native.Mathlib.Omega.{arith}
 use lib.Seq.{length-take-le}
 use lib.ListN.{length, length-set}
-use mathlib.Core.Path.{_≡_, refl, sym, _∙_}
-use Prim.Native.Nat.{ℕ, _≤_, _-_}
 use borrow.Author.Needs.{needs}
-use native.Mathlib.Omega.{arith}
-use Rattle.vectors.proofs.unhex.Statement.{statement}
 use Rattle.vectors.proofs.unhex.Tie as tie
-use Rattle.vectors.proofs.unhex.Reads as reads
-use Rattle.vectors.proofs.unhex.Lts as lts
-use Rattle.vectors.proofs.hex_value.Reads as hex-value-reads
+use Rattle.vectors.proofs.unhex.Statement.{statement}
 
 abbrev Inv-loop : tie.InvT-loop
 Inv-loop s out₀ k₀ i₀ out k i = (k ≤ length out) × (length out ≡ length out₀)
@@ -16,79 +13,60 @@ Inv-loop s out₀ k₀ i₀ out k i = (k ≤ length out) × (length out ≡ leng
 abbrev μ-loop : tie.MeasureT-loop
 μ-loop s out₀ k₀ i₀ out k i = length s - i
 
--- src/lib.rt:93:5
 loop-holds : tie.Need-loop-holds Inv-loop μ-loop
 loop-holds c = (omega arith, refl)
 
--- src/lib.rt:94:17
 add-j : tie.Need-add-j Inv-loop μ-loop
 add-j c = omega arith
 
--- src/lib.rt:96:13
 same-length : tie.Need-same-length Inv-loop μ-loop
 same-length c = c .before .before .loop .inv .1
 
--- src/lib.rt:96:13
 returns : tie.Need-returns Inv-loop μ-loop
 returns c = (c .before .before .loop .inv .0, sym (length-take-le _ _ (c .before .before .loop .inv .0)))
 
--- src/lib.rt:99:13
 same-length-2 : tie.Need-same-length-2 Inv-loop μ-loop
 same-length-2 c = c .before .before .before .loop .inv .1
 
--- src/lib.rt:99:13
 returns-2 : tie.Need-returns-2 Inv-loop μ-loop
 returns-2 c = (c .before .before .before .loop .inv .0, sym (length-take-le _ _ (c .before .before .before .loop .inv .0)))
 
--- src/lib.rt:101:28
 shared-slice-read-hex-value : tie.Need-shared-slice-read-hex-value Inv-loop μ-loop
 shared-slice-read-hex-value c = omega arith
 
--- src/lib.rt:101:18
 hex-value-requires : tie.Need-hex-value-requires Inv-loop μ-loop
 hex-value-requires c κs = search needs
 
--- src/lib.rt:101:18
 mul-out : tie.Need-mul-out Inv-loop μ-loop
 mul-out c = omega arith
 
--- src/lib.rt:101:51
 shared-slice-read-hex-value-2 : tie.Need-shared-slice-read-hex-value-2 Inv-loop μ-loop
 shared-slice-read-hex-value-2 c = omega arith
 
--- src/lib.rt:101:41
 hex-value-requires-2 : tie.Need-hex-value-requires-2 Inv-loop μ-loop
 hex-value-requires-2 c κs = search needs
 
--- src/lib.rt:101:18
 add-out : tie.Need-add-out Inv-loop μ-loop
 add-out c = omega arith
 
--- src/lib.rt:101:9
 slice-write-out : tie.Need-slice-write-out Inv-loop μ-loop
 slice-write-out c = omega arith
 
--- src/lib.rt:102:9
 add-k : tie.Need-add-k Inv-loop μ-loop
 add-k c = omega arith
 
--- src/lib.rt:103:13
 add-i : tie.Need-add-i Inv-loop μ-loop
 add-i c = omega arith
 
--- src/lib.rt:93:5
 loop-less : tie.Need-loop-less Inv-loop μ-loop
 loop-less c = omega arith
 
--- src/lib.rt:93:5
 loop-again : tie.Need-loop-again Inv-loop μ-loop
 loop-again c = simp length-set (omega arith)
 
--- src/lib.rt:88:1
 same-length-3 : tie.Need-same-length-3 Inv-loop μ-loop
 same-length-3 c = c .before .loop .inv .1
 
--- src/lib.rt:88:1
 returns-3 : tie.Need-returns-3 Inv-loop μ-loop
 returns-3 c = (c .before .loop .inv .0, sym (length-take-le _ _ (c .before .loop .inv .0)))
 

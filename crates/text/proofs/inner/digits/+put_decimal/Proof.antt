@@ -1,14 +1,13 @@
-use Rattle.text.proofs.Decimals.{decimal-one, decimal-more}
-use Rattle.text.proofs.Splices.{wrote-then, wrote-length, room-front, room-next}
-use Rattle.text.specs.Digits.{decimal}
-use Prim.Native.Nat.{_+_, _/_, _%_}
+use Prim.Native.Nat.{_+_, _/_, _%_, ℕ, _<_}
 use mathlib.Core.List.{[], _∷_}
 use mathlib.Core.Path.{_∙_}
 use native.Mathlib.Omega.{arith}
 use borrow.Author.Needs.{needs}
-use Prim.Native.Nat.{ℕ, _<_}
 use borrow.Fn.Kinds.{In, Out}
 use borrow.Fn.PlainCycle.{Measures, is, falls, and}
+use Rattle.text.specs.Digits.{decimal}
+use Rattle.text.proofs.Decimals.{decimal-one, decimal-more}
+use Rattle.text.proofs.Splices.{wrote-then, wrote-length, room-front, room-next}
 use Rattle.text.proofs.inner.digits.put_decimal.Reads as put-decimal
 use Rattle.text.proofs.inner.digits.put_decimal.Kinds as put-decimal-kinds
 use Rattle.text.proofs.inner.digits.+put_decimal.Lts-put_decimal as put-decimal-lts
@@ -31,51 +30,40 @@ put-decimal-below t =
 abbrev of-put-decimal : ((k : put-decimal-lts.Claims) (p : In 1 put-decimal-kinds.ps) (q : Out 1 put-decimal-kinds.ps put-decimal-kinds.r) → Type 0) → ℕ → Type 0
 of-put-decimal N t = N (put-byte-reads.Asked, put-byte-reads.Learnt, put-decimal-below t, put-decimal.Post) (put-decimal-at t) put-decimal.Post
 
--- src/inner/digits.rt:60:45
 put-decimal-cast-put-byte : (t : ℕ) → of-put-decimal put-decimal-lts.Need-cast-put-byte t
 put-decimal-cast-put-byte t c = omega arith
 
--- src/inner/digits.rt:60:40
 put-decimal-add-put-byte : (t : ℕ) → of-put-decimal put-decimal-lts.Need-add-put-byte t
 put-decimal-add-put-byte t c = omega arith
 
--- src/inner/digits.rt:60:9
 put-decimal-put-byte-requires : (t : ℕ) → of-put-decimal put-decimal-lts.Need-put-byte-requires t
 put-decimal-put-byte-requires t c κs = rw (decimal-one (c .before .before .before .args .n) (c .before .if1 .taken)) at (c .before .before .before .pre .1)
 
--- src/inner/digits.rt:60:9
 put-decimal-same-length : (t : ℕ) → of-put-decimal put-decimal-lts.Need-same-length t
 put-decimal-same-length t c = search needs
 
--- src/inner/digits.rt:60:9
 put-decimal-returns : (t : ℕ) → of-put-decimal put-decimal-lts.Need-returns t
 put-decimal-returns t c = rw (decimal-one (c .before .before .before .before .before .before .args .n) (c .before .before .before .before .if1 .taken)) (c .before .before .put-byte .ensures)
 
--- src/inner/digits.rt:62:9
 put-decimal-put-decimal-requires : (t : ℕ) → of-put-decimal put-decimal-lts.Need-put-decimal-requires t
 put-decimal-put-decimal-requires t c κs =
     let n = c .before .before .before .args .n in
     (omega arith, room-front (decimal (n / 10)) ((48 + n % 10) ∷ []) (rw (decimal-more n (c .before .if1 .left)) at (c .before .before .before .pre .1)))
 
--- src/inner/digits.rt:63:34
 put-decimal-cast-put-byte-2 : (t : ℕ) → of-put-decimal put-decimal-lts.Need-cast-put-byte-2 t
 put-decimal-cast-put-byte-2 t c = omega arith
 
--- src/inner/digits.rt:63:29
 put-decimal-add-put-byte-2 : (t : ℕ) → of-put-decimal put-decimal-lts.Need-add-put-byte-2 t
 put-decimal-add-put-byte-2 t c = omega arith
 
--- src/inner/digits.rt:63:5
 put-decimal-put-byte-requires-2 : (t : ℕ) → of-put-decimal put-decimal-lts.Need-put-byte-requires-2 t
 put-decimal-put-byte-requires-2 t c κs =
     let n = c .before .before .before .before .before .before .before .args .n in
     room-next ((48 + n % 10) ∷ []) (c .before .before .before .put-decimal .ensures) (rw (decimal-more n (c .before .before .before .before .before .if1 .left)) at (c .before .before .before .before .before .before .before .pre .1))
 
--- src/inner/digits.rt:55:1
 put-decimal-same-length-2 : (t : ℕ) → of-put-decimal put-decimal-lts.Need-same-length-2 t
 put-decimal-same-length-2 t c = wrote-length (c .before .before .put-byte2 .ensures) ∙ wrote-length (c .before .before .before .before .before .before .put-decimal .ensures)
 
--- src/inner/digits.rt:55:1
 put-decimal-returns-2 : (t : ℕ) → of-put-decimal put-decimal-lts.Need-returns-2 t
 put-decimal-returns-2 t c = rw (decimal-more (c .before .before .before .before .before .before .before .before .before .before .args .n) (c .before .before .before .before .before .before .before .before .if1 .left)) (wrote-then (c .before .before .before .before .before .before .put-decimal .ensures) (c .before .before .put-byte2 .ensures))
 

@@ -1,14 +1,12 @@
-use Rattle.text.proofs.Hexes.{hexes-none, hexes-more}
-use Rattle.text.proofs.Splices.{wrote-none, wrote-then, wrote-length, room-front, room-next}
-use Rattle.text.specs.Digits.{hexes, hexDigit}
-use Prim.Native.Nat.{_-_, _/_, _%_}
+use Prim.Native.Nat.{_-_, _/_, _%_, ℕ, _<_}
 use mathlib.Core.List.{[], _∷_}
 use mathlib.Core.Path.{_∙_}
 use native.Mathlib.Omega.{arith}
-use borrow.Author.Needs.{needs}
-use Prim.Native.Nat.{ℕ, _<_}
 use borrow.Fn.Kinds.{In, Out}
 use borrow.Fn.PlainCycle.{Measures, is, falls, and}
+use Rattle.text.specs.Digits.{hexes, hexDigit}
+use Rattle.text.proofs.Hexes.{hexes-none, hexes-more}
+use Rattle.text.proofs.Splices.{wrote-none, wrote-then, wrote-length, room-front, room-next}
 use Rattle.text.proofs.inner.digits.put_hex.Reads as put-hex
 use Rattle.text.proofs.inner.digits.put_hex.Kinds as put-hex-kinds
 use Rattle.text.proofs.inner.digits.+put_hex.Lts-put_hex as put-hex-lts
@@ -30,37 +28,30 @@ put-hex-below t = and 2 put-hex-kinds.ps (falls 2 put-hex-kinds.ps _<_ μ-put-he
 abbrev of-put-hex : ((k : put-hex-lts.Claims) (p : In 2 put-hex-kinds.ps) (q : Out 2 put-hex-kinds.ps put-hex-kinds.r) → Type 0) → ℕ → Type 0
 of-put-hex N t = N (put-hex-below t, put-hex.Post, hex-digit-reads.Asked, hex-digit-reads.Learnt, put-byte-reads.Asked, put-byte-reads.Learnt) (put-hex-at t) put-hex.Post
 
--- src/inner/digits.rt:90:9
 put-hex-returns : (t : ℕ) → of-put-hex put-hex-lts.Need-returns t
 put-hex-returns t c = rw (hexes-none _ _ (c .if1 .taken)) (wrote-none _ _)
 
--- src/inner/digits.rt:92:27
 put-hex-sub-put-hex : (t : ℕ) → of-put-hex put-hex-lts.Need-sub-put-hex t
 put-hex-sub-put-hex t c = omega arith
 
--- src/inner/digits.rt:92:9
 put-hex-put-hex-requires : (t : ℕ) → of-put-hex put-hex-lts.Need-put-hex-requires t
 put-hex-put-hex-requires t c κs =
     let a = c .before .before .before .args in
     let r = rw (hexes-more (a .k) (a .c) (c .before .if1 .left)) at (c .before .before .before .pre .1 .1) in
     (omega arith, (c .before .before .before .pre .1 .0, room-front (hexes (a .k - 1) (a .c / 16)) (hexDigit (a .c % 16) ∷ []) r))
 
--- src/inner/digits.rt:93:29
 put-hex-hex-digit-requires : (t : ℕ) → of-put-hex put-hex-lts.Need-hex-digit-requires t
 put-hex-hex-digit-requires t c κs = (c .before .before .before .before .before .before .pre .1 .0, omega arith)
 
--- src/inner/digits.rt:93:5
 put-hex-put-byte-requires : (t : ℕ) → of-put-hex put-hex-lts.Need-put-byte-requires t
 put-hex-put-byte-requires t c κs =
     let a = c .before .before .before .before .before .before .before .before .args in
     let r = rw (hexes-more (a .k) (a .c) (c .before .before .before .before .before .before .if1 .left)) at (c .before .before .before .before .before .before .before .before .pre .1 .1) in
     rw (c .before .hex-digit .ensures) (room-next (hexDigit (a .c % 16) ∷ []) (c .before .before .before .before .put-hex .ensures) r)
 
--- src/inner/digits.rt:84:1
 put-hex-same-length : (t : ℕ) → of-put-hex put-hex-lts.Need-same-length t
 put-hex-same-length t c = wrote-length (c .before .before .put-byte .ensures) ∙ wrote-length (c .before .before .before .before .before .before .before .put-hex .ensures)
 
--- src/inner/digits.rt:84:1
 put-hex-returns-2 : (t : ℕ) → of-put-hex put-hex-lts.Need-returns-2 t
 put-hex-returns-2 t c =
     let a = c .before .before .before .before .before .before .before .before .before .before .before .args in

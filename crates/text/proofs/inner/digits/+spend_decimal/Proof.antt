@@ -1,17 +1,14 @@
+use Prim.Native.Nat.{_+_, _%_, _/_, ℕ, _<_}
 use mathlib.Core.List.{List, [], _∷_}
-use Prim.Native.Nat.{_+_, _%_}
-use Rattle.text.specs.Splice.{spent}
-use mathlib.Core.Path.{ap}
-use Rattle.text.specs.Digits.{decimal}
-use Prim.Native.Nat.{_/_}
-use Rattle.text.proofs.Decimals.{decimal-one, decimal-more}
-use Rattle.text.proofs.Splices.{spent-size, spent-append}
-use mathlib.Core.Path.{refl, _∙_}
+use mathlib.Core.Path.{ap, refl, _∙_}
 use native.Mathlib.Omega.{arith}
 use borrow.Author.Needs.{needs}
-use Prim.Native.Nat.{ℕ, _<_}
 use borrow.Fn.Kinds.{In, Out}
 use borrow.Fn.PlainCycle.{Measures, is, falls, and}
+use Rattle.text.specs.Splice.{spent}
+use Rattle.text.specs.Digits.{decimal}
+use Rattle.text.proofs.Decimals.{decimal-one, decimal-more}
+use Rattle.text.proofs.Splices.{spent-size, spent-append}
 use Rattle.text.proofs.inner.digits.spend_decimal.Reads as spend-decimal
 use Rattle.text.proofs.inner.digits.spend_decimal.Kinds as spend-decimal-kinds
 use Rattle.text.proofs.inner.digits.+spend_decimal.Lts-spend_decimal as spend-decimal-lts
@@ -38,23 +35,18 @@ spend-decimal-below t =
 abbrev of-spend-decimal : ((k : spend-decimal-lts.Claims) (p : In 0 spend-decimal-kinds.ps) (q : Out 0 spend-decimal-kinds.ps spend-decimal-kinds.r) → Type 0) → ℕ → Type 0
 of-spend-decimal N t = N (spend-reads.Asked, spend-reads.Learnt, spend-decimal-below t, spend-decimal.Post) (spend-decimal-at t) spend-decimal.Post
 
--- src/inner/digits.rt:49:9
 spend-decimal-spend-requires : (t : ℕ) → of-spend-decimal spend-decimal-lts.Need-spend-requires t
 spend-decimal-spend-requires t c κs = search needs
 
--- src/inner/digits.rt:49:9
 spend-decimal-returns : (t : ℕ) → of-spend-decimal spend-decimal-lts.Need-returns t
 spend-decimal-returns t c = rw (decimal-one (c .before .before .args .n) (c .before .if1 .taken)) (c .spend .ensures ∙ spent-size _ 1 _ refl)
 
--- src/inner/digits.rt:51:26
 spend-decimal-spend-decimal-requires : (t : ℕ) → of-spend-decimal spend-decimal-lts.Need-spend-decimal-requires t
 spend-decimal-spend-decimal-requires t c κs = omega arith
 
--- src/inner/digits.rt:51:5
 spend-decimal-spend-requires-2 : (t : ℕ) → of-spend-decimal spend-decimal-lts.Need-spend-requires-2 t
 spend-decimal-spend-requires-2 t c κs = search needs
 
--- src/inner/digits.rt:45:1
 spend-decimal-returns-2 : (t : ℕ) → of-spend-decimal spend-decimal-lts.Need-returns-2 t
 spend-decimal-returns-2 t c =
     let n = c .before .before .before .args .n in

@@ -1,18 +1,14 @@
-use Rattle.text.proofs.Decimals.{from-step, from-stop, from-end}
-use Rattle.text.proofs.Tests.{within-low, within-high}
-use Rattle.text.specs.Digits.{decimalFrom}
-use lib.ListN.{length, drop}
+use Prim.Native.Nat.{_-_}
 use mathlib.Core.Path.{_≡_, refl, sym, _∙_}
-use Prim.Native.Nat.{ℕ, _+_, _*_, _-_, _≤_}
 use native.Mathlib.Omega.{arith}
+use lib.ListN.{length, drop}
 use borrow.Author.Tests.{le-leb, lt-leb}
 use borrow.Author.Needs.{needs}
-use Rattle.text.proofs.inner.digits.decimal_from.Statement.{statement}
+use Rattle.text.specs.Digits.{decimalFrom}
+use Rattle.text.proofs.Decimals.{from-step, from-stop, from-end}
+use Rattle.text.proofs.Tests.{within-low, within-high}
 use Rattle.text.proofs.inner.digits.decimal_from.Tie as tie
-use Rattle.text.proofs.inner.digits.decimal_from.Reads as reads
-use Rattle.text.proofs.inner.digits.decimal_from.Lts as lts
-use Rattle.text.proofs.inner.digits.decimal_more.Reads as decimal-more-reads
-use Rattle.text.proofs.inner.utf8.wide.Reads as wide-reads
+use Rattle.text.proofs.inner.digits.decimal_from.Statement.{statement}
 
 abbrev Inv-loop : tie.InvT-loop
 Inv-loop s limit v₀ i₀ v i = decimalFrom limit v (drop i s) ≡ decimalFrom limit 0 s
@@ -20,55 +16,42 @@ Inv-loop s limit v₀ i₀ v i = decimalFrom limit v (drop i s) ≡ decimalFrom 
 abbrev μ-loop : tie.MeasureT-loop
 μ-loop s limit v₀ i₀ v i = length s - i
 
--- src/inner/digits.rt:27:5
 loop-holds : tie.Need-loop-holds Inv-loop μ-loop
 loop-holds c = refl
 
--- src/inner/digits.rt:28:35
 shared-slice-read-wide : tie.Need-shared-slice-read-wide Inv-loop μ-loop
 shared-slice-read-wide c = omega arith
 
--- src/inner/digits.rt:28:17
 wide-requires : tie.Need-wide-requires Inv-loop μ-loop
 wide-requires c κs = search needs
 
--- src/inner/digits.rt:28:17
 cast-x : tie.Need-cast-x Inv-loop μ-loop
 cast-x c = search needs
 
--- src/inner/digits.rt:30:13
 returns : tie.Need-returns Inv-loop μ-loop
 returns c = sym (from-stop _ _ _ _ _ (c .before .before .before .loop-test .taken) (c .before .wide .ensures) (within-low _ _ _ (c .if1 .taken))) ∙ c .before .before .before .before .loop .inv
 
--- src/inner/digits.rt:33:13
 returns-2 : tie.Need-returns-2 Inv-loop μ-loop
 returns-2 c = sym (from-stop _ _ _ _ _ (c .before .before .before .before .loop-test .taken) (c .before .before .wide .ensures) (within-high _ _ _ (c .if2 .taken))) ∙ c .before .before .before .before .before .loop .inv
 
--- src/inner/digits.rt:35:9
 decimal-more-requires : tie.Need-decimal-more-requires Inv-loop μ-loop
 decimal-more-requires c κs = omega arith
 
--- src/inner/digits.rt:36:9
 add-i : tie.Need-add-i Inv-loop μ-loop
 add-i c = omega arith
 
--- src/inner/digits.rt:27:5
 loop-less : tie.Need-loop-less Inv-loop μ-loop
 loop-less c = omega arith
 
--- src/inner/digits.rt:27:5
 loop-again : tie.Need-loop-again Inv-loop μ-loop
 loop-again c = sym (from-step _ _ _ _ _ _ (c .before .before .before .before .before .loop-test .taken) (c .before .before .before .wide .ensures) (c .before .before .if1 .left) (c .before .if2 .left) (c .decimal-more .ensures)) ∙ c .before .before .before .before .before .before .loop .inv
 
--- src/inner/digits.rt:39:28
 cast-t14 : tie.Need-cast-t14 Inv-loop μ-loop
 cast-t14 c = omega arith
 
--- src/inner/digits.rt:39:9
 returns-3 : tie.Need-returns-3 Inv-loop μ-loop
 returns-3 c = rw (le-leb _ _ (c .if3 .taken)) at (sym (from-end _ _ _ _ (c .before .loop-test .left)) ∙ c .before .before .loop .inv)
 
--- src/inner/digits.rt:22:1
 returns-4 : tie.Need-returns-4 Inv-loop μ-loop
 returns-4 c = rw (lt-leb _ _ (c .if3 .left)) at (sym (from-end _ _ _ _ (c .before .loop-test .left)) ∙ c .before .before .loop .inv)
 

@@ -1,23 +1,17 @@
 use borrow.Author.Tests.{lt-leb, le-leb}
 use borrow.Author.Needs.{needs}
-use Rattle.text.proofs.inner.digits.decimal_more.Statement.{statement}
 use Rattle.text.proofs.inner.digits.decimal_more.Tie as tie
-use Rattle.text.proofs.inner.digits.decimal_more.Reads as reads
-use Rattle.text.proofs.inner.digits.decimal_more.Lts as lts
+use Rattle.text.proofs.inner.digits.decimal_more.Statement.{statement}
 
--- src/inner/digits.rt:16:16
 mul-result : tie.Need-mul-result
 mul-result c = search needs
 
--- src/inner/digits.rt:16:16
 add-result : tie.Need-add-result
 add-result c = search needs
 
--- src/inner/digits.rt:16:9
 returns : tie.Need-returns
 returns c = rw (le-leb _ _ (c .if1 .taken))
 
--- src/inner/digits.rt:11:1
 returns-2 : tie.Need-returns-2
 returns-2 c = rw (lt-leb _ _ (c .if1 .left))
 

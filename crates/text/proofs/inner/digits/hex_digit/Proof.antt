@@ -1,19 +1,15 @@
-use Rattle.text.proofs.Tables.{digit-rule}
-use lib.ListN.{getD}
 use Prim.Native.Nat.{ℕ}
 use mathlib.Core.List.{List}
 use mathlib.Core.Path.{_∙_, ap}
+use lib.ListN.{getD}
 use borrow.Author.Needs.{needs}
-use Rattle.text.proofs.inner.digits.hex_digit.Statement.{statement}
+use Rattle.text.proofs.Tables.{digit-rule}
 use Rattle.text.proofs.inner.digits.hex_digit.Tie as tie
-use Rattle.text.proofs.inner.digits.hex_digit.Reads as reads
-use Rattle.text.proofs.inner.digits.hex_digit.Lts as lts
+use Rattle.text.proofs.inner.digits.hex_digit.Statement.{statement}
 
--- src/inner/digits.rt:80:5
 element-copy-out-result : tie.Need-element-copy-out-result
 element-copy-out-result c = search needs
 
--- src/inner/digits.rt:75:1
 returns : tie.Need-returns
 returns c = ap (λ (t : List ℕ). getD t (c .before .args .d) 0) (c .before .pre .0) ∙ digit-rule (c .before .args .d) (c .before .pre .1)
 

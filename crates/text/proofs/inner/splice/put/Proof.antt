@@ -1,15 +1,12 @@
-use Rattle.text.proofs.Splices.{wrote-none, wrote-more, wrote-length}
-use Rattle.text.specs.Splice.{Wrote}
-use lib.Seq.{take-all}
-use lib.ListN.{length, take}
 use Prim.Native.Nat.{_+_, _-_, _≤_}
 use native.Mathlib.Nat.{add-zero}
 use native.Mathlib.Omega.{arith}
-use borrow.Author.Needs.{needs}
-use Rattle.text.proofs.inner.splice.put.Statement.{statement}
+use lib.Seq.{take-all}
+use lib.ListN.{length, take}
+use Rattle.text.specs.Splice.{Wrote}
+use Rattle.text.proofs.Splices.{wrote-none, wrote-more, wrote-length}
 use Rattle.text.proofs.inner.splice.put.Tie as tie
-use Rattle.text.proofs.inner.splice.put.Reads as reads
-use Rattle.text.proofs.inner.splice.put.Lts as lts
+use Rattle.text.proofs.inner.splice.put.Statement.{statement}
 
 abbrev Inv-loop : tie.InvT-loop
 Inv-loop x out₀ at i₀ out i = (i ≤ length x) × Wrote out₀ at (take i x) out (at + i)
@@ -17,43 +14,33 @@ Inv-loop x out₀ at i₀ out i = (i ≤ length x) × Wrote out₀ at (take i x)
 abbrev μ-loop : tie.MeasureT-loop
 μ-loop x out₀ at i₀ out i = length x - i
 
--- src/inner/splice.rt:28:5
 loop-holds : tie.Need-loop-holds Inv-loop μ-loop
 loop-holds c = (omega arith, rw add-zero (wrote-none _ _))
 
--- src/inner/splice.rt:29:23
 shared-slice-read-out : tie.Need-shared-slice-read-out Inv-loop μ-loop
 shared-slice-read-out c = omega arith
 
--- src/inner/splice.rt:29:13
 add-out : tie.Need-add-out Inv-loop μ-loop
 add-out c = omega (arith, c .before .before .before .pre .fits)
 
--- src/inner/splice.rt:29:9
 slice-write-out : tie.Need-slice-write-out Inv-loop μ-loop
 slice-write-out c = omega (arith, c .before .before .before .pre .fits, wrote-length (c .before .before .loop .inv .1))
 
--- src/inner/splice.rt:30:9
 add-i : tie.Need-add-i Inv-loop μ-loop
 add-i c = omega arith
 
--- src/inner/splice.rt:28:5
 loop-less : tie.Need-loop-less Inv-loop μ-loop
 loop-less c = omega arith
 
--- src/inner/splice.rt:28:5
 loop-again : tie.Need-loop-again Inv-loop μ-loop
 loop-again c = (omega arith, wrote-more _ _ (c .before .loop-test .taken) (c .before .before .loop .inv .1))
 
--- src/inner/splice.rt:32:5
 add-result : tie.Need-add-result Inv-loop μ-loop
 add-result c = omega (arith, c .before .before .pre .fits)
 
--- src/inner/splice.rt:23:1
 same-length : tie.Need-same-length Inv-loop μ-loop
 same-length c = wrote-length (c .before .loop .inv .1)
 
--- src/inner/splice.rt:23:1
 returns : tie.Need-returns Inv-loop μ-loop
 returns c = rw (take-all _ _ (c .loop-test .left)) at (c .before .loop .inv .1)
 

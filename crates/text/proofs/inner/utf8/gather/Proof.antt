@@ -1,17 +1,14 @@
-use Rattle.text.proofs.Gathers.{gather-step, gather-stop, gather-short, gather-end, gather-next, gather-room}
-use Rattle.text.proofs.Tests.{within-low, within-high}
-use Rattle.text.specs.Utf8.{gathered}
-use lib.ListN.{drop}
-use mathlib.Core.Path.{_≡_, refl, sym, ap, _∙_}
 use Prim.Native.Nat.{_+_, _-_, _*_, _^_, _≤_, _<_}
+use mathlib.Core.Path.{_≡_, sym, _∙_}
 use native.Mathlib.Nat.{add-zero, sub-zero}
 use native.Mathlib.Omega.{arith}
+use lib.ListN.{drop}
 use borrow.Author.Needs.{needs}
-use Rattle.text.proofs.inner.utf8.gather.Statement.{statement}
+use Rattle.text.specs.Utf8.{gathered}
+use Rattle.text.proofs.Gathers.{gather-step, gather-stop, gather-short, gather-end, gather-next, gather-room}
+use Rattle.text.proofs.Tests.{within-low, within-high}
 use Rattle.text.proofs.inner.utf8.gather.Tie as tie
-use Rattle.text.proofs.inner.utf8.gather.Reads as reads
-use Rattle.text.proofs.inner.utf8.gather.Lts as lts
-use Rattle.text.proofs.inner.utf8.wide.Reads as wide-reads
+use Rattle.text.proofs.inner.utf8.gather.Statement.{statement}
 
 abbrev Inv-loop : tie.InvT-loop
 Inv-loop s at more bits v₀ j₀ v j = (gathered (more - j) v (drop (at + j) s) ≡ gathered more bits (drop at s)) × (j ≤ more) × (v < 256 * 64 ^ j)
@@ -19,55 +16,42 @@ Inv-loop s at more bits v₀ j₀ v j = (gathered (more - j) v (drop (at + j) s)
 abbrev μ-loop : tie.MeasureT-loop
 μ-loop s at more bits v₀ j₀ v j = more - j
 
--- src/inner/utf8.rt:59:5
 loop-holds : tie.Need-loop-holds Inv-loop μ-loop
 loop-holds c = (rw (sub-zero, add-zero), omega arith, omega arith)
 
--- src/inner/utf8.rt:60:17
 add-i : tie.Need-add-i Inv-loop μ-loop
 add-i c = omega arith
 
--- src/inner/utf8.rt:62:13
 returns : tie.Need-returns Inv-loop μ-loop
 returns c = sym (gather-short _ _ _ _ _ (c .before .loop-test .taken) (c .if1 .taken)) ∙ c .before .before .loop .inv .0
 
--- src/inner/utf8.rt:64:22
 shared-slice-read-wide : tie.Need-shared-slice-read-wide Inv-loop μ-loop
 shared-slice-read-wide c = omega arith
 
--- src/inner/utf8.rt:64:13
 wide-requires : tie.Need-wide-requires Inv-loop μ-loop
 wide-requires c κs = search needs
 
--- src/inner/utf8.rt:66:13
 returns-2 : tie.Need-returns-2 Inv-loop μ-loop
 returns-2 c = sym (gather-stop _ _ _ _ _ (c .before .before .before .before .loop-test .taken) _ (c .before .before .before .if1 .left) (c .before .wide .ensures) (within-low _ _ _ (c .if2 .taken))) ∙ c .before .before .before .before .before .loop .inv .0
 
--- src/inner/utf8.rt:69:13
 returns-3 : tie.Need-returns-3 Inv-loop μ-loop
 returns-3 c = sym (gather-stop _ _ _ _ _ (c .before .before .before .before .before .loop-test .taken) _ (c .before .before .before .before .if1 .left) (c .before .before .wide .ensures) (within-high _ _ _ (c .if3 .taken))) ∙ c .before .before .before .before .before .before .loop .inv .0
 
--- src/inner/utf8.rt:71:13
 mul-v : tie.Need-mul-v Inv-loop μ-loop
 mul-v c = omega (arith, gather-room _ _ (c .before .before .before .before .before .before .loop .inv .2) (omega arith))
 
--- src/inner/utf8.rt:71:13
 add-v : tie.Need-add-v Inv-loop μ-loop
 add-v c = omega (arith, gather-room _ _ (c .before .before .before .before .before .before .loop .inv .2) (omega arith))
 
--- src/inner/utf8.rt:72:9
 add-j : tie.Need-add-j Inv-loop μ-loop
 add-j c = omega arith
 
--- src/inner/utf8.rt:59:5
 loop-less : tie.Need-loop-less Inv-loop μ-loop
 loop-less c = omega arith
 
--- src/inner/utf8.rt:59:5
 loop-again : tie.Need-loop-again Inv-loop μ-loop
 loop-again c = (sym (gather-step _ _ _ _ _ (c .before .before .before .before .before .loop-test .taken) _ (c .before .before .before .before .if1 .left) (c .before .before .wide .ensures) (c .before .if2 .left) (c .if3 .left)) ∙ c .before .before .before .before .before .before .loop .inv .0, omega arith, gather-next _ _ _ (c .before .before .before .before .before .before .loop .inv .2) (omega arith))
 
--- src/inner/utf8.rt:51:1
 returns-4 : tie.Need-returns-4 Inv-loop μ-loop
 returns-4 c = sym (gather-end _ _ _ _ (c .loop-test .left)) ∙ c .before .loop .inv .0
 

@@ -1,40 +1,30 @@
-use Rattle.text.specs.Utf8.{judged}
 use borrow.Author.Tests.{lt-leb, le-leb}
 use borrow.Author.Needs.{needs}
-use Rattle.text.proofs.inner.utf8.judge.Statement.{statement}
+use Rattle.text.specs.Utf8.{judged}
 use Rattle.text.proofs.inner.utf8.judge.Tie as tie
-use Rattle.text.proofs.inner.utf8.judge.Reads as reads
-use Rattle.text.proofs.inner.utf8.judge.Lts as lts
-use Rattle.text.proofs.inner.utf8.is_scalar.Reads as is-scalar-reads
+use Rattle.text.proofs.inner.utf8.judge.Statement.{statement}
 
--- src/inner/utf8.rt:82:23
 enum-known-v : tie.Need-enum-known-v
 enum-known-v c = search needs
 
--- src/inner/utf8.rt:84:17
 returns : tie.Need-returns
 unfolding judged
 returns c = rw (c .before .before .v .given .1, lt-leb _ _ (c .if1 .taken))
 
--- src/inner/utf8.rt:86:16
 is-scalar-requires : tie.Need-is-scalar-requires
 is-scalar-requires c κs = search needs
 
--- src/inner/utf8.rt:87:17
 returns-2 : tie.Need-returns-2
 unfolding judged
 returns-2 c = rw (c .before .before .before .before .v .given .1, le-leb _ _ (c .before .before .if1 .left), ← c .before .is-scalar .ensures, c .if2 .taken)
 
--- src/inner/utf8.rt:91:27
 enum-told : tie.Need-enum-told
 enum-told c = search needs
 
--- src/inner/utf8.rt:78:1
 returns-3 : tie.Need-returns-3
 unfolding judged
 returns-3 c = rw (c .before .before .before .before .v .given .1, le-leb _ _ (c .before .before .if1 .left), ← c .before .is-scalar .ensures, c .if2 .left)
 
--- src/inner/utf8.rt:78:1
 returns-4 : tie.Need-returns-4
 unfolding judged
 returns-4 c = rw (c .enum-told .given .1)

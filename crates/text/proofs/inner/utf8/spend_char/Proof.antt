@@ -1,43 +1,31 @@
-use mathlib.Core.Path.{refl}
+use mathlib.Core.Path.{refl, _∙_}
+use borrow.Author.Needs.{needs}
 use Rattle.text.proofs.Decodes.{encoded-one, encoded-two, encoded-three, encoded-four}
 use Rattle.text.proofs.Splices.{spent-size}
-use mathlib.Core.Path.{_∙_}
-use borrow.Author.Needs.{needs}
-use Rattle.text.proofs.inner.utf8.spend_char.Statement.{statement}
 use Rattle.text.proofs.inner.utf8.spend_char.Tie as tie
-use Rattle.text.proofs.inner.utf8.spend_char.Reads as reads
-use Rattle.text.proofs.inner.utf8.spend_char.Lts as lts
-use Rattle.text.proofs.inner.splice.spend.Reads as spend-reads
+use Rattle.text.proofs.inner.utf8.spend_char.Statement.{statement}
 
--- src/inner/utf8.rt:100:9
 spend-requires : tie.Need-spend-requires
 spend-requires c κs = search needs
 
--- src/inner/utf8.rt:100:9
 returns : tie.Need-returns
 returns c = rw (encoded-one _ (c .before .if1 .taken)) (c .spend .ensures ∙ spent-size _ 1 _ refl)
 
--- src/inner/utf8.rt:103:9
 spend-requires-2 : tie.Need-spend-requires-2
 spend-requires-2 c κs = search needs
 
--- src/inner/utf8.rt:103:9
 returns-2 : tie.Need-returns-2
 returns-2 c = rw (encoded-two _ (c .before .before .if1 .left) (c .before .if2 .taken)) (c .spend2 .ensures ∙ spent-size _ 2 _ refl)
 
--- src/inner/utf8.rt:106:9
 spend-requires-3 : tie.Need-spend-requires-3
 spend-requires-3 c κs = search needs
 
--- src/inner/utf8.rt:106:9
 returns-3 : tie.Need-returns-3
 returns-3 c = rw (encoded-three _ (c .before .before .if2 .left) (c .before .if3 .taken)) (c .spend3 .ensures ∙ spent-size _ 3 _ refl)
 
--- src/inner/utf8.rt:108:5
 spend-requires-4 : tie.Need-spend-requires-4
 spend-requires-4 c κs = search needs
 
--- src/inner/utf8.rt:96:1
 returns-4 : tie.Need-returns-4
 returns-4 c = rw (encoded-four _ (c .before .if3 .left)) (c .spend4 .ensures ∙ spent-size _ 4 _ refl)
 

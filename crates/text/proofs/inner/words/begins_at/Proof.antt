@@ -1,14 +1,12 @@
-use Rattle.text.proofs.Runs.{begins-step, begins-stop, begins-short, begins-end}
-use Rattle.text.specs.Words.{begins}
-use lib.ListN.{length, drop}
-use mathlib.Core.Path.{_≡_, refl, sym, _∙_}
 use Prim.Native.Nat.{_+_, _-_, _≤_}
+use mathlib.Core.Path.{_≡_, sym, _∙_}
 use native.Mathlib.Nat.{add-zero}
 use native.Mathlib.Omega.{arith}
-use Rattle.text.proofs.inner.words.begins_at.Statement.{statement}
+use lib.ListN.{length, drop}
+use Rattle.text.specs.Words.{begins}
+use Rattle.text.proofs.Runs.{begins-step, begins-stop, begins-short, begins-end}
 use Rattle.text.proofs.inner.words.begins_at.Tie as tie
-use Rattle.text.proofs.inner.words.begins_at.Reads as reads
-use Rattle.text.proofs.inner.words.begins_at.Lts as lts
+use Rattle.text.proofs.inner.words.begins_at.Statement.{statement}
 
 abbrev Inv-loop : tie.InvT-loop
 Inv-loop p s at j₀ j = (begins (drop j p) (drop (at + j) s) ≡ begins p (drop at s)) × (at + j ≤ length s)
@@ -16,43 +14,33 @@ Inv-loop p s at j₀ j = (begins (drop j p) (drop (at + j) s) ≡ begins p (drop
 abbrev μ-loop : tie.MeasureT-loop
 μ-loop p s at j₀ j = length p - j
 
--- src/inner/words.rt:52:5
 loop-holds : tie.Need-loop-holds Inv-loop μ-loop
 loop-holds c = (rw add-zero, omega arith)
 
--- src/inner/words.rt:53:17
 add-i : tie.Need-add-i Inv-loop μ-loop
 add-i c = omega arith
 
--- src/inner/words.rt:55:13
 returns : tie.Need-returns Inv-loop μ-loop
 returns c = sym (begins-short _ _ _ _ (c .before .loop-test .taken) (c .if1 .taken)) ∙ c .before .before .loop .inv .0
 
--- src/inner/words.rt:57:12
 shared-slice-read-if2 : tie.Need-shared-slice-read-if2 Inv-loop μ-loop
 shared-slice-read-if2 c = omega arith
 
--- src/inner/words.rt:57:20
 shared-slice-read-if2-2 : tie.Need-shared-slice-read-if2-2 Inv-loop μ-loop
 shared-slice-read-if2-2 c = omega arith
 
--- src/inner/words.rt:58:13
 returns-2 : tie.Need-returns-2 Inv-loop μ-loop
 returns-2 c = sym (begins-stop _ _ _ _ (c .before .before .before .before .loop-test .taken) (c .before .before .before .if1 .left) (c .if2 .taken)) ∙ c .before .before .before .before .before .loop .inv .0
 
--- src/inner/words.rt:60:9
 add-j : tie.Need-add-j Inv-loop μ-loop
 add-j c = omega arith
 
--- src/inner/words.rt:52:5
 loop-less : tie.Need-loop-less Inv-loop μ-loop
 loop-less c = omega arith
 
--- src/inner/words.rt:52:5
 loop-again : tie.Need-loop-again Inv-loop μ-loop
 loop-again c = (sym (begins-step _ _ _ _ (c .before .before .before .before .loop-test .taken) (c .before .before .before .if1 .left) (c .if2 .left)) ∙ c .before .before .before .before .before .loop .inv .0, omega arith)
 
--- src/inner/words.rt:47:1
 returns-3 : tie.Need-returns-3 Inv-loop μ-loop
 returns-3 c = sym (begins-end _ _ _ (c .loop-test .left)) ∙ c .before .loop .inv .0
 

@@ -1,18 +1,13 @@
-use lib.Dec.{eqb}
 use Prim.Native.Nat.{ℕ}
 use mathlib.Core.Path.{ap}
+use lib.Dec.{eqb}
 use borrow.Author.Needs.{needs}
-use Rattle.text.proofs.inner.words.starts_word.Statement.{statement}
 use Rattle.text.proofs.inner.words.starts_word.Tie as tie
-use Rattle.text.proofs.inner.words.starts_word.Reads as reads
-use Rattle.text.proofs.inner.words.starts_word.Lts as lts
-use Rattle.text.proofs.inner.classes.class.Reads as class-reads
+use Rattle.text.proofs.inner.words.starts_word.Statement.{statement}
 
--- src/inner/words.rt:15:5
 class-requires : tie.Need-class-requires
 class-requires c κs = search needs
 
--- src/inner/words.rt:11:1
 returns : tie.Need-returns
 returns c = ap (λ (k : ℕ). eqb k 2) (c .class .ensures)
 
