@@ -46,11 +46,20 @@ enum-told c = search needs
 
 returns-2 : tie.Need-returns-2
 unfolding charOf
-returns-2 c = rw (at-byte _ _ (c .before .before .before .before .before .before .before .before .if1 .left), ← c .before .before .before .before .before .before .wide .ensures, ← c .before .before .before .before .before .lead-of .ensures, c .before .before .before .lead .given .1) (c .judge .ensures ∙ rw (c .before .gather .ensures))
+returns-2 c =
+    let at-lead = c .before .before .before in
+    let at-lead-of = at-lead .before .before in
+    let at-wide = at-lead-of .before in
+    let at-if1 = at-wide .before .before in
+    rw (at-byte _ _ (at-if1 .if1 .left), ← at-wide .wide .ensures, ← at-lead-of .lead-of .ensures, at-lead .lead .given .1) (c .judge .ensures ∙ rw (c .before .gather .ensures))
 
 returns-3 : tie.Need-returns-3
 unfolding charOf
-returns-3 c = rw (at-byte _ _ (c .before .before .before .before .before .if1 .left), ← c .before .before .before .wide .ensures, ← c .before .before .lead-of .ensures, c .enum-told .given .1)
+returns-3 c =
+    let at-lead-of = c .before .before in
+    let at-wide = at-lead-of .before in
+    let at-if1 = at-wide .before .before in
+    rw (at-byte _ _ (at-if1 .if1 .left), ← at-wide .wide .ensures, ← at-lead-of .lead-of .ensures, c .enum-told .given .1)
 
 pub char-at-spec : {M : Type 1} → statement M
 char-at-spec =

@@ -38,9 +38,14 @@ same-length c = search needs
 returns-3 : tie.Need-returns-3
 unfolding encodeOf encodeIn
 returns-3 c =
-    let f = spent-fits _ _ (λ z. c .before .before .before .before .if2 .left (c .before .before .before .before .before .spend-char .ensures ∙ z)) in
-    let w = wrote-front (c .before .before .put-char .ensures) f in
-    (rw (sym (c .before .before .before .before .before .before .before .is-scalar .ensures) ∙ not-false _ (c .before .before .before .before .before .before .if1 .left), le-leb _ _ f, w .1), w .0)
+    let at-put-char = c .before .before in
+    let at-if2 = at-put-char .before .before in
+    let at-spend-char = at-if2 .before in
+    let at-if1 = at-spend-char .before in
+    let at-is-scalar = at-if1 .before in
+    let f = spent-fits _ _ (λ z. at-if2 .if2 .left (at-spend-char .spend-char .ensures ∙ z)) in
+    let w = wrote-front (at-put-char .put-char .ensures) f in
+    (rw (sym (at-is-scalar .is-scalar .ensures) ∙ not-false _ (at-if1 .if1 .left), le-leb _ _ f, w .1), w .0)
 
 pub encode-spec : {M : Type 1} → statement M
 encode-spec =

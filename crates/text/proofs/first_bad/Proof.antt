@@ -50,13 +50,21 @@ loop-less-2 c =
     omega (arith, d .some)
 
 loop-again-2 : tie.Need-loop-again-2 Inv-loop μ-loop
-loop-again-2 c = sym (look-step _ _ _ _ (c .before .before .before .before .before .before .loop-test .taken) (sym (c .before .before .before .char-at .ensures) ∙ c .before .sequence .given .1)) ∙ c .before .before .before .before .before .before .before .loop .inv
+loop-again-2 c =
+    let at-char-at = c .before .before .before in
+    let at-loop-test = at-char-at .before .before .before in
+    let at-loop = at-loop-test .before in
+    sym (look-step _ _ _ _ (at-loop-test .loop-test .taken) (sym (at-char-at .char-at .ensures) ∙ c .before .sequence .given .1)) ∙ at-loop .loop .inv
 
 enum-told : tie.Need-enum-told Inv-loop μ-loop
 enum-told c = search needs
 
 returns : tie.Need-returns Inv-loop μ-loop
-returns c = sym (sought-stop seqLook _ _ (c .before .before .before .before .before .loop-test .taken) (ap lookBy (sym (c .before .before .char-at .ensures) ∙ c .enum-told .given .1))) ∙ c .before .before .before .before .before .before .loop .inv
+returns c =
+    let at-char-at = c .before .before in
+    let at-loop-test = at-char-at .before .before .before in
+    let at-loop = at-loop-test .before in
+    sym (sought-stop seqLook _ _ (at-loop-test .loop-test .taken) (ap lookBy (sym (at-char-at .char-at .ensures) ∙ c .enum-told .given .1))) ∙ at-loop .loop .inv
 
 returns-2 : tie.Need-returns-2 Inv-loop μ-loop
 returns-2 c = sym (sought-end seqLook _ _ (c .loop-test .left)) ∙ c .before .loop .inv

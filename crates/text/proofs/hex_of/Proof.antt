@@ -38,18 +38,29 @@ returns-4 c = rw (← c .before .before .before .before .wide .ensures, within-h
 
 returns-5 : tie.Need-returns-5
 unfolding hexOf
-returns-5 c = rw (← c .before .before .before .before .before .wide .ensures, within-high 48 57 _ (c .before .before .before .if2 .left), within-high 65 70 _ (c .before .if4 .left), within-low 97 102 _ (c .if5 .taken))
+returns-5 c =
+    let at-if2 = c .before .before .before in
+    let at-wide = at-if2 .before .before in
+    rw (← at-wide .wide .ensures, within-high 48 57 _ (at-if2 .if2 .left), within-high 65 70 _ (c .before .if4 .left), within-low 97 102 _ (c .if5 .taken))
 
 sub-t6 : tie.Need-sub-t6
 sub-t6 c = search needs
 
 returns-6 : tie.Need-returns-6
 unfolding hexOf
-returns-6 c = rw (← c .before .before .before .before .before .before .wide .ensures, within-high 48 57 _ (c .before .before .before .before .if2 .left), within-high 65 70 _ (c .before .before .if4 .left), within-yes 97 102 _ (c .before .if5 .left) (c .if6 .taken))
+returns-6 c =
+    let at-if4 = c .before .before in
+    let at-if2 = at-if4 .before .before in
+    let at-wide = at-if2 .before .before in
+    rw (← at-wide .wide .ensures, within-high 48 57 _ (at-if2 .if2 .left), within-high 65 70 _ (at-if4 .if4 .left), within-yes 97 102 _ (c .before .if5 .left) (c .if6 .taken))
 
 returns-7 : tie.Need-returns-7
 unfolding hexOf
-returns-7 c = rw (← c .before .before .before .before .before .before .wide .ensures, within-high 48 57 _ (c .before .before .before .before .if2 .left), within-high 65 70 _ (c .before .before .if4 .left), within-high 97 102 _ (c .if6 .left))
+returns-7 c =
+    let at-if4 = c .before .before in
+    let at-if2 = at-if4 .before .before in
+    let at-wide = at-if2 .before .before in
+    rw (← at-wide .wide .ensures, within-high 48 57 _ (at-if2 .if2 .left), within-high 65 70 _ (at-if4 .if4 .left), within-high 97 102 _ (c .if6 .left))
 
 pub hex-of-spec : {M : Type 1} → statement M
 hex-of-spec =

@@ -28,8 +28,11 @@ same-length c = search needs
 returns-2 : tie.Need-returns-2
 unfolding decimalPut decimalIn
 returns-2 c =
-    let f = spent-fits _ _ (λ z. c .before .before .before .before .if1 .left (c .before .before .before .before .before .spend-decimal .ensures ∙ z)) in
-    let w = wrote-front (c .before .before .put-decimal .ensures) f in
+    let at-put-decimal = c .before .before in
+    let at-if1 = at-put-decimal .before .before in
+    let at-spend-decimal = at-if1 .before in
+    let f = spent-fits _ _ (λ z. at-if1 .if1 .left (at-spend-decimal .spend-decimal .ensures ∙ z)) in
+    let w = wrote-front (at-put-decimal .put-decimal .ensures) f in
     (rw (le-leb _ _ f, w .1), w .0)
 
 pub write-decimal-spec : {M : Type 1} → statement M

@@ -43,7 +43,11 @@ put-decimal-same-length : (t : ℕ) → of-put-decimal put-decimal-lts.Need-same
 put-decimal-same-length t c = search needs
 
 put-decimal-returns : (t : ℕ) → of-put-decimal put-decimal-lts.Need-returns t
-put-decimal-returns t c = rw (decimal-one (c .before .before .before .before .before .before .args .n) (c .before .before .before .before .if1 .taken)) (c .before .before .put-byte .ensures)
+put-decimal-returns t c =
+    let at-put-byte = c .before .before in
+    let at-if1 = at-put-byte .before .before in
+    let start = at-if1 .before .before in
+    rw (decimal-one (start .args .n) (at-if1 .if1 .taken)) (at-put-byte .put-byte .ensures)
 
 put-decimal-put-decimal-requires : (t : ℕ) → of-put-decimal put-decimal-lts.Need-put-decimal-requires t
 put-decimal-put-decimal-requires t c κs =
@@ -58,14 +62,25 @@ put-decimal-add-put-byte-2 t c = omega arith
 
 put-decimal-put-byte-requires-2 : (t : ℕ) → of-put-decimal put-decimal-lts.Need-put-byte-requires-2 t
 put-decimal-put-byte-requires-2 t c κs =
-    let n = c .before .before .before .before .before .before .before .args .n in
-    room-next ((48 + n % 10) ∷ []) (c .before .before .before .put-decimal .ensures) (rw (decimal-more n (c .before .before .before .before .before .if1 .left)) at (c .before .before .before .before .before .before .before .pre .1))
+    let at-put-decimal = c .before .before .before in
+    let at-if1 = at-put-decimal .before .before in
+    let start = at-if1 .before .before in
+    let n = start .args .n in
+    room-next ((48 + n % 10) ∷ []) (at-put-decimal .put-decimal .ensures) (rw (decimal-more n (at-if1 .if1 .left)) at (start .pre .1))
 
 put-decimal-same-length-2 : (t : ℕ) → of-put-decimal put-decimal-lts.Need-same-length-2 t
-put-decimal-same-length-2 t c = wrote-length (c .before .before .put-byte2 .ensures) ∙ wrote-length (c .before .before .before .before .before .before .put-decimal .ensures)
+put-decimal-same-length-2 t c =
+    let at-put-byte2 = c .before .before in
+    let at-put-decimal = at-put-byte2 .before .before .before .before in
+    wrote-length (at-put-byte2 .put-byte2 .ensures) ∙ wrote-length (at-put-decimal .put-decimal .ensures)
 
 put-decimal-returns-2 : (t : ℕ) → of-put-decimal put-decimal-lts.Need-returns-2 t
-put-decimal-returns-2 t c = rw (decimal-more (c .before .before .before .before .before .before .before .before .before .before .args .n) (c .before .before .before .before .before .before .before .before .if1 .left)) (wrote-then (c .before .before .before .before .before .before .put-decimal .ensures) (c .before .before .put-byte2 .ensures))
+put-decimal-returns-2 t c =
+    let at-put-byte2 = c .before .before in
+    let at-put-decimal = at-put-byte2 .before .before .before .before in
+    let at-if1 = at-put-decimal .before .before in
+    let start = at-if1 .before .before in
+    rw (decimal-more (start .args .n) (at-if1 .if1 .left)) (wrote-then (at-put-decimal .put-decimal .ensures) (at-put-byte2 .put-byte2 .ensures))
 
 pub +put-decimal-spec : {M : Type 1} → statement M
 +put-decimal-spec = close μ-put-decimal λ t. put-decimal-lts.spec (

@@ -45,17 +45,28 @@ put-hex-hex-digit-requires t c κs = (c .before .before .before .before .before 
 
 put-hex-put-byte-requires : (t : ℕ) → of-put-hex put-hex-lts.Need-put-byte-requires t
 put-hex-put-byte-requires t c κs =
-    let a = c .before .before .before .before .before .before .before .before .args in
-    let r = rw (hexes-more (a .k) (a .c) (c .before .before .before .before .before .before .if1 .left)) at (c .before .before .before .before .before .before .before .before .pre .1 .1) in
-    rw (c .before .hex-digit .ensures) (room-next (hexDigit (a .c % 16) ∷ []) (c .before .before .before .before .put-hex .ensures) r)
+    let at-put-hex = c .before .before .before .before in
+    let at-if1 = at-put-hex .before .before in
+    let start = at-if1 .before .before in
+    let a = start .args in
+    let r = rw (hexes-more (a .k) (a .c) (at-if1 .if1 .left)) at (start .pre .1 .1) in
+    rw (c .before .hex-digit .ensures) (room-next (hexDigit (a .c % 16) ∷ []) (at-put-hex .put-hex .ensures) r)
 
 put-hex-same-length : (t : ℕ) → of-put-hex put-hex-lts.Need-same-length t
-put-hex-same-length t c = wrote-length (c .before .before .put-byte .ensures) ∙ wrote-length (c .before .before .before .before .before .before .before .put-hex .ensures)
+put-hex-same-length t c =
+    let at-put-byte = c .before .before in
+    let at-put-hex = at-put-byte .before .before .before .before .before in
+    wrote-length (at-put-byte .put-byte .ensures) ∙ wrote-length (at-put-hex .put-hex .ensures)
 
 put-hex-returns-2 : (t : ℕ) → of-put-hex put-hex-lts.Need-returns-2 t
 put-hex-returns-2 t c =
-    let a = c .before .before .before .before .before .before .before .before .before .before .before .args in
-    rw (hexes-more (a .k) (a .c) (c .before .before .before .before .before .before .before .before .before .if1 .left)) (wrote-then (c .before .before .before .before .before .before .before .put-hex .ensures) (rw (c .before .before .before .before .hex-digit .ensures) at (c .before .before .put-byte .ensures)))
+    let at-put-byte = c .before .before in
+    let at-hex-digit = at-put-byte .before .before in
+    let at-put-hex = at-hex-digit .before .before .before in
+    let at-if1 = at-put-hex .before .before in
+    let start = at-if1 .before .before in
+    let a = start .args in
+    rw (hexes-more (a .k) (a .c) (at-if1 .if1 .left)) (wrote-then (at-put-hex .put-hex .ensures) (rw (at-hex-digit .hex-digit .ensures) at (at-put-byte .put-byte .ensures)))
 
 pub +put-hex-spec : {M : Type 1} → statement M
 +put-hex-spec = close μ-put-hex λ t. put-hex-lts.spec (

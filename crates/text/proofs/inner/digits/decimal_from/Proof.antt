@@ -32,7 +32,11 @@ returns : tie.Need-returns Inv-loop μ-loop
 returns c = sym (from-stop _ _ _ _ _ (c .before .before .before .loop-test .taken) (c .before .wide .ensures) (within-low _ _ _ (c .if1 .taken))) ∙ c .before .before .before .before .loop .inv
 
 returns-2 : tie.Need-returns-2 Inv-loop μ-loop
-returns-2 c = sym (from-stop _ _ _ _ _ (c .before .before .before .before .loop-test .taken) (c .before .before .wide .ensures) (within-high _ _ _ (c .if2 .taken))) ∙ c .before .before .before .before .before .loop .inv
+returns-2 c =
+    let at-wide = c .before .before in
+    let at-loop-test = at-wide .before .before in
+    let at-loop = at-loop-test .before in
+    sym (from-stop _ _ _ _ _ (at-loop-test .loop-test .taken) (at-wide .wide .ensures) (within-high _ _ _ (c .if2 .taken))) ∙ at-loop .loop .inv
 
 decimal-more-requires : tie.Need-decimal-more-requires Inv-loop μ-loop
 decimal-more-requires c κs = omega arith
@@ -44,7 +48,12 @@ loop-less : tie.Need-loop-less Inv-loop μ-loop
 loop-less c = omega arith
 
 loop-again : tie.Need-loop-again Inv-loop μ-loop
-loop-again c = sym (from-step _ _ _ _ _ _ (c .before .before .before .before .before .loop-test .taken) (c .before .before .before .wide .ensures) (c .before .before .if1 .left) (c .before .if2 .left) (c .decimal-more .ensures)) ∙ c .before .before .before .before .before .before .loop .inv
+loop-again c =
+    let at-if1 = c .before .before in
+    let at-wide = at-if1 .before in
+    let at-loop-test = at-wide .before .before in
+    let at-loop = at-loop-test .before in
+    sym (from-step _ _ _ _ _ _ (at-loop-test .loop-test .taken) (at-wide .wide .ensures) (at-if1 .if1 .left) (c .before .if2 .left) (c .decimal-more .ensures)) ∙ at-loop .loop .inv
 
 cast-t14 : tie.Need-cast-t14 Inv-loop μ-loop
 cast-t14 c = omega arith

@@ -32,10 +32,19 @@ wide-requires : tie.Need-wide-requires Inv-loop μ-loop
 wide-requires c κs = search needs
 
 returns-2 : tie.Need-returns-2 Inv-loop μ-loop
-returns-2 c = sym (gather-stop _ _ _ _ _ (c .before .before .before .before .loop-test .taken) _ (c .before .before .before .if1 .left) (c .before .wide .ensures) (within-low _ _ _ (c .if2 .taken))) ∙ c .before .before .before .before .before .loop .inv .0
+returns-2 c =
+    let at-if1 = c .before .before .before in
+    let at-loop-test = at-if1 .before in
+    let at-loop = at-loop-test .before in
+    sym (gather-stop _ _ _ _ _ (at-loop-test .loop-test .taken) _ (at-if1 .if1 .left) (c .before .wide .ensures) (within-low _ _ _ (c .if2 .taken))) ∙ at-loop .loop .inv .0
 
 returns-3 : tie.Need-returns-3 Inv-loop μ-loop
-returns-3 c = sym (gather-stop _ _ _ _ _ (c .before .before .before .before .before .loop-test .taken) _ (c .before .before .before .before .if1 .left) (c .before .before .wide .ensures) (within-high _ _ _ (c .if3 .taken))) ∙ c .before .before .before .before .before .before .loop .inv .0
+returns-3 c =
+    let at-wide = c .before .before in
+    let at-if1 = at-wide .before .before in
+    let at-loop-test = at-if1 .before in
+    let at-loop = at-loop-test .before in
+    sym (gather-stop _ _ _ _ _ (at-loop-test .loop-test .taken) _ (at-if1 .if1 .left) (at-wide .wide .ensures) (within-high _ _ _ (c .if3 .taken))) ∙ at-loop .loop .inv .0
 
 mul-v : tie.Need-mul-v Inv-loop μ-loop
 mul-v c = omega (arith, gather-room _ _ (c .before .before .before .before .before .before .loop .inv .2) (omega arith))

@@ -30,7 +30,11 @@ shared-slice-read-if2-2 : tie.Need-shared-slice-read-if2-2 Inv-loop μ-loop
 shared-slice-read-if2-2 c = omega arith
 
 returns-2 : tie.Need-returns-2 Inv-loop μ-loop
-returns-2 c = sym (begins-stop _ _ _ _ (c .before .before .before .before .loop-test .taken) (c .before .before .before .if1 .left) (c .if2 .taken)) ∙ c .before .before .before .before .before .loop .inv .0
+returns-2 c =
+    let at-if1 = c .before .before .before in
+    let at-loop-test = at-if1 .before in
+    let at-loop = at-loop-test .before in
+    sym (begins-stop _ _ _ _ (at-loop-test .loop-test .taken) (at-if1 .if1 .left) (c .if2 .taken)) ∙ at-loop .loop .inv .0
 
 add-j : tie.Need-add-j Inv-loop μ-loop
 add-j c = omega arith

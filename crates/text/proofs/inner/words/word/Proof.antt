@@ -25,7 +25,11 @@ all-in-word-requires c κs = search needs
 
 returns-3 : tie.Need-returns-3
 unfolding wordOf
-returns-3 c = rw (word-at _ (c .before .before .before .before .before .if1 .left), sym (c .before .before .before .starts-word .ensures) ∙ not-false _ (c .before .before .if2 .left), sym (c .before .all-in-word .ensures) ∙ not-true _ (c .if3 .taken))
+returns-3 c =
+    let at-if2 = c .before .before in
+    let at-starts-word = at-if2 .before in
+    let at-if1 = at-starts-word .before .before in
+    rw (word-at _ (at-if1 .if1 .left), sym (at-starts-word .starts-word .ensures) ∙ not-false _ (at-if2 .if2 .left), sym (c .before .all-in-word .ensures) ∙ not-true _ (c .if3 .taken))
 
 slice-aggregate-begins-at : tie.Need-slice-aggregate-begins-at
 slice-aggregate-begins-at c = search needs
@@ -35,11 +39,23 @@ begins-at-requires c κs = search needs
 
 returns-4 : tie.Need-returns-4
 unfolding wordOf
-returns-4 c = rw (word-at _ (c .before .before .before .before .before .before .before .before .if1 .left), sym (c .before .before .before .before .before .before .starts-word .ensures) ∙ not-false _ (c .before .before .before .before .before .if2 .left), sym (c .before .before .before .before .all-in-word .ensures) ∙ not-false _ (c .before .before .before .if3 .left), sym (c .before .begins-at .ensures) ∙ c .if4 .taken)
+returns-4 c =
+    let at-if3 = c .before .before .before in
+    let at-all-in-word = at-if3 .before in
+    let at-if2 = at-all-in-word .before in
+    let at-starts-word = at-if2 .before in
+    let at-if1 = at-starts-word .before .before in
+    rw (word-at _ (at-if1 .if1 .left), sym (at-starts-word .starts-word .ensures) ∙ not-false _ (at-if2 .if2 .left), sym (at-all-in-word .all-in-word .ensures) ∙ not-false _ (at-if3 .if3 .left), sym (c .before .begins-at .ensures) ∙ c .if4 .taken)
 
 returns-5 : tie.Need-returns-5
 unfolding wordOf
-returns-5 c = rw (word-at _ (c .before .before .before .before .before .before .before .before .if1 .left), sym (c .before .before .before .before .before .before .starts-word .ensures) ∙ not-false _ (c .before .before .before .before .before .if2 .left), sym (c .before .before .before .before .all-in-word .ensures) ∙ not-false _ (c .before .before .before .if3 .left), sym (c .before .begins-at .ensures) ∙ c .if4 .left)
+returns-5 c =
+    let at-if3 = c .before .before .before in
+    let at-all-in-word = at-if3 .before in
+    let at-if2 = at-all-in-word .before in
+    let at-starts-word = at-if2 .before in
+    let at-if1 = at-starts-word .before .before in
+    rw (word-at _ (at-if1 .if1 .left), sym (at-starts-word .starts-word .ensures) ∙ not-false _ (at-if2 .if2 .left), sym (at-all-in-word .all-in-word .ensures) ∙ not-false _ (at-if3 .if3 .left), sym (c .before .begins-at .ensures) ∙ c .if4 .left)
 
 pub word-spec : {M : Type 1} → statement M
 word-spec =
