@@ -1,0 +1,75 @@
+use mathlib.Core.Path.{sym, _∙_}
+use Rattle.literal.proofs.Answers.{room, format-not-utf8, format-no-room, format-wrote}
+use borrow.Author.Needs.{needs}
+use Rattle.literal.proofs.fmt_literal.Statement.{statement}
+use Rattle.literal.proofs.fmt_literal.Tie as tie
+
+first-bad-requires : tie.Need-first-bad-requires
+first-bad-requires c κs = search needs
+
+enum-known-utf8 : tie.Need-enum-known-utf8
+enum-known-utf8 c = search needs
+
+returns : tie.Need-returns
+returns c =
+    let first-bad = c .before .before .before .first-bad in
+    format-not-utf8 _ _ _ _ (sym (first-bad .ensures) ∙ c .before .utf8 .given .1)
+
+enum-told : tie.Need-enum-told
+enum-told c = search needs
+
+quote-byte-requires : tie.Need-quote-byte-requires
+quote-byte-requires c κs = search needs
+
+add-spend-literal : tie.Need-add-spend-literal
+add-spend-literal c = search needs
+
+spend-literal-requires : tie.Need-spend-literal-requires
+spend-literal-requires c κs = search needs
+
+returns-2 : tie.Need-returns-2
+returns-2 c =
+    let first-bad = c .before .before .before .before .before .first-bad in
+    let enum-told = c .before .before .before .enum-told in
+    let quote-byte = c .before .before .quote-byte in
+    format-no-room _ _ _ (sym (first-bad .ensures) ∙ enum-told .given .1) _ (quote-byte .ensures) _ (c .before .spend-literal .ensures) (c .if1 .taken)
+
+hex-digits-requires : tie.Need-hex-digits-requires
+hex-digits-requires c κs = search needs
+
+put-literal-requires : tie.Need-put-literal-requires
+put-literal-requires c κs =
+    let hex-digits = c .before .before .hex-digits in
+    let spend-literal = c .before .before .before .before .spend-literal in
+    let if1 = c .before .before .before .if1 in
+    (hex-digits .ensures, room _ _ (spend-literal .ensures) (if1 .left))
+
+same-length : tie.Need-same-length
+same-length c = search needs
+
+returns-3 : tie.Need-returns-3
+returns-3 c =
+    let first-bad = c .before .before .before .before .before .before .before .before .before .before .before .first-bad in
+    let enum-told = c .before .before .before .before .before .before .before .before .before .enum-told in
+    let quote-byte = c .before .before .before .before .before .before .before .before .quote-byte in
+    let spend-literal = c .before .before .before .before .before .before .before .spend-literal in
+    let if1 = c .before .before .before .before .before .before .if1 in
+    let put-literal = c .before .before .put-literal in
+    format-wrote _ _ _ (sym (first-bad .ensures) ∙ enum-told .given .1) _ (quote-byte .ensures) _ (spend-literal .ensures) (if1 .left) (put-literal .ensures)
+
+pub fmt-literal-spec : {M : Type 1} → statement M
+fmt-literal-spec =
+    tie.close
+    (tie.spec
+    first-bad-requires
+    enum-known-utf8
+    returns
+    enum-told
+    quote-byte-requires
+    add-spend-literal
+    spend-literal-requires
+    returns-2
+    hex-digits-requires
+    put-literal-requires
+    same-length
+    returns-3)

@@ -1,0 +1,98 @@
+use Prim.Native.Nat.{_-_}
+use lib.ListN.{length, drop}
+use mathlib.Core.Path.{_≡_, sym, _∙_}
+use native.Mathlib.Omega.{arith}
+use borrow.Author.Needs.{needs}
+use borrow.Author.Tests.{not-true, not-false}
+use Rattle.text.specs.Scans.{sought, later}
+use Rattle.text.proofs.Walks.{later-zero, sought-end}
+use Rattle.literal.specs.Escapes.{escapeLook, badEscape}
+use Rattle.literal.proofs.Escaped.{meant, means-look, plain-look, bad-look}
+use Rattle.literal.proofs.inner.escapes.bad_escape.Statement.{statement}
+use Rattle.literal.proofs.inner.escapes.bad_escape.Tie as tie
+
+abbrev Inv-loop : tie.InvT-loop
+Inv-loop s i₀ i = later i (sought escapeLook 0 (drop i s)) ≡ badEscape s
+
+abbrev μ-loop : tie.MeasureT-loop
+μ-loop s i₀ i = length s - i
+
+loop-holds : tie.Need-loop-holds Inv-loop μ-loop
+unfolding badEscape
+loop-holds c = later-zero _
+
+escape-at-requires : tie.Need-escape-at-requires Inv-loop μ-loop
+escape-at-requires c κs = search needs
+
+enum-told : tie.Need-enum-told Inv-loop μ-loop
+enum-told c = search needs
+
+add-i : tie.Need-add-i Inv-loop μ-loop
+add-i c = omega arith
+
+loop-less : tie.Need-loop-less Inv-loop μ-loop
+loop-less c = omega arith
+
+loop-again : tie.Need-loop-again Inv-loop μ-loop
+loop-again c =
+    let loop-test = c .before .before .before .loop-test in
+    let escape-at = c .before .before .escape-at in
+    let loop = c .before .before .before .before .loop in
+    sym (plain-look _ _ (loop-test .taken) (sym (escape-at .ensures) ∙ c .enum-told .given .1)) ∙ loop .inv
+
+enum-known-escape : tie.Need-enum-known-escape Inv-loop μ-loop
+enum-known-escape c = search needs
+
+is-scalar-requires : tie.Need-is-scalar-requires Inv-loop μ-loop
+is-scalar-requires c κs = search needs
+
+returns : tie.Need-returns Inv-loop μ-loop
+returns c =
+    let loop-test = c .before .before .before .before .before .before .loop-test in
+    let escape-at = c .before .before .before .before .before .escape-at in
+    let escape = c .before .before .before .escape in
+    let loop = c .before .before .before .before .before .before .before .loop in
+    sym (bad-look _ _ (loop-test .taken) _ _ (sym (escape-at .ensures) ∙ escape .given .1) (sym (c .before .is-scalar .ensures) ∙ not-true _ (c .if1 .taken))) ∙ loop .inv
+
+add-i-2 : tie.Need-add-i-2 Inv-loop μ-loop
+add-i-2 c =
+    let escape-at = c .before .before .before .before .before .escape-at in
+    let escape = c .before .before .before .escape in
+    omega (arith, meant _ _ _ (sym (escape-at .ensures) ∙ escape .given .1) .ten)
+
+loop-less-2 : tie.Need-loop-less-2 Inv-loop μ-loop
+loop-less-2 c =
+    let escape-at = c .before .before .before .before .before .escape-at in
+    let escape = c .before .before .before .escape in
+    omega (arith, meant _ _ _ (sym (escape-at .ensures) ∙ escape .given .1) .two)
+
+loop-again-2 : tie.Need-loop-again-2 Inv-loop μ-loop
+loop-again-2 c =
+    let loop-test = c .before .before .before .before .before .before .loop-test in
+    let escape-at = c .before .before .before .before .before .escape-at in
+    let escape = c .before .before .before .escape in
+    let loop = c .before .before .before .before .before .before .before .loop in
+    sym (means-look _ _ (loop-test .taken) _ _ (sym (escape-at .ensures) ∙ escape .given .1) (sym (c .before .is-scalar .ensures) ∙ not-false _ (c .if1 .left))) ∙ loop .inv
+
+returns-2 : tie.Need-returns-2 Inv-loop μ-loop
+returns-2 c = sym (sought-end escapeLook _ _ (c .loop-test .left)) ∙ c .before .loop .inv
+
+pub bad-escape-spec : {M : Type 1} → statement M
+bad-escape-spec =
+    tie.close
+    (tie.spec
+    Inv-loop
+    μ-loop
+    loop-holds
+    escape-at-requires
+    enum-told
+    add-i
+    loop-less
+    loop-again
+    enum-known-escape
+    is-scalar-requires
+    returns
+    add-i-2
+    loop-less-2
+    loop-again-2
+    returns-2)

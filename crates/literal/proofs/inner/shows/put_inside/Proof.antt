@@ -1,0 +1,102 @@
+use Prim.Native.Nat.{_-_}
+use mathlib.Core.Path.{sym, _∙_}
+use lib.ListN.{length, drop}
+use native.Mathlib.Omega.{arith}
+use borrow.Author.Needs.{needs}
+use Rattle.text.specs.Scans.{spelled}
+use Rattle.text.proofs.Walks.{Same, same-start, same-end, spelled-end}
+use Rattle.text.proofs.Decodes.{decoded}
+use Rattle.literal.specs.Literals.{charPiece, inside}
+use Rattle.literal.proofs.Printed.{char-below, shown-turn, shown-skip}
+use Rattle.literal.proofs.Turns.{turn-room, turn-same}
+use Rattle.literal.proofs.inner.shows.put_inside.Statement.{statement}
+use Rattle.literal.proofs.inner.shows.put_inside.Tie as tie
+
+abbrev Inv-loop : tie.InvT-loop
+Inv-loop t s q out₀ at a₀ i₀ out a i = Same out₀ at (inside q s) out a (spelled (charPiece q) 0 (drop i s))
+
+abbrev μ-loop : tie.MeasureT-loop
+μ-loop t s q out₀ at a₀ i₀ out a i = length s - i
+
+loop-holds : tie.Need-loop-holds Inv-loop μ-loop
+unfolding inside
+loop-holds c = same-start _ _ _
+
+char-at-requires : tie.Need-char-at-requires Inv-loop μ-loop
+char-at-requires c κs = search needs
+
+enum-known-sequence : tie.Need-enum-known-sequence Inv-loop μ-loop
+enum-known-sequence c = search needs
+
+put-shown-requires : tie.Need-put-shown-requires Inv-loop μ-loop
+put-shown-requires c κs =
+    let char-at = c .before .before .before .before .char-at in
+    let sequence = c .before .before .sequence in
+    let pre = c .before .before .before .before .before .before .before .before .before .pre in
+    let loop-test = c .before .before .before .before .before .loop-test in
+    let loop = c .before .before .before .before .before .before .loop in
+    let e = sym (char-at .ensures) ∙ sequence .given .1 in
+    (pre .0, (char-below _ _ _ e, turn-room (shown-turn _ _ _ (loop-test .taken) _ _ e) (loop .inv) (pre .1)))
+
+add-i : tie.Need-add-i Inv-loop μ-loop
+add-i c =
+    let char-at = c .before .before .before .before .before .before .before .char-at in
+    let sequence = c .before .before .before .before .before .sequence in
+    omega (arith, decoded _ _ _ (sym (char-at .ensures) ∙ sequence .given .1) .few)
+
+loop-less : tie.Need-loop-less Inv-loop μ-loop
+loop-less c =
+    let char-at = c .before .before .before .before .before .before .before .char-at in
+    let sequence = c .before .before .before .before .before .sequence in
+    omega (arith, decoded _ _ _ (sym (char-at .ensures) ∙ sequence .given .1) .some)
+
+loop-again : tie.Need-loop-again Inv-loop μ-loop
+loop-again c =
+    let loop-test = c .before .before .before .before .before .before .before .before .loop-test in
+    let char-at = c .before .before .before .before .before .before .before .char-at in
+    let sequence = c .before .before .before .before .before .sequence in
+    let loop = c .before .before .before .before .before .before .before .before .before .loop in
+    let put-shown = c .before .before .put-shown in
+    turn-same (shown-turn _ _ _ (loop-test .taken) _ _ (sym (char-at .ensures) ∙ sequence .given .1)) (loop .inv) (put-shown .ensures)
+
+enum-told : tie.Need-enum-told Inv-loop μ-loop
+enum-told c = search needs
+
+add-i-2 : tie.Need-add-i-2 Inv-loop μ-loop
+add-i-2 c = omega arith
+
+loop-less-2 : tie.Need-loop-less-2 Inv-loop μ-loop
+loop-less-2 c = omega arith
+
+loop-again-2 : tie.Need-loop-again-2 Inv-loop μ-loop
+loop-again-2 c =
+    let loop-test = c .before .before .before .loop-test in
+    let char-at = c .before .before .char-at in
+    let loop = c .before .before .before .before .loop in
+    rw (shown-skip _ _ _ (loop-test .taken) (sym (char-at .ensures) ∙ c .enum-told .given .1)) at (loop .inv)
+
+same-length : tie.Need-same-length Inv-loop μ-loop
+same-length c = c .before .loop .inv .long
+
+returns : tie.Need-returns Inv-loop μ-loop
+returns c = same-end (c .before .loop .inv) (spelled-end (charPiece _) _ _ (c .loop-test .left))
+
+pub put-inside-spec : {M : Type 1} → statement M
+put-inside-spec =
+    tie.close
+    (tie.spec
+    Inv-loop
+    μ-loop
+    loop-holds
+    char-at-requires
+    enum-known-sequence
+    put-shown-requires
+    add-i
+    loop-less
+    loop-again
+    enum-told
+    add-i-2
+    loop-less-2
+    loop-again-2
+    same-length
+    returns)

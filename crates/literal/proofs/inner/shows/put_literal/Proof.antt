@@ -1,0 +1,37 @@
+use Rattle.literal.proofs.Printed.{open-room, inside-room, close-room, literal-wrote}
+use borrow.Author.Needs.{needs}
+use Rattle.literal.proofs.inner.shows.put_literal.Statement.{statement}
+use Rattle.literal.proofs.inner.shows.put_literal.Tie as tie
+
+put-byte-requires : tie.Need-put-byte-requires
+put-byte-requires c κs =
+    let pre = c .before .before .before .pre in
+    open-room _ _ (pre .1)
+
+put-inside-requires : tie.Need-put-inside-requires
+put-inside-requires c κs =
+    let pre = c .before .before .before .before .before .before .before .pre in
+    let put-byte = c .before .before .before .put-byte in
+    (pre .0, inside-room _ _ (pre .1) (put-byte .ensures))
+
+put-byte-requires-2 : tie.Need-put-byte-requires-2
+put-byte-requires-2 c κs =
+    let pre = c .before .before .before .before .before .before .before .before .before .before .before .pre in
+    let put-byte = c .before .before .before .before .before .before .before .put-byte in
+    let put-inside = c .before .before .before .put-inside in
+    close-room _ _ (pre .1) (put-byte .ensures) (put-inside .ensures)
+
+same-length : tie.Need-same-length
+same-length c = search needs
+
+returns : tie.Need-returns
+returns c =
+    let put-byte = c .before .before .before .before .before .before .before .before .before .before .put-byte in
+    let put-inside = c .before .before .before .before .before .before .put-inside in
+    let put-byte2 = c .before .before .put-byte2 in
+    literal-wrote _ _ (put-byte .ensures) (put-inside .ensures) (put-byte2 .ensures)
+
+pub put-literal-spec : {M : Type 1} → statement M
+put-literal-spec =
+    tie.close
+    (tie.spec put-byte-requires put-inside-requires put-byte-requires-2 same-length returns)
