@@ -29,9 +29,12 @@ spend-literal-requires c κs = search needs
 
 returns-2 : tie.Need-returns-2
 returns-2 c =
-    let first-bad = c .before .before .before .before .before .first-bad in
-    let enum-told = c .before .before .before .enum-told in
-    let quote-byte = c .before .before .quote-byte in
+    let at-quote-byte = c .before .before in
+    let at-enum-told = at-quote-byte .before in
+    let at-first-bad = at-enum-told .before .before in
+    let first-bad = at-first-bad .first-bad in
+    let enum-told = at-enum-told .enum-told in
+    let quote-byte = at-quote-byte .quote-byte in
     format-no-room _ _ _ (sym (first-bad .ensures) ∙ enum-told .given .1) _ (quote-byte .ensures) _ (c .before .spend-literal .ensures) (c .if1 .taken)
 
 hex-digits-requires : tie.Need-hex-digits-requires
@@ -49,12 +52,18 @@ same-length c = search needs
 
 returns-3 : tie.Need-returns-3
 returns-3 c =
-    let first-bad = c .before .before .before .before .before .before .before .before .before .before .before .first-bad in
-    let enum-told = c .before .before .before .before .before .before .before .before .before .enum-told in
-    let quote-byte = c .before .before .before .before .before .before .before .before .quote-byte in
-    let spend-literal = c .before .before .before .before .before .before .before .spend-literal in
-    let if1 = c .before .before .before .before .before .before .if1 in
-    let put-literal = c .before .before .put-literal in
+    let at-put-literal = c .before .before in
+    let at-if1 = at-put-literal .before .before .before .before in
+    let at-spend-literal = at-if1 .before in
+    let at-quote-byte = at-spend-literal .before in
+    let at-enum-told = at-quote-byte .before in
+    let at-first-bad = at-enum-told .before .before in
+    let first-bad = at-first-bad .first-bad in
+    let enum-told = at-enum-told .enum-told in
+    let quote-byte = at-quote-byte .quote-byte in
+    let spend-literal = at-spend-literal .spend-literal in
+    let if1 = at-if1 .if1 in
+    let put-literal = at-put-literal .put-literal in
     format-wrote _ _ _ (sym (first-bad .ensures) ∙ enum-told .given .1) _ (quote-byte .ensures) _ (spend-literal .ensures) (if1 .left) (put-literal .ensures)
 
 pub fmt-literal-spec : {M : Type 1} → statement M

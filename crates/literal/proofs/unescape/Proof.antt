@@ -26,9 +26,12 @@ enum-known-stray c = search needs
 
 returns-2 : tie.Need-returns-2
 returns-2 c =
-    let first-bad = c .before .before .before .before .before .before .first-bad in
-    let enum-told = c .before .before .before .before .enum-told in
-    let no-escape = c .before .before .before .no-escape in
+    let at-no-escape = c .before .before .before in
+    let at-enum-told = at-no-escape .before in
+    let at-first-bad = at-enum-told .before .before in
+    let first-bad = at-first-bad .first-bad in
+    let enum-told = at-enum-told .enum-told in
+    let no-escape = at-no-escape .no-escape in
     unescape-no-escape _ _ _ (sym (first-bad .ensures) ∙ enum-told .given .1) (sym (no-escape .ensures) ∙ c .before .stray .given .1)
 
 enum-told-2 : tie.Need-enum-told-2
@@ -42,11 +45,16 @@ enum-known-bad c = search needs
 
 returns-3 : tie.Need-returns-3
 returns-3 c =
-    let first-bad = c .before .before .before .before .before .before .before .before .before .first-bad in
-    let enum-told = c .before .before .before .before .before .before .before .enum-told in
-    let no-escape = c .before .before .before .before .before .before .no-escape in
-    let enum-told2 = c .before .before .before .before .enum-told2 in
-    let bad-escape = c .before .before .before .bad-escape in
+    let at-bad-escape = c .before .before .before in
+    let at-enum-told2 = at-bad-escape .before in
+    let at-no-escape = at-enum-told2 .before .before in
+    let at-enum-told = at-no-escape .before in
+    let at-first-bad = at-enum-told .before .before in
+    let first-bad = at-first-bad .first-bad in
+    let enum-told = at-enum-told .enum-told in
+    let no-escape = at-no-escape .no-escape in
+    let enum-told2 = at-enum-told2 .enum-told2 in
+    let bad-escape = at-bad-escape .bad-escape in
     let u = sym (first-bad .ensures) ∙ enum-told .given .1 in
     let e = sym (no-escape .ensures) ∙ enum-told2 .given .1 in
     unescape-not-scalar _ _ _ u e (sym (bad-escape .ensures) ∙ c .before .bad .given .1)
@@ -62,12 +70,18 @@ spend-unescaped-requires c κs = search needs
 
 returns-4 : tie.Need-returns-4
 returns-4 c =
-    let first-bad = c .before .before .before .before .before .before .before .before .before .before .first-bad in
-    let enum-told = c .before .before .before .before .before .before .before .before .enum-told in
-    let no-escape = c .before .before .before .before .before .before .before .no-escape in
-    let enum-told2 = c .before .before .before .before .before .enum-told2 in
-    let bad-escape = c .before .before .before .before .bad-escape in
-    let enum-told3 = c .before .before .enum-told3 in
+    let at-enum-told3 = c .before .before in
+    let at-bad-escape = at-enum-told3 .before .before in
+    let at-enum-told2 = at-bad-escape .before in
+    let at-no-escape = at-enum-told2 .before .before in
+    let at-enum-told = at-no-escape .before in
+    let at-first-bad = at-enum-told .before .before in
+    let first-bad = at-first-bad .first-bad in
+    let enum-told = at-enum-told .enum-told in
+    let no-escape = at-no-escape .no-escape in
+    let enum-told2 = at-enum-told2 .enum-told2 in
+    let bad-escape = at-bad-escape .bad-escape in
+    let enum-told3 = at-enum-told3 .enum-told3 in
     let u = sym (first-bad .ensures) ∙ enum-told .given .1 in
     let e = sym (no-escape .ensures) ∙ enum-told2 .given .1 in
     let b = sym (bad-escape .ensures) ∙ enum-told3 .given .1 in
@@ -75,9 +89,12 @@ returns-4 c =
 
 put-unescaped-requires : tie.Need-put-unescaped-requires
 put-unescaped-requires c κs =
-    let bad-escape = c .before .before .before .before .before .bad-escape in
-    let enum-told3 = c .before .before .before .enum-told3 in
-    let spend-unescaped = c .before .before .spend-unescaped in
+    let at-spend-unescaped = c .before .before in
+    let at-enum-told3 = at-spend-unescaped .before in
+    let at-bad-escape = at-enum-told3 .before .before in
+    let bad-escape = at-bad-escape .bad-escape in
+    let enum-told3 = at-enum-told3 .enum-told3 in
+    let spend-unescaped = at-spend-unescaped .spend-unescaped in
     let b = sym (bad-escape .ensures) ∙ enum-told3 .given .1 in
     (b, room _ _ (spend-unescaped .ensures) (c .before .if1 .left))
 
@@ -86,15 +103,24 @@ same-length c = search needs
 
 returns-5 : tie.Need-returns-5
 returns-5 c =
-    let first-bad = c .before .before .before .before .before .before .before .before .before .before .before .before .before .before .first-bad in
-    let enum-told = c .before .before .before .before .before .before .before .before .before .before .before .before .enum-told in
-    let no-escape = c .before .before .before .before .before .before .before .before .before .before .before .no-escape in
-    let enum-told2 = c .before .before .before .before .before .before .before .before .before .enum-told2 in
-    let bad-escape = c .before .before .before .before .before .before .before .before .bad-escape in
-    let enum-told3 = c .before .before .before .before .before .before .enum-told3 in
-    let spend-unescaped = c .before .before .before .before .before .spend-unescaped in
-    let if1 = c .before .before .before .before .if1 in
-    let put-unescaped = c .before .before .put-unescaped in
+    let at-put-unescaped = c .before .before in
+    let at-if1 = at-put-unescaped .before .before in
+    let at-spend-unescaped = at-if1 .before in
+    let at-enum-told3 = at-spend-unescaped .before in
+    let at-bad-escape = at-enum-told3 .before .before in
+    let at-enum-told2 = at-bad-escape .before in
+    let at-no-escape = at-enum-told2 .before .before in
+    let at-enum-told = at-no-escape .before in
+    let at-first-bad = at-enum-told .before .before in
+    let first-bad = at-first-bad .first-bad in
+    let enum-told = at-enum-told .enum-told in
+    let no-escape = at-no-escape .no-escape in
+    let enum-told2 = at-enum-told2 .enum-told2 in
+    let bad-escape = at-bad-escape .bad-escape in
+    let enum-told3 = at-enum-told3 .enum-told3 in
+    let spend-unescaped = at-spend-unescaped .spend-unescaped in
+    let if1 = at-if1 .if1 in
+    let put-unescaped = at-put-unescaped .put-unescaped in
     let u = sym (first-bad .ensures) ∙ enum-told .given .1 in
     let e = sym (no-escape .ensures) ∙ enum-told2 .given .1 in
     let b = sym (bad-escape .ensures) ∙ enum-told3 .given .1 in

@@ -30,9 +30,12 @@ pair-at-requires c κs = search needs
 returns-2 : tie.Need-returns-2
 unfolding afterOf
 returns-2 c =
-    let if1 = c .before .before .before .before .before .before .if1 in
-    let simple-of = c .before .before .before .before .simple-of in
-    let enum-told = c .before .before .enum-told in
+    let at-enum-told = c .before .before in
+    let at-simple-of = at-enum-told .before .before in
+    let at-if1 = at-simple-of .before .before in
+    let if1 = at-if1 .if1 in
+    let simple-of = at-simple-of .simple-of in
+    let enum-told = at-enum-told .enum-told in
     rw (at-byte _ _ (if1 .left), ← simple-of .ensures, enum-told .given .1, c .before .if2 .taken) (c .pair-at .ensures)
 
 add-braced-at : tie.Need-add-braced-at
@@ -44,25 +47,34 @@ braced-at-requires c κs = search needs
 returns-3 : tie.Need-returns-3
 unfolding afterOf
 returns-3 c =
-    let if1 = c .before .before .before .before .before .before .before .if1 in
-    let simple-of = c .before .before .before .before .before .simple-of in
-    let enum-told = c .before .before .before .enum-told in
-    let if2 = c .before .before .if2 in
+    let at-if2 = c .before .before in
+    let at-enum-told = at-if2 .before in
+    let at-simple-of = at-enum-told .before .before in
+    let at-if1 = at-simple-of .before .before in
+    let if1 = at-if1 .if1 in
+    let simple-of = at-simple-of .simple-of in
+    let enum-told = at-enum-told .enum-told in
+    let if2 = at-if2 .if2 in
     rw (at-byte _ _ (if1 .left), ← simple-of .ensures, enum-told .given .1, ne-eqb _ 120 (if2 .left), c .before .if3 .taken) (c .braced-at .ensures)
 
 returns-4 : tie.Need-returns-4
 unfolding afterOf
 returns-4 c =
-    let if1 = c .before .before .before .before .before .if1 in
-    let simple-of = c .before .before .before .simple-of in
+    let at-simple-of = c .before .before .before in
+    let at-if1 = at-simple-of .before .before in
+    let if1 = at-if1 .if1 in
+    let simple-of = at-simple-of .simple-of in
     rw (at-byte _ _ (if1 .left), ← simple-of .ensures, c .before .v .given .1)
 
 returns-5 : tie.Need-returns-5
 unfolding afterOf
 returns-5 c =
-    let if1 = c .before .before .before .before .before .before .if1 in
-    let simple-of = c .before .before .before .before .simple-of in
-    let enum-told = c .before .before .enum-told in
+    let at-enum-told = c .before .before in
+    let at-simple-of = at-enum-told .before .before in
+    let at-if1 = at-simple-of .before .before in
+    let if1 = at-if1 .if1 in
+    let simple-of = at-simple-of .simple-of in
+    let enum-told = at-enum-told .enum-told in
     rw (at-byte _ _ (if1 .left), ← simple-of .ensures, enum-told .given .1, ne-eqb _ 120 (c .before .if2 .left), ne-eqb _ 117 (c .if3 .left))
 
 pub after-at-spec : {M : Type 1} → statement M

@@ -48,10 +48,14 @@ is-scalar-requires c κs = search needs
 
 returns : tie.Need-returns Inv-loop μ-loop
 returns c =
-    let loop-test = c .before .before .before .before .before .before .loop-test in
-    let escape-at = c .before .before .before .before .before .escape-at in
-    let escape = c .before .before .before .escape in
-    let loop = c .before .before .before .before .before .before .before .loop in
+    let at-escape = c .before .before .before in
+    let at-escape-at = at-escape .before .before in
+    let at-loop-test = at-escape-at .before in
+    let at-loop = at-loop-test .before in
+    let loop-test = at-loop-test .loop-test in
+    let escape-at = at-escape-at .escape-at in
+    let escape = at-escape .escape in
+    let loop = at-loop .loop in
     sym (bad-look _ _ (loop-test .taken) _ _ (sym (escape-at .ensures) ∙ escape .given .1) (sym (c .before .is-scalar .ensures) ∙ not-true _ (c .if1 .taken))) ∙ loop .inv
 
 add-i-2 : tie.Need-add-i-2 Inv-loop μ-loop
@@ -68,10 +72,14 @@ loop-less-2 c =
 
 loop-again-2 : tie.Need-loop-again-2 Inv-loop μ-loop
 loop-again-2 c =
-    let loop-test = c .before .before .before .before .before .before .loop-test in
-    let escape-at = c .before .before .before .before .before .escape-at in
-    let escape = c .before .before .before .escape in
-    let loop = c .before .before .before .before .before .before .before .loop in
+    let at-escape = c .before .before .before in
+    let at-escape-at = at-escape .before .before in
+    let at-loop-test = at-escape-at .before in
+    let at-loop = at-loop-test .before in
+    let loop-test = at-loop-test .loop-test in
+    let escape-at = at-escape-at .escape-at in
+    let escape = at-escape .escape in
+    let loop = at-loop .loop in
     sym (means-look _ _ (loop-test .taken) _ _ (sym (escape-at .ensures) ∙ escape .given .1) (sym (c .before .is-scalar .ensures) ∙ not-false _ (c .if1 .left))) ∙ loop .inv
 
 returns-2 : tie.Need-returns-2 Inv-loop μ-loop

@@ -40,9 +40,12 @@ add-e c = omega (arith, digits-count _ _ _ (c .before .digits-at .ensures))
 returns-4 : tie.Need-returns-4
 unfolding bracedOf
 returns-4 c =
-    let if1 = c .before .before .before .before .before .if1 in
-    let if2 = c .before .before .before .if2 in
-    let digits-at = c .before .before .digits-at in
+    let at-digits-at = c .before .before in
+    let at-if2 = at-digits-at .before in
+    let at-if1 = at-if2 .before .before in
+    let if1 = at-if1 .if1 in
+    let if2 = at-if2 .if2 in
+    let digits-at = at-digits-at .digits-at in
     rw (at-byte _ _ (if1 .left), if2 .left, ← digits-at .ensures, le-leb 2 _ (c .before .if3 .left), drop-drop, at-end _ _ (c .if4 .taken))
 
 shared-slice-read-if5 : tie.Need-shared-slice-read-if5
@@ -51,11 +54,16 @@ shared-slice-read-if5 c = search needs
 returns-5 : tie.Need-returns-5
 unfolding bracedOf
 returns-5 c =
-    let if1 = c .before .before .before .before .before .before .before .if1 in
-    let if2 = c .before .before .before .before .before .if2 in
-    let digits-at = c .before .before .before .before .digits-at in
-    let if3 = c .before .before .before .if3 in
-    let if4 = c .before .before .if4 in
+    let at-if4 = c .before .before in
+    let at-if3 = at-if4 .before in
+    let at-digits-at = at-if3 .before in
+    let at-if2 = at-digits-at .before in
+    let at-if1 = at-if2 .before .before in
+    let if1 = at-if1 .if1 in
+    let if2 = at-if2 .if2 in
+    let digits-at = at-digits-at .digits-at in
+    let if3 = at-if3 .if3 in
+    let if4 = at-if4 .if4 in
     rw (at-byte _ _ (if1 .left), if2 .left, ← digits-at .ensures, le-leb 2 _ (if3 .left), drop-drop, at-byte _ _ (if4 .left), ne-eqb _ 125 (c .if5 .taken))
 
 add-t7 : tie.Need-add-t7
@@ -66,11 +74,16 @@ add-t7 c =
 returns-6 : tie.Need-returns-6
 unfolding bracedOf
 returns-6 c =
-    let if1 = c .before .before .before .before .before .before .before .if1 in
-    let if2 = c .before .before .before .before .before .if2 in
-    let digits-at = c .before .before .before .before .digits-at in
-    let if3 = c .before .before .before .if3 in
-    let if4 = c .before .before .if4 in
+    let at-if4 = c .before .before in
+    let at-if3 = at-if4 .before in
+    let at-digits-at = at-if3 .before in
+    let at-if2 = at-digits-at .before in
+    let at-if1 = at-if2 .before .before in
+    let if1 = at-if1 .if1 in
+    let if2 = at-if2 .if2 in
+    let digits-at = at-digits-at .digits-at in
+    let if3 = at-if3 .if3 in
+    let if4 = at-if4 .if4 in
     rw (at-byte _ _ (if1 .left), if2 .left, ← digits-at .ensures, le-leb 2 _ (if3 .left), drop-drop, at-byte _ _ (if4 .left), c .if5 .left)
 
 pub braced-at-spec : {M : Type 1} → statement M

@@ -36,10 +36,14 @@ enum-told c = search needs
 
 returns-2 : tie.Need-returns-2 Inv-loop μ-loop
 returns-2 c =
-    let loop-test = c .before .before .before .before .before .loop-test in
-    let if1 = c .before .before .before .before .if1 in
-    let hex-of = c .before .before .hex-of in
-    let loop = c .before .before .before .before .before .before .loop in
+    let at-hex-of = c .before .before in
+    let at-if1 = at-hex-of .before .before in
+    let at-loop-test = at-if1 .before in
+    let at-loop = at-loop-test .before in
+    let loop-test = at-loop-test .loop-test in
+    let if1 = at-if1 .if1 in
+    let hex-of = at-hex-of .hex-of in
+    let loop = at-loop .loop in
     sym (digits-stop _ _ _ _ _ (loop-test .taken) (if1 .left) (sym (hex-of .ensures) ∙ c .enum-told .given .1)) ∙ loop .inv .0
 
 mul-v : tie.Need-mul-v Inv-loop μ-loop

@@ -31,10 +31,14 @@ shared-slice-read-if1 c = omega arith
 
 returns : tie.Need-returns Inv-loop μ-loop
 returns c =
-    let loop-test = c .before .before .before .before .before .loop-test in
-    let escape-at = c .before .before .before .before .escape-at in
-    let enum-told = c .before .before .enum-told in
-    let loop = c .before .before .before .before .before .before .loop in
+    let at-enum-told = c .before .before in
+    let at-escape-at = at-enum-told .before .before in
+    let at-loop-test = at-escape-at .before in
+    let at-loop = at-loop-test .before in
+    let loop-test = at-loop-test .loop-test in
+    let escape-at = at-escape-at .escape-at in
+    let enum-told = at-enum-told .enum-told in
+    let loop = at-loop .loop in
     sym (slash-stray _ _ (loop-test .taken) (sym (escape-at .ensures) ∙ enum-told .given .1) (c .if1 .taken)) ∙ loop .inv
 
 add-i : tie.Need-add-i Inv-loop μ-loop
@@ -45,10 +49,14 @@ loop-less c = omega arith
 
 loop-again : tie.Need-loop-again Inv-loop μ-loop
 loop-again c =
-    let loop-test = c .before .before .before .before .before .loop-test in
-    let escape-at = c .before .before .before .before .escape-at in
-    let enum-told = c .before .before .enum-told in
-    let loop = c .before .before .before .before .before .before .loop in
+    let at-enum-told = c .before .before in
+    let at-escape-at = at-enum-told .before .before in
+    let at-loop-test = at-escape-at .before in
+    let at-loop = at-loop-test .before in
+    let loop-test = at-loop-test .loop-test in
+    let escape-at = at-escape-at .escape-at in
+    let enum-told = at-enum-told .enum-told in
+    let loop = at-loop .loop in
     sym (other-stray _ _ (loop-test .taken) (sym (escape-at .ensures) ∙ enum-told .given .1) (c .if1 .left)) ∙ loop .inv
 
 enum-known-escape : tie.Need-enum-known-escape Inv-loop μ-loop
@@ -66,9 +74,12 @@ loop-less-2 c =
 
 loop-again-2 : tie.Need-loop-again-2 Inv-loop μ-loop
 loop-again-2 c =
-    let loop-test = c .before .before .before .before .loop-test in
-    let escape-at = c .before .before .before .escape-at in
-    let loop = c .before .before .before .before .before .loop in
+    let at-escape-at = c .before .before .before in
+    let at-loop-test = at-escape-at .before in
+    let at-loop = at-loop-test .before in
+    let loop-test = at-loop-test .loop-test in
+    let escape-at = at-escape-at .escape-at in
+    let loop = at-loop .loop in
     sym (means-stray _ _ (loop-test .taken) _ _ (sym (escape-at .ensures) ∙ c .before .escape .given .1)) ∙ loop .inv
 
 returns-2 : tie.Need-returns-2 Inv-loop μ-loop

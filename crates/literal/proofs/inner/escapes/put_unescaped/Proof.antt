@@ -36,11 +36,16 @@ shared-slice-read-put-byte c = omega arith
 
 put-byte-requires : tie.Need-put-byte-requires Inv-loop μ-loop
 put-byte-requires c κs =
-    let loop-test = c .before .before .before .before .before .loop-test in
-    let escape-at = c .before .before .before .before .escape-at in
-    let enum-told = c .before .before .enum-told in
-    let loop = c .before .before .before .before .before .before .loop in
-    let pre = c .before .before .before .before .before .before .before .before .before .pre in
+    let at-enum-told = c .before .before in
+    let at-escape-at = at-enum-told .before .before in
+    let at-loop-test = at-escape-at .before in
+    let at-loop = at-loop-test .before in
+    let start = at-loop .before .before .before in
+    let loop-test = at-loop-test .loop-test in
+    let escape-at = at-escape-at .escape-at in
+    let enum-told = at-enum-told .enum-told in
+    let loop = at-loop .loop in
+    let pre = start .pre in
     turn-room (plain-turn _ _ (loop-test .taken) (sym (escape-at .ensures) ∙ enum-told .given .1)) (loop .inv .0) (pre .1)
 
 add-i : tie.Need-add-i Inv-loop μ-loop
@@ -51,11 +56,16 @@ loop-less c = omega arith
 
 loop-again : tie.Need-loop-again Inv-loop μ-loop
 loop-again c =
-    let escape-at = c .before .before .before .before .before .before .before .escape-at in
-    let enum-told = c .before .before .before .before .before .enum-told in
-    let loop-test = c .before .before .before .before .before .before .before .before .loop-test in
-    let loop = c .before .before .before .before .before .before .before .before .before .loop in
-    let put-byte = c .before .before .put-byte in
+    let at-put-byte = c .before .before in
+    let at-enum-told = at-put-byte .before .before .before in
+    let at-escape-at = at-enum-told .before .before in
+    let at-loop-test = at-escape-at .before in
+    let at-loop = at-loop-test .before in
+    let escape-at = at-escape-at .escape-at in
+    let enum-told = at-enum-told .enum-told in
+    let loop-test = at-loop-test .loop-test in
+    let loop = at-loop .loop in
+    let put-byte = at-put-byte .put-byte in
     let e = sym (escape-at .ensures) ∙ enum-told .given .1 in
     let l = loop-test .taken in
     (turn-same (plain-turn _ _ l e) (loop .inv .0) (put-byte .ensures), sym (plain-look _ _ l e) ∙ loop .inv .1)
@@ -65,11 +75,16 @@ enum-known-escape c = search needs
 
 put-char-requires : tie.Need-put-char-requires Inv-loop μ-loop
 put-char-requires c κs =
-    let escape-at = c .before .before .before .before .escape-at in
-    let escape = c .before .before .escape in
-    let loop-test = c .before .before .before .before .before .loop-test in
-    let loop = c .before .before .before .before .before .before .loop in
-    let pre = c .before .before .before .before .before .before .before .before .before .pre in
+    let at-escape = c .before .before in
+    let at-escape-at = at-escape .before .before in
+    let at-loop-test = at-escape-at .before in
+    let at-loop = at-loop-test .before in
+    let start = at-loop .before .before .before in
+    let escape-at = at-escape-at .escape-at in
+    let escape = at-escape .escape in
+    let loop-test = at-loop-test .loop-test in
+    let loop = at-loop .loop in
+    let pre = start .pre in
     let e = sym (escape-at .ensures) ∙ escape .given .1 in
     let l = loop-test .taken in
     (scalar-below _ (good-scalar _ _ l _ _ (loop .inv .1) e), turn-room (means-turn _ _ l _ _ e) (loop .inv .0) (pre .1))
@@ -88,11 +103,16 @@ loop-less-2 c =
 
 loop-again-2 : tie.Need-loop-again-2 Inv-loop μ-loop
 loop-again-2 c =
-    let escape-at = c .before .before .before .before .before .before .before .escape-at in
-    let escape = c .before .before .before .before .before .escape in
-    let loop-test = c .before .before .before .before .before .before .before .before .loop-test in
-    let loop = c .before .before .before .before .before .before .before .before .before .loop in
-    let put-char = c .before .before .put-char in
+    let at-put-char = c .before .before in
+    let at-escape = at-put-char .before .before .before in
+    let at-escape-at = at-escape .before .before in
+    let at-loop-test = at-escape-at .before in
+    let at-loop = at-loop-test .before in
+    let escape-at = at-escape-at .escape-at in
+    let escape = at-escape .escape in
+    let loop-test = at-loop-test .loop-test in
+    let loop = at-loop .loop in
+    let put-char = at-put-char .put-char in
     let e = sym (escape-at .ensures) ∙ escape .given .1 in
     let l = loop-test .taken in
     let g = good-scalar _ _ l _ _ (loop .inv .1) e in

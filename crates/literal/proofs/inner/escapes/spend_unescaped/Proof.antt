@@ -40,9 +40,12 @@ loop-less c = omega arith
 loop-again : tie.Need-loop-again Inv-loop μ-loop
 unfolding spent
 loop-again c =
-    let loop-test = c .before .before .before .before .loop-test in
-    let escape-at = c .before .before .before .escape-at in
-    let loop = c .before .before .before .before .before .loop in
+    let at-escape-at = c .before .before .before in
+    let at-loop-test = at-escape-at .before in
+    let at-loop = at-loop-test .before in
+    let loop-test = at-loop-test .loop-test in
+    let escape-at = at-escape-at .escape-at in
+    let loop = at-loop .loop in
     rw (c .spend .ensures) (turn-spent (plain-turn _ _ (loop-test .taken) (sym (escape-at .ensures) ∙ c .before .enum-told .given .1)) _ ∙ loop .inv)
 
 enum-known-escape : tie.Need-enum-known-escape Inv-loop μ-loop
@@ -65,10 +68,14 @@ loop-less-2 c =
 
 loop-again-2 : tie.Need-loop-again-2 Inv-loop μ-loop
 loop-again-2 c =
-    let loop-test = c .before .before .before .before .before .loop-test in
-    let escape-at = c .before .before .before .before .escape-at in
-    let escape = c .before .before .escape in
-    let loop = c .before .before .before .before .before .before .loop in
+    let at-escape = c .before .before in
+    let at-escape-at = at-escape .before .before in
+    let at-loop-test = at-escape-at .before in
+    let at-loop = at-loop-test .before in
+    let loop-test = at-loop-test .loop-test in
+    let escape-at = at-escape-at .escape-at in
+    let escape = at-escape .escape in
+    let loop = at-loop .loop in
     rw (c .spend-char .ensures) (turn-spent (means-turn _ _ (loop-test .taken) _ _ (sym (escape-at .ensures) ∙ escape .given .1)) _ ∙ loop .inv)
 
 returns : tie.Need-returns Inv-loop μ-loop

@@ -30,11 +30,16 @@ enum-known-sequence c = search needs
 
 put-shown-requires : tie.Need-put-shown-requires Inv-loop μ-loop
 put-shown-requires c κs =
-    let char-at = c .before .before .before .before .char-at in
-    let sequence = c .before .before .sequence in
-    let pre = c .before .before .before .before .before .before .before .before .before .pre in
-    let loop-test = c .before .before .before .before .before .loop-test in
-    let loop = c .before .before .before .before .before .before .loop in
+    let at-sequence = c .before .before in
+    let at-char-at = at-sequence .before .before in
+    let at-loop-test = at-char-at .before in
+    let at-loop = at-loop-test .before in
+    let start = at-loop .before .before .before in
+    let char-at = at-char-at .char-at in
+    let sequence = at-sequence .sequence in
+    let pre = start .pre in
+    let loop-test = at-loop-test .loop-test in
+    let loop = at-loop .loop in
     let e = sym (char-at .ensures) ∙ sequence .given .1 in
     (pre .0, (char-below _ _ _ e, turn-room (shown-turn _ _ _ (loop-test .taken) _ _ e) (loop .inv) (pre .1)))
 
@@ -52,11 +57,16 @@ loop-less c =
 
 loop-again : tie.Need-loop-again Inv-loop μ-loop
 loop-again c =
-    let loop-test = c .before .before .before .before .before .before .before .before .loop-test in
-    let char-at = c .before .before .before .before .before .before .before .char-at in
-    let sequence = c .before .before .before .before .before .sequence in
-    let loop = c .before .before .before .before .before .before .before .before .before .loop in
-    let put-shown = c .before .before .put-shown in
+    let at-put-shown = c .before .before in
+    let at-sequence = at-put-shown .before .before .before in
+    let at-char-at = at-sequence .before .before in
+    let at-loop-test = at-char-at .before in
+    let at-loop = at-loop-test .before in
+    let loop-test = at-loop-test .loop-test in
+    let char-at = at-char-at .char-at in
+    let sequence = at-sequence .sequence in
+    let loop = at-loop .loop in
+    let put-shown = at-put-shown .put-shown in
     turn-same (shown-turn _ _ _ (loop-test .taken) _ _ (sym (char-at .ensures) ∙ sequence .given .1)) (loop .inv) (put-shown .ensures)
 
 enum-told : tie.Need-enum-told Inv-loop μ-loop

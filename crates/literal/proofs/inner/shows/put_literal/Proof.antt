@@ -10,15 +10,20 @@ put-byte-requires c κs =
 
 put-inside-requires : tie.Need-put-inside-requires
 put-inside-requires c κs =
-    let pre = c .before .before .before .before .before .before .before .pre in
-    let put-byte = c .before .before .before .put-byte in
+    let at-put-byte = c .before .before .before in
+    let start = at-put-byte .before .before .before .before in
+    let pre = start .pre in
+    let put-byte = at-put-byte .put-byte in
     (pre .0, inside-room _ _ (pre .1) (put-byte .ensures))
 
 put-byte-requires-2 : tie.Need-put-byte-requires-2
 put-byte-requires-2 c κs =
-    let pre = c .before .before .before .before .before .before .before .before .before .before .before .pre in
-    let put-byte = c .before .before .before .before .before .before .before .put-byte in
-    let put-inside = c .before .before .before .put-inside in
+    let at-put-inside = c .before .before .before in
+    let at-put-byte = at-put-inside .before .before .before .before in
+    let start = at-put-byte .before .before .before .before in
+    let pre = start .pre in
+    let put-byte = at-put-byte .put-byte in
+    let put-inside = at-put-inside .put-inside in
     close-room _ _ (pre .1) (put-byte .ensures) (put-inside .ensures)
 
 same-length : tie.Need-same-length
@@ -26,9 +31,12 @@ same-length c = search needs
 
 returns : tie.Need-returns
 returns c =
-    let put-byte = c .before .before .before .before .before .before .before .before .before .before .put-byte in
-    let put-inside = c .before .before .before .before .before .before .put-inside in
-    let put-byte2 = c .before .before .put-byte2 in
+    let at-put-byte2 = c .before .before in
+    let at-put-inside = at-put-byte2 .before .before .before .before in
+    let at-put-byte = at-put-inside .before .before .before .before in
+    let put-byte = at-put-byte .put-byte in
+    let put-inside = at-put-inside .put-inside in
+    let put-byte2 = at-put-byte2 .put-byte2 in
     literal-wrote _ _ (put-byte .ensures) (put-inside .ensures) (put-byte2 .ensures)
 
 pub put-literal-spec : {M : Type 1} → statement M

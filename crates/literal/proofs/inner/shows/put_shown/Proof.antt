@@ -36,8 +36,10 @@ enum-told c = search needs
 
 put-char-requires : tie.Need-put-char-requires
 put-char-requires c κs =
-    let pre = c .before .before .before .before .before .pre in
-    let show-of = c .before .before .before .show-of in
+    let at-show-of = c .before .before .before in
+    let start = at-show-of .before .before in
+    let pre = start .pre in
+    let show-of = at-show-of .show-of in
     (pre .1 .0, rw (shown-bare _ _ (sym (show-of .ensures) ∙ c .before .enum-told .given .1)) at (pre .1 .1))
 
 enum-told-2 : tie.Need-enum-told-2
@@ -75,19 +77,27 @@ add-put-hex c = search needs
 
 put-hex-requires : tie.Need-put-hex-requires
 put-hex-requires c κs =
-    let show-of = c .before .before .before .before .show-of in
-    let enum-told2 = c .before .before .enum-told2 in
-    let pre = c .before .before .before .before .before .before .pre in
+    let at-enum-told2 = c .before .before in
+    let at-show-of = at-enum-told2 .before .before in
+    let start = at-show-of .before .before in
+    let show-of = at-show-of .show-of in
+    let enum-told2 = at-enum-told2 .enum-told2 in
+    let pre = start .pre in
     let e = shown-hex _ _ _ (sym (show-of .ensures) ∙ enum-told2 .given .1) (c .before .hex-count .ensures) in
     (pre .0, digits-room _ _ (pre .1 .1) e (wrote-three _ _ _ _ _))
 
 put-byte-requires : tie.Need-put-byte-requires
 put-byte-requires c κs =
-    let show-of = c .before .before .before .before .before .before .before .before .show-of in
-    let enum-told2 = c .before .before .before .before .before .before .enum-told2 in
-    let hex-count = c .before .before .before .before .before .hex-count in
-    let pre = c .before .before .before .before .before .before .before .before .before .before .pre in
-    let put-hex = c .before .before .before .put-hex in
+    let at-put-hex = c .before .before .before in
+    let at-hex-count = at-put-hex .before .before in
+    let at-enum-told2 = at-hex-count .before in
+    let at-show-of = at-enum-told2 .before .before in
+    let start = at-show-of .before .before in
+    let show-of = at-show-of .show-of in
+    let enum-told2 = at-enum-told2 .enum-told2 in
+    let hex-count = at-hex-count .hex-count in
+    let pre = start .pre in
+    let put-hex = at-put-hex .put-hex in
     let e = shown-hex _ _ _ (sym (show-of .ensures) ∙ enum-told2 .given .1) (hex-count .ensures) in
     brace-room _ _ (pre .1 .1) e (wrote-three _ _ _ _ _) (put-hex .ensures)
 
@@ -104,24 +114,34 @@ same-length-2 c = search needs
 
 returns-2 : tie.Need-returns-2
 returns-2 c =
-    let show-of = c .before .before .before .before .before .before .show-of in
-    let enum-told = c .before .before .before .before .enum-told in
-    let put-char = c .before .before .put-char in
+    let at-put-char = c .before .before in
+    let at-enum-told = at-put-char .before .before in
+    let at-show-of = at-enum-told .before .before in
+    let show-of = at-show-of .show-of in
+    let enum-told = at-enum-told .enum-told in
+    let put-char = at-put-char .put-char in
     rw (shown-bare _ _ (sym (show-of .ensures) ∙ enum-told .given .1)) (put-char .ensures)
 
 same-length-3 : tie.Need-same-length-3
 same-length-3 c =
-    let put-byte = c .before .before .put-byte in
-    let put-hex = c .before .before .before .before .before .before .put-hex in
+    let at-put-byte = c .before .before in
+    let at-put-hex = at-put-byte .before .before .before .before in
+    let put-byte = at-put-byte .put-byte in
+    let put-hex = at-put-hex .put-hex in
     wrote-length (put-byte .ensures) ∙ (wrote-length (put-hex .ensures) ∙ simp length-set)
 
 returns-3 : tie.Need-returns-3
 returns-3 c =
-    let show-of = c .before .before .before .before .before .before .before .before .before .before .before .show-of in
-    let enum-told2 = c .before .before .before .before .before .before .before .before .before .enum-told2 in
-    let hex-count = c .before .before .before .before .before .before .before .before .hex-count in
-    let put-hex = c .before .before .before .before .before .before .put-hex in
-    let put-byte = c .before .before .put-byte in
+    let at-put-byte = c .before .before in
+    let at-put-hex = at-put-byte .before .before .before .before in
+    let at-hex-count = at-put-hex .before .before in
+    let at-enum-told2 = at-hex-count .before in
+    let at-show-of = at-enum-told2 .before .before in
+    let show-of = at-show-of .show-of in
+    let enum-told2 = at-enum-told2 .enum-told2 in
+    let hex-count = at-hex-count .hex-count in
+    let put-hex = at-put-hex .put-hex in
+    let put-byte = at-put-byte .put-byte in
     let e = shown-hex _ _ _ (sym (show-of .ensures) ∙ enum-told2 .given .1) (hex-count .ensures) in
     rw e (wrote-then (wrote-three _ _ _ _ _) (wrote-then (put-hex .ensures) (put-byte .ensures)))
 

@@ -48,10 +48,14 @@ loop-less c =
 
 loop-again : tie.Need-loop-again Inv-loop μ-loop
 loop-again c =
-    let loop-test = c .before .before .before .before .before .loop-test in
-    let char-at = c .before .before .before .before .char-at in
-    let sequence = c .before .before .sequence in
-    let loop = c .before .before .before .before .before .before .loop in
+    let at-sequence = c .before .before in
+    let at-char-at = at-sequence .before .before in
+    let at-loop-test = at-char-at .before in
+    let at-loop = at-loop-test .before in
+    let loop-test = at-loop-test .loop-test in
+    let char-at = at-char-at .char-at in
+    let sequence = at-sequence .sequence in
+    let loop = at-loop .loop in
     rw (c .spend-shown .ensures) (turn-spent (shown-turn _ _ _ (loop-test .taken) _ _ (sym (char-at .ensures) ∙ sequence .given .1)) _ ∙ loop .inv)
 
 enum-told : tie.Need-enum-told Inv-loop μ-loop
