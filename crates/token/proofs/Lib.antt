@@ -1,0 +1,10 @@
+-- Tokens: the laws that callers use.
+pub mod Runs
+pub mod Comments
+pub mod Places
+pub mod Bounds
+pub mod Strings
+pub mod Lists
+pub mod Fills
+pub mod Lister
+pub mod Printed

@@ -1,0 +1,81 @@
+-- All tokens of a text, or those before its first 3.
+use Prim.Native.Nat.{ℕ, zero, suc, _-_, _≤_}
+use mathlib.Core.Path.{_≡_}
+use mathlib.Core.List.{List, [], _∷_, _++_}
+use lib.ListN.{length}
+use Rattle.text.specs.Splice.{fronted}
+use Rattle.text.specs.declared.Check.{Check}
+use Rattle.text.specs.declared.Check.the-variants.{Good, Bad}
+use Rattle.token.specs.Tokens.{tokenAt}
+use Rattle.token.specs.declared.Token.{Token}
+use Rattle.token.specs.declared.Token.the-variants.{Found, End, NoToken}
+use Rattle.token.specs.declared.Filled.{Filled}
+use Rattle.token.specs.declared.Filled.the-variants as Filled
+
+-- a token: kind, start, end
+pub data Tok : Type 0 where
+  tok : ℕ → ℕ → ℕ → Tok
+
+-- its parts
+abbrev pub kindOf : Tok → ℕ
+kindOf (tok kind start end) = kind
+
+abbrev pub startOf : Tok → ℕ
+startOf (tok kind start end) = start
+
+abbrev pub endOf : Tok → ℕ
+endOf (tok kind start end) = end
+
+-- tokens in order, and whether they go up to the text's end or to a place where there is none
+pub record Tokens : Type 0 where
+  pub list : List Tok
+  pub fault : Check
+
+-- with some tokens before
+abbrev pub onto : List Tok → Tokens → Tokens
+onto ts r = record { list = ts ++ r .list; fault = r .fault }
+
+-- by what stands at a place. go: the tokens from this one's end on
+abbrev pub tokensBy : Token → (ℕ → Tokens) → Tokens
+tokensBy End go = record { list = []; fault = Good }
+tokensBy (NoToken place) go = record { list = []; fault = Bad place }
+tokensBy (Found kind start end) go = onto (tok kind start end ∷ []) (go end)
+
+-- the first argument bounds how many: one more than the bytes left are enough, since no token is empty
+unfoldable pub tokensIn : ℕ → List ℕ → ℕ → Tokens
+tokensIn zero s at = record { list = []; fault = Good }
+tokensIn (suc k) s at = tokensBy (tokenAt s at) (λ end. tokensIn k s end)
+
+-- the tokens from a place on, each looked for at the end of the one before it
+unfoldable pub tokensFrom : List ℕ → ℕ → Tokens
+tokensFrom s at = tokensIn (suc (length s - at)) s at
+
+-- the tokens of a text
+unfoldable pub tokensOf : List ℕ → Tokens
+tokensOf s = tokensFrom s 0
+
+-- one number of each
+abbrev pub each : (Tok → ℕ) → List Tok → List ℕ
+each f [] = []
+each f (t ∷ ts) = f t ∷ each f ts
+
+-- what filling the lent arrays answers
+abbrev pub filledBy : ℕ → Check → Filled
+filledBy n Good = Filled.All n
+filledBy n (Bad place) = Filled.NoToken place
+
+unfoldable pub filledOf : List ℕ → Filled
+filledOf s = filledBy (length (tokensOf s .list)) (tokensOf s .fault)
+
+-- lent arrays have room for the tokens of a text of legal length: no token is empty
+pub record Space (s ks ss es : List ℕ) : Type 0 where
+  pub short : length s ≤ 65536
+  pub kinds : length s ≤ length ks
+  pub starts : length s ≤ length ss
+  pub ends : length s ≤ length es
+
+-- and hold the tokens found at their fronts, with the rest as it was
+pub record Holds (ts : List Tok) (ks ss es ks′ ss′ es′ : List ℕ) : Type 0 where
+  pub kinds : ks′ ≡ fronted (each kindOf ts) ks
+  pub starts : ss′ ≡ fronted (each startOf ts) ss
+  pub ends : es′ ≡ fronted (each endOf ts) es

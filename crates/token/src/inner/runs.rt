@@ -1,0 +1,90 @@
+// Runs of bytes of one sort: a direct loop for each.
+ghost use mathlib.Core.Path.{_≡_};
+ghost use Prim.Native.Nat.{_+_, _<_};
+ghost use lib.ListN.{length, drop};
+ghost use Rattle.text.specs.Choice.{nextIs};
+ghost use Rattle.text.specs.Classes.{classes};
+ghost use Rattle.token.specs.Blanks.{words, digits, zeros, line, lineEnds};
+
+// The byte at a place is b.
+pub(crate) fn next_is(s: &[u8], i: usize, b: u8) -> bool
+    ensures { λ r. ⌜ r ≡ nextIs b (drop i (now (s .entry))) ⌝ }
+{
+    if s.len() <= i {
+        return false;
+    }
+    s[i] == b
+}
+
+// Past letters, `_` and digits.
+pub(crate) fn word_end(t: &[u8; 256], s: &[u8], at: usize) -> usize
+    requires { ⌜ now t ≡ classes ⌝ }
+    ensures { λ r. ⌜ r ≡ at + words (drop at (now (s .entry))) ⌝ }
+{
+    let mut i = at;
+    while i < s.len() {
+        if !text::inner::words::in_word(t, s[i]) {
+            return i;
+        }
+        i += 1;
+    }
+    i
+}
+
+// Past digits.
+pub(crate) fn digits_end(t: &[u8; 256], s: &[u8], at: usize) -> usize
+    requires { ⌜ now t ≡ classes ⌝ }
+    ensures { λ r. ⌜ r ≡ at + digits (drop at (now (s .entry))) ⌝ }
+{
+    let mut i = at;
+    while i < s.len() {
+        if text::inner::classes::class(t, s[i]) != 3 {
+            return i;
+        }
+        i += 1;
+    }
+    i
+}
+
+// Past zeros.
+pub(crate) fn zeros_end(s: &[u8], at: usize) -> usize
+    ensures { λ r. ⌜ r ≡ at + zeros (drop at (now (s .entry))) ⌝ }
+{
+    let mut i = at;
+    while i < s.len() {
+        if s[i] != 48 {
+            return i;
+        }
+        i += 1;
+    }
+    i
+}
+
+// LF or CRLF stands here.
+fn line_ends(s: &[u8], i: usize) -> bool
+    requires { ⌜ i < length (now s) ⌝ }
+    ensures { λ r. ⌜ r ≡ lineEnds (drop i (now (s .entry))) ⌝ }
+{
+    let b = s[i];
+    if b == 10 {
+        return true;
+    }
+    if b == 13 {
+        return next_is(s, i + 1, 10);
+    }
+    false
+}
+
+// Up to LF, CRLF or the text's end.
+pub(crate) fn line_end(s: &[u8], at: usize) -> usize
+    ensures { λ r. ⌜ r ≡ at + line (drop at (now (s .entry))) ⌝ }
+{
+    let mut i = at;
+    while i < s.len() {
+        if line_ends(s, i) {
+            return i;
+        }
+        i += 1;
+    }
+    i
+}

@@ -1,0 +1,45 @@
+use Prim.Native.Nat.{_≤_}
+use mathlib.Core.Path.{sym}
+use native.Mathlib.Omega.{arith}
+use lib.ListN.{length}
+use lib.Seq.{length-take-le}
+use borrow.Author.Needs.{needs}
+use Rattle.token_run.proofs.run_repeated.Statement.{statement}
+use Rattle.token_run.proofs.run_repeated.Tie as tie
+
+slice-aggregate-repeat : tie.Need-slice-aggregate-repeat
+slice-aggregate-repeat c = search needs
+
+repeat-requires : tie.Need-repeat-requires
+repeat-requires c κs = search needs
+
+array-share-prefix-long : tie.Need-array-share-prefix-long
+array-share-prefix-long c = search needs
+
+slice-aggregate-run-next : tie.Need-slice-aggregate-run-next
+slice-aggregate-run-next c =
+    let repeat′ = c .before .before .before .repeat in
+    let repeat = repeat′ in
+    let h : repeat .result ≤ length (repeat .last .1 .1 .0) = omega arith in
+    sym (length-take-le _ _ h)
+
+run-next-requires : tie.Need-run-next-requires
+run-next-requires c κs = search needs
+
+returns : tie.Need-returns
+returns c = search needs
+
+returns-2 : tie.Need-returns-2
+returns-2 c = search needs
+
+pub run-repeated-spec : {M : Type 1} → statement M
+run-repeated-spec =
+    tie.close
+    (tie.spec
+    slice-aggregate-repeat
+    repeat-requires
+    array-share-prefix-long
+    slice-aggregate-run-next
+    run-next-requires
+    returns
+    returns-2)
