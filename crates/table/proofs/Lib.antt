@@ -1,0 +1,15 @@
+-- The laws of trees and tables.
+pub mod Columns
+pub mod Branches
+pub mod Records
+pub mod Nodes
+pub mod Texts
+pub mod Verdicts
+pub mod Heads
+pub mod Lowest
+pub mod Held
+pub mod Flats
+pub mod Trees
+pub mod Rules
+pub mod Tables
+pub mod Regroups

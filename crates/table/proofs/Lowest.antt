@@ -1,0 +1,51 @@
+-- Laws of the lowest index at which a test fails.
+use mathlib.Core.Path.{_≡_, refl, sym}
+use mathlib.Core.Bool.{Bool, true, false}
+use mathlib.Core.Logic.{⊎-elim}
+use Prim.Native.Nat.{ℕ, zero, suc, _+_, _<_}
+use native.Mathlib.Nat.{eq-or-lt-of-le}
+use native.Mathlib.Numerals.{add-one}
+use native.Mathlib.Omega.{arith}
+use Rattle.text.specs.declared.Check.{Check}
+use Rattle.text.specs.declared.Check.the-variants.{Good, Bad}
+use Rattle.table.specs.Check.{lowestBy, lowest}
+use Rattle.table.proofs.Columns.{below-suc}
+
+both : (c : Check) (g : Bool) (i : ℕ) → lowestBy c g i ≡ Good → (c ≡ Good) × (g ≡ true)
+both Good true i e = (refl, refl)
+both Good false i e = let z : _≡_ {A = ℕ} 0 1 = cc in absurd (omega arith)
+both (Bad k) g i e = let z : _≡_ {A = ℕ} 0 1 = cc in absurd (omega arith)
+
+module _ (f : ℕ → Bool) where
+  pub lowest-none : lowest f 0 ≡ Good
+  unfolding lowest
+  lowest-none = refl
+
+  pub lowest-more : (i : ℕ) → lowest f i ≡ Good → f i ≡ true → lowest f (i + 1) ≡ Good
+  unfolding lowest
+  lowest-more i h g = rw (add-one, lowest, h, g)
+
+  -- the first failure stays the answer
+  pub lowest-bad : (n i : ℕ) → i < n → lowest f i ≡ Good → f i ≡ false → lowest f n ≡ Bad i
+  unfolding lowest
+  lowest-bad zero i l h g = absurd (omega arith)
+  lowest-bad (suc n) i l h g = ⊎-elim
+      (λ e. let i≡n : i ≡ n = omega arith in rw (sym i≡n, lowest, h, g))
+      (λ m. let b : lowest f n ≡ Bad i = lowest-bad n i (omega arith) h g in rw (lowest, b))
+      (eq-or-lt-of-le l)
+
+  -- no failure: the test holds everywhere
+  pub lowest-good : (n : ℕ) → lowest f n ≡ Good → (k : ℕ) → k < n → f k ≡ true
+  unfolding lowest
+  lowest-good zero e k l = absurd (omega arith)
+  lowest-good (suc n) e k l =
+      let b = both (lowest f n) (f n) n e in
+      below-suc (λ k. f k ≡ true) n (lowest-good n (b .0)) (b .1) k l
+
+  pub lowest-all : (n : ℕ) → ((k : ℕ) → k < n → f k ≡ true) → lowest f n ≡ Good
+  unfolding lowest
+  lowest-all zero h = refl
+  lowest-all (suc n) h =
+      let b : lowest f n ≡ Good = lowest-all n (λ k l. h k (omega arith)) in
+      let g : f n ≡ true = h n (omega arith) in
+      rw (lowest, b, g)

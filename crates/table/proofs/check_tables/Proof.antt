@@ -1,0 +1,134 @@
+use Rattle.table.specs.Check.{maxNodes}
+use Prim.Native.Nat.{ℕ}
+use lib.ListN.{length-replicate}
+use mathlib.Core.Path.{sym, _∙_}
+use denote.Ref.{now}
+use borrow.Author.Tests.{not-true, not-false}
+use Rattle.table.proofs.Tables.{shaped-few, tables-shape, tables-node, tables-rule, tables-left, tables-good}
+use borrow.Author.Needs.{needs}
+use Rattle.table.proofs.check_tables.Statement.{statement}
+use Rattle.table.proofs.check_tables.Tie as tie
+
+is-shaped-requires : tie.Need-is-shaped-requires
+is-shaped-requires c κs = search needs
+
+returns : tie.Need-returns
+returns c =
+    let start = c .before .before .before .before .before in
+    let nodes = now (start .args .nodes) in
+    let rules = now (start .args .rules) in
+    let store = now (start .args .store) in
+    sym (tables-shape nodes rules store (sym (c .before .is-shaped .ensures) ∙ not-true _ (c .if1 .taken)))
+
+classes-requires : tie.Need-classes-requires
+classes-requires c κs = search needs
+
+lowest-node-requires : tie.Need-lowest-node-requires
+lowest-node-requires c κs =
+    let start = c .before .before .before .before .before .before .before .before in
+    let nodes = now (start .args .nodes) in
+    let rules = now (start .args .rules) in
+    let store = now (start .args .store) in
+    let classes = c .before .before .classes in
+    let is-shaped = c .before .before .before .before .is-shaped in
+    let if1 = c .before .before .before .if1 in
+    (classes .ensures, ((shaped-few nodes rules store (sym (is-shaped .ensures) ∙ not-false _ (if1 .left))), length-replicate {A = ℕ} maxNodes 0))
+
+enum-known-node : tie.Need-enum-known-node
+enum-known-node c = search needs
+
+returns-2 : tie.Need-returns-2
+returns-2 c =
+    let start = c .before .before .before .before .before .before .before .before .before .before .before .before in
+    let nodes = now (start .args .nodes) in
+    let rules = now (start .args .rules) in
+    let store = now (start .args .store) in
+    let is-shaped = c .before .before .before .before .before .before .before .before .is-shaped in
+    let if1 = c .before .before .before .before .before .before .before .if1 in
+    let lowest-node = c .before .before .before .lowest-node in
+    sym (tables-node nodes rules store (sym (is-shaped .ensures) ∙ not-false _ (if1 .left)) (sym (lowest-node .ensures .0) ∙ c .before .node .given .1))
+
+enum-told : tie.Need-enum-told
+enum-told c = search needs
+
+lowest-rule-requires : tie.Need-lowest-rule-requires
+lowest-rule-requires c κs =
+    let start = c .before .before .before .before .before .before .before .before .before .before .before .before .before in
+    let nodes = now (start .args .nodes) in
+    let rules = now (start .args .rules) in
+    let store = now (start .args .store) in
+    let classes = c .before .before .before .before .before .before .before .classes in
+    let is-shaped = c .before .before .before .before .before .before .before .before .before .is-shaped in
+    let if1 = c .before .before .before .before .before .before .before .before .if1 in
+    let lowest-node = c .before .before .before .before .lowest-node in
+    let enum-told = c .before .before .enum-told in
+    (classes .ensures, ((shaped-few nodes rules store (sym (is-shaped .ensures) ∙ not-false _ (if1 .left))), lowest-node .ensures .1 (enum-told .given .1)))
+
+enum-known-rule : tie.Need-enum-known-rule
+enum-known-rule c = search needs
+
+returns-3 : tie.Need-returns-3
+returns-3 c =
+    let start = c .before .before .before .before .before .before .before .before .before .before .before .before .before .before .before .before .before in
+    let nodes = now (start .args .nodes) in
+    let rules = now (start .args .rules) in
+    let store = now (start .args .store) in
+    let is-shaped = c .before .before .before .before .before .before .before .before .before .before .before .before .before .is-shaped in
+    let if1 = c .before .before .before .before .before .before .before .before .before .before .before .before .if1 in
+    let lowest-node = c .before .before .before .before .before .before .before .before .lowest-node in
+    let enum-told = c .before .before .before .before .before .before .enum-told in
+    let lowest-rule = c .before .before .before .lowest-rule in
+    sym (tables-rule nodes rules store (sym (is-shaped .ensures) ∙ not-false _ (if1 .left)) (sym (lowest-node .ensures .0) ∙ enum-told .given .1) (sym (lowest-rule .ensures) ∙ c .before .rule .given .1))
+
+enum-told-2 : tie.Need-enum-told-2
+enum-told-2 c = search needs
+
+begin-at-requires : tie.Need-begin-at-requires
+begin-at-requires c κs = search needs
+
+returns-4 : tie.Need-returns-4
+returns-4 c =
+    let start = c .before .before .before .before .before .before .before .before .before .before .before .before .before .before .before .before .before .before in
+    let nodes = now (start .args .nodes) in
+    let rules = now (start .args .rules) in
+    let store = now (start .args .store) in
+    let is-shaped = c .before .before .before .before .before .before .before .before .before .before .before .before .before .before .is-shaped in
+    let if1 = c .before .before .before .before .before .before .before .before .before .before .before .before .before .if1 in
+    let lowest-node = c .before .before .before .before .before .before .before .before .before .lowest-node in
+    let enum-told = c .before .before .before .before .before .before .before .enum-told in
+    let lowest-rule = c .before .before .before .before .lowest-rule in
+    let enum-told2 = c .before .before .enum-told2 in
+    sym (tables-good nodes rules store (sym (is-shaped .ensures) ∙ not-false _ (if1 .left)) (sym (lowest-node .ensures .0) ∙ enum-told .given .1) (sym (lowest-rule .ensures) ∙ enum-told2 .given .1) (sym (c .before .begin-at .ensures) ∙ c .if2 .taken))
+
+returns-5 : tie.Need-returns-5
+returns-5 c =
+    let start = c .before .before .before .before .before .before .before .before .before .before .before .before .before .before .before .before .before .before in
+    let nodes = now (start .args .nodes) in
+    let rules = now (start .args .rules) in
+    let store = now (start .args .store) in
+    let is-shaped = c .before .before .before .before .before .before .before .before .before .before .before .before .before .before .is-shaped in
+    let if1 = c .before .before .before .before .before .before .before .before .before .before .before .before .before .if1 in
+    let lowest-node = c .before .before .before .before .before .before .before .before .before .lowest-node in
+    let enum-told = c .before .before .before .before .before .before .before .enum-told in
+    let lowest-rule = c .before .before .before .before .lowest-rule in
+    let enum-told2 = c .before .before .enum-told2 in
+    sym (tables-left nodes rules store (sym (is-shaped .ensures) ∙ not-false _ (if1 .left)) (sym (lowest-node .ensures .0) ∙ enum-told .given .1) (sym (lowest-rule .ensures) ∙ enum-told2 .given .1) (λ e. c .if2 .left (c .before .begin-at .ensures ∙ e)))
+
+pub check-tables-spec : {M : Type 1} → statement M
+check-tables-spec =
+    tie.close
+    (tie.spec
+    is-shaped-requires
+    returns
+    classes-requires
+    lowest-node-requires
+    enum-known-node
+    returns-2
+    enum-told
+    lowest-rule-requires
+    enum-known-rule
+    returns-3
+    enum-told-2
+    begin-at-requires
+    returns-4
+    returns-5)

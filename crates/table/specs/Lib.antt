@@ -1,0 +1,6 @@
+-- Trees, tables, and what makes a table false: the definitions that the contracts of this crate cite.
+pub mod Tree
+pub mod Regroup
+pub mod Record
+pub mod Flat
+pub mod Check
