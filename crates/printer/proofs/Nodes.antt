@@ -1,0 +1,91 @@
+-- The text of a node, from those of its children.
+use Prim.Native.Nat.{ℕ, _+_, _-_}
+use mathlib.Core.Path.{_≡_, refl, ap, _∙_}
+use mathlib.Core.Bool.{Bool}
+use mathlib.Core.List.{List, [], _∷_, _++_, append-assoc}
+use native.Mathlib.Omega.{arith}
+use lib.ListN.{length, length-append}
+use Rattle.text.specs.Splice.{spent}
+use Rattle.table.specs.declared.Join.{Join}
+use Rattle.table.specs.declared.Leaf.{Leaf}
+use Rattle.table.specs.declared.Leaf.the-variants as Leaf
+use Rattle.table.specs.declared.Op.{Op}
+use Rattle.table.specs.declared.Op.the-variants as Op
+use Rattle.table.specs.declared.Node.the-variants.{Tip, One, Two}
+use Rattle.table.specs.Record.{nodeAt, atomOf, wrapOf, treeAt}
+use Rattle.table.specs.Check.{Sound}
+use Rattle.table.proofs.Nodes.{tree-tip, sound-tree-one, sound-tree-two}
+use Rattle.printer.specs.declared.Place.{Place}
+use Rattle.printer.specs.declared.Place.the-variants.{LeftOf, RightOf}
+use Rattle.printer.specs.declared.Form.{Form}
+use Rattle.printer.specs.declared.Form.the-variants.{Joined}
+use Rattle.printer.specs.Printing.{brackets, opening, closing, enclosed, atomForm, atomText, wrapForm, under, before, after, separator, printed}
+use Rattle.printer.proofs.Rows.{row}
+use Rattle.printer.proofs.Measures.{length-enclosed}
+
+-- what does not look at a tag's or a text's bytes
+leaf-any : (st : List ℕ) (l : Leaf) → atomForm (atomOf st l) ≡ atomForm (atomOf [] l)
+leaf-any st (Leaf.Text k p n) = refl
+leaf-any st (Leaf.Range x y) = refl
+leaf-any st (Leaf.PeekSlice x e) = refl
+
+form-any : (st : List ℕ) (o : Op) → wrapForm (wrapOf st o) ≡ wrapForm (wrapOf [] o)
+form-any st (Op.Plain u) = refl
+form-any st (Op.NodeTag p n) = refl
+
+after-any : (st : List ℕ) (o : Op) → after (wrapOf st o) ≡ after (wrapOf [] o)
+after-any st (Op.Plain u) = refl
+after-any st (Op.NodeTag p n) = refl
+
+enclosed-three : (b : Bool) (x y z : List ℕ) → enclosed b (x ++ (y ++ z)) ≡ row (opening b) (x ∷ y ∷ z ∷ closing b ∷ [])
+unfolding enclosed row
+enclosed-three b x y z = ap (λ v. opening b ++ v) (append-assoc x (y ++ z) (closing b) ∙ ap (λ v. x ++ v) (append-assoc y z (closing b)))
+
+module _ (ns st : List ℕ) (i : ℕ) (w : Place) where
+  -- a leaf, with the answers of the functions that its text asks
+  module _ {l : Leaf} (e : nodeAt ns i ≡ Tip l) {f : Form} (g : f ≡ atomForm (atomOf [] l)) {on : Bool} (h : on ≡ brackets w f) where
+    leaf-text : printed w (treeAt ns st i) ≡ enclosed on (atomText (atomOf st l))
+    unfolding printed
+    leaf-text = ap (printed w) (tree-tip ns st i e) ∙ rw (leaf-any st l, h, g)
+
+    pub leaf-row : printed w (treeAt ns st i) ≡ row (opening on) (atomText (atomOf st l) ∷ closing on ∷ [])
+    unfolding enclosed row
+    leaf-row = leaf-text
+
+    pub leaf-spent : (left : ℕ) {a r : ℕ} → a ≡ spent left (enclosed on []) → r ≡ spent a (atomText (atomOf st l)) → r ≡ spent left (printed w (treeAt ns st i))
+    unfolding spent
+    leaf-spent left p q = omega (arith, p, q, ap length leaf-text, length-enclosed on (atomText (atomOf st l)))
+
+  module _ (s : Sound ns st (i + 1)) where
+    -- one child
+    module _ {o : Op} {c : ℕ} (e : nodeAt ns i ≡ One o c) {f : Form} (g : f ≡ wrapForm (wrapOf [] o)) {on : Bool} (h : on ≡ brackets w f) {u : Place} (v : u ≡ under f) where
+      one-text : printed w (treeAt ns st i) ≡ enclosed on (before (wrapOf st o) ++ (printed u (treeAt ns st c) ++ after (wrapOf [] o)))
+      unfolding printed
+      one-text = ap (printed w) (sound-tree-one ns st i s e) ∙ rw (form-any st o, after-any st o, h, v, g)
+
+      pub one-row : printed w (treeAt ns st i) ≡ row (opening on) (before (wrapOf st o) ∷ printed u (treeAt ns st c) ∷ after (wrapOf [] o) ∷ closing on ∷ [])
+      one-row = one-text ∙ enclosed-three on (before (wrapOf st o)) (printed u (treeAt ns st c)) (after (wrapOf [] o))
+
+      pub one-spent : (left : ℕ) {a b r : ℕ} → a ≡ spent left (enclosed on []) → b ≡ spent a (before (wrapOf st o) ++ after (wrapOf [] o)) → r ≡ spent b (printed u (treeAt ns st c)) → r ≡ spent left (printed w (treeAt ns st i))
+      unfolding spent
+      one-spent left p q t =
+          let x = before (wrapOf st o) in
+          let y = printed u (treeAt ns st c) in
+          let z = after (wrapOf [] o) in
+          omega (arith, p, q, t, ap length one-text, length-enclosed on (x ++ (y ++ z)), length-append x (y ++ z), length-append y z, length-append x z)
+
+    -- two children
+    module _ {j : Join} {a b : ℕ} (e : nodeAt ns i ≡ Two j a b) {on : Bool} (h : on ≡ brackets w (Joined j)) where
+      two-text : printed w (treeAt ns st i) ≡ enclosed on (printed (LeftOf j) (treeAt ns st a) ++ (separator j ++ printed (RightOf j) (treeAt ns st b)))
+      unfolding printed
+      two-text = ap (printed w) (sound-tree-two ns st i s e) ∙ rw h
+
+      pub two-row : printed w (treeAt ns st i) ≡ row (opening on) (printed (LeftOf j) (treeAt ns st a) ∷ separator j ∷ printed (RightOf j) (treeAt ns st b) ∷ closing on ∷ [])
+      two-row = two-text ∙ enclosed-three on (printed (LeftOf j) (treeAt ns st a)) (separator j) (printed (RightOf j) (treeAt ns st b))
+
+      pub two-spent : (left : ℕ) {p m q r : ℕ} → p ≡ spent left (enclosed on []) → m ≡ p - 3 → q ≡ spent m (printed (LeftOf j) (treeAt ns st a)) → r ≡ spent q (printed (RightOf j) (treeAt ns st b)) → r ≡ spent left (printed w (treeAt ns st i))
+      unfolding spent
+      two-spent left d n m t =
+          let x = printed (LeftOf j) (treeAt ns st a) in
+          let y = printed (RightOf j) (treeAt ns st b) in
+          omega (arith, d, n, m, t, ap length two-text, length-enclosed on (x ++ (separator j ++ y)), length-append x (separator j ++ y))

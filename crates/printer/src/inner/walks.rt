@@ -1,0 +1,217 @@
+// The two walks from a node to its children, whose indexes are smaller: one measures a text, so that
+// nothing is written where it does not fit, and one writes it.
+use super::forms;
+use super::leaves;
+use super::unary;
+use crate::Form;
+use crate::Place;
+use crate::Printed;
+use table::Node;
+use table::inner::records::RULE_SIZE;
+use table::inner::records::head_at;
+use table::inner::records::node_at;
+use text::inner::digits::hex_digits;
+use text::inner::splice::put;
+use text::inner::splice::put_byte;
+use text::inner::splice::spend;
+ghost use mathlib.Core.Path.{_≡_};
+ghost use Prim.Native.Nat.{_+_, _<_};
+ghost use lib.ListN.{length};
+ghost use Rattle.text.specs.Splice.{Room, Wrote, spent};
+ghost use Rattle.text.specs.Digits.{hexDigits};
+ghost use Rattle.table.specs.Record.{rulesIn, treeAt, ruleAt};
+ghost use Rattle.table.specs.Check.{Sound, Valid};
+ghost use Rattle.printer.specs.Printing.{printed, markText, printedRule};
+ghost use Rattle.printer.specs.Answers.{tableText, roomOf, printIn};
+
+// What is left after node i's text. Once nothing is left, no node is looked at any more.
+pub fn measure(nodes: &[u32], store: &[u8], i: usize, place: Place, left: usize) -> usize
+    requires { ⌜ Sound (now nodes) (now store) (i + 1) ⌝ }
+    ensures { λ r. ⌜ r ≡ spent left (printed place (treeAt (now (nodes .entry)) (now (store .entry)) i)) ⌝ }
+{
+    if left == 0 {
+        return 0;
+    }
+    let node = node_at(nodes, i);
+    match node {
+        Node::Tip(leaf) => {
+            let on = forms::brackets(place, forms::leaf_form(leaf));
+            leaves::spend_leaf(store, leaf, forms::spend_brackets(on, left))
+        }
+        Node::One(op, c) => {
+            let form = forms::op_form(op);
+            let on = forms::brackets(place, form);
+            let inside = unary::spend_op(store, op, forms::spend_brackets(on, left));
+            measure(nodes, store, c, forms::under(form), inside)
+        }
+        Node::Two(join, a, b) => {
+            let on = forms::brackets(place, Form::Joined(join));
+            let inside = spend(forms::spend_brackets(on, left), 3);
+            let right = measure(nodes, store, a, Place::LeftOf(join), inside);
+            measure(nodes, store, b, Place::RightOf(join), right)
+        }
+        Node::Unknown => left,
+    }
+}
+
+// Writes node i's text.
+pub fn write(
+    t: &[u8; 16],
+    nodes: &[u32],
+    store: &[u8],
+    i: usize,
+    place: Place,
+    out: &mut [u8],
+    at: usize,
+) -> usize
+    requires { ⌜ now t ≡ hexDigits ⌝ }
+    requires { ⌜ Sound (now nodes) (now store) (i + 1) ⌝ }
+    requires { ⌜ Room (now out) at (printed place (treeAt (now nodes) (now store) i)) ⌝ }
+    ensures { λ r. ⌜ Wrote (now (out .entry)) at (printed place (treeAt (now (nodes .entry)) (now (store .entry)) i)) (now (out .exit)) r ⌝ }
+{
+    let node = node_at(nodes, i);
+    match node {
+        Node::Tip(leaf) => {
+            let on = forms::brackets(place, forms::leaf_form(leaf));
+            let a1 = forms::put_open(on, out, at);
+            let a2 = leaves::put_leaf(t, store, leaf, out, a1);
+            forms::put_close(on, out, a2)
+        }
+        Node::One(op, c) => {
+            let form = forms::op_form(op);
+            let on = forms::brackets(place, form);
+            let a1 = forms::put_open(on, out, at);
+            let a2 = unary::put_before(store, op, out, a1);
+            let a3 = write(t, nodes, store, c, forms::under(form), out, a2);
+            let a4 = unary::put_after(op, out, a3);
+            forms::put_close(on, out, a4)
+        }
+        Node::Two(join, a, b) => {
+            let on = forms::brackets(place, Form::Joined(join));
+            let a1 = forms::put_open(on, out, at);
+            let a2 = write(t, nodes, store, a, Place::LeftOf(join), out, a1);
+            let a3 = forms::put_separator(join, out, a2);
+            let a4 = write(t, nodes, store, b, Place::RightOf(join), out, a3);
+            forms::put_close(on, out, a4)
+        }
+        Node::Unknown => at,
+    }
+}
+
+fn spend_mark(mark: u32, left: usize) -> usize
+    ensures { λ r. ⌜ r ≡ spent left (markText mark) ⌝ }
+{
+    match mark {
+        1 => spend(left, 1),
+        2 => spend(left, 1),
+        3 => spend(left, 1),
+        4 => spend(left, 1),
+        _ => left,
+    }
+}
+
+fn put_mark(mark: u32, out: &mut [u8], at: usize) -> usize
+    requires { ⌜ Room (now out) at (markText mark) ⌝ }
+    ensures { λ r. ⌜ Wrote (now (out .entry)) at (markText mark) (now (out .exit)) r ⌝ }
+{
+    match mark {
+        1 => put_byte(b'_', out, at),
+        2 => put_byte(b'@', out, at),
+        3 => put_byte(b'$', out, at),
+        4 => put_byte(b'!', out, at),
+        _ => at,
+    }
+}
+
+// What is left after a rule: " = ", "{ " and " }" with LF are eight bytes.
+fn measure_rule(nodes: &[u32], rules: &[u32], store: &[u8], k: usize, left: usize) -> usize
+    requires { ⌜ Valid (now nodes) (now rules) (now store) ⌝ }
+    requires { ⌜ k < rulesIn (now rules) ⌝ }
+    ensures { λ r. ⌜ r ≡ spent left (printedRule (ruleAt (now (nodes .entry)) (now (rules .entry)) (now (store .entry)) k)) ⌝ }
+{
+    let head = head_at(rules, k);
+    let frame = spend_mark(head.mark, spend(spend(left, head.length), 8));
+    measure(nodes, store, head.root, Place::Alone, frame)
+}
+
+// Writes a rule.
+fn print_rule(
+    t: &[u8; 16],
+    nodes: &[u32],
+    rules: &[u32],
+    store: &[u8],
+    k: usize,
+    out: &mut [u8],
+    at: usize,
+) -> usize
+    requires { ⌜ now t ≡ hexDigits ⌝ }
+    requires { ⌜ Valid (now nodes) (now rules) (now store) ⌝ }
+    requires { ⌜ k < rulesIn (now rules) ⌝ }
+    requires { ⌜ Room (now out) at (printedRule (ruleAt (now nodes) (now rules) (now store) k)) ⌝ }
+    ensures { λ r. ⌜ Wrote (now (out .entry)) at (printedRule (ruleAt (now (nodes .entry)) (now (rules .entry)) (now (store .entry)) k)) (now (out .exit)) r ⌝ }
+{
+    let head = head_at(rules, k);
+    let p = head.offset;
+    let e = p + head.length;
+    let a1 = put(&store[p..e], out, at);
+    let a2 = put(b" = ", out, a1);
+    let a3 = put_mark(head.mark, out, a2);
+    let a4 = put(b"{ ", out, a3);
+    let a5 = write(t, nodes, store, head.root, Place::Alone, out, a4);
+    put(b" }\n", out, a5)
+}
+
+// What is left after all rules. Once nothing is left, the rest are not looked at.
+pub fn measure_rules(nodes: &[u32], rules: &[u32], store: &[u8], room: usize) -> usize
+    requires { ⌜ Valid (now nodes) (now rules) (now store) ⌝ }
+    ensures { λ r. ⌜ r ≡ spent room (tableText (now (nodes .entry)) (now (rules .entry)) (now (store .entry))) ⌝ }
+{
+    let m = rules.len() / RULE_SIZE;
+    let mut left = room;
+    let mut k = 0;
+    while k < m {
+        if left == 0 {
+            return 0;
+        }
+        left = measure_rule(nodes, rules, store, k, left);
+        k += 1;
+    }
+    left
+}
+
+// Writes all rules.
+pub fn print_rules(
+    t: &[u8; 16],
+    nodes: &[u32],
+    rules: &[u32],
+    store: &[u8],
+    out: &mut [u8],
+    at: usize,
+) -> usize
+    requires { ⌜ now t ≡ hexDigits ⌝ }
+    requires { ⌜ Valid (now nodes) (now rules) (now store) ⌝ }
+    requires { ⌜ Room (now out) at (tableText (now nodes) (now rules) (now store)) ⌝ }
+    ensures { λ r. ⌜ Wrote (now (out .entry)) at (tableText (now (nodes .entry)) (now (rules .entry)) (now (store .entry))) (now (out .exit)) r ⌝ }
+{
+    let m = rules.len() / RULE_SIZE;
+    let mut a = at;
+    let mut k = 0;
+    while k < m {
+        a = print_rule(t, nodes, rules, store, k, out, a);
+        k += 1;
+    }
+    a
+}
+
+// Prints tables that are known not to be false.
+pub fn print_valid(nodes: &[u32], rules: &[u32], store: &[u8], out: &mut [u8]) -> Printed
+    requires { ⌜ Valid (now nodes) (now rules) (now store) ⌝ }
+    ensures { λ r. ⌜ r ≡ roomOf (tableText (now (nodes .entry)) (now (rules .entry)) (now (store .entry))) (length (now (out .entry))) ⌝ }
+    ensures { λ r. ⌜ now (out .exit) ≡ printIn (now (nodes .entry)) (now (rules .entry)) (now (store .entry)) (now (out .entry)) r ⌝ }
+{
+    if measure_rules(nodes, rules, store, out.len() + 1) == 0 {
+        return Printed::NoRoom;
+    }
+    let t = hex_digits();
+    Printed::Used(print_rules(&t, nodes, rules, store, out, 0))
+}

@@ -1,0 +1,58 @@
+// The printer: from tables to text.
+//
+// `print` stands here and asks nothing of its callers. `inner` has what it is made of: what decides
+// about brackets, the parts of a text, and the two walks from a node to its children, one that measures
+// and one that writes. They carry over `Display`, `as_postfix_operand` and `print_rule` of pest_meta's
+// ast.rs.
+pub mod inner;
+
+use table::Join;
+use table::TableCheck;
+ghost use mathlib.Core.Path.{_≡_};
+ghost use lib.ListN.{length};
+ghost use Rattle.printer.specs.Answers.{printOf, printIn, numbered, reported};
+
+// Where an expression stands: as a rule's body or in PUSH( ), behind a predicate or a tag, under a
+// postfix, or on a side of a join.
+pub enum Place {
+    Alone,
+    Prefixed,
+    Operand,
+    LeftOf(Join),
+    RightOf(Join),
+}
+
+// What decides, beside its place, whether an expression stands in brackets.
+pub enum Form {
+    Plain,
+    Range,
+    Prefix,
+    Postfix,
+    Tag,
+    Joined(Join),
+}
+
+// The bytes that the printed text uses; or no whole records, too many, or too long a store; or the
+// lowest false node; or the lowest false rule; or an output that is too short.
+pub enum Printed {
+    Used(usize),
+    Shape,
+    Node(usize),
+    Rule(usize),
+    NoRoom,
+}
+
+// Prints tables to the front of a buffer, a rule to a line.
+pub fn print(nodes: &[u32], rules: &[u32], store: &[u8], out: &mut [u8]) -> Printed
+    ensures { λ r. ⌜ r ≡ printOf (now (nodes .entry)) (now (rules .entry)) (now (store .entry)) (length (now (out .entry))) ⌝ }
+    ensures { λ r. ⌜ numbered r ≡ reported (now (nodes .entry)) (now (rules .entry)) (now (store .entry)) (length (now (out .entry))) ⌝ }
+    ensures { λ r. ⌜ now (out .exit) ≡ printIn (now (nodes .entry)) (now (rules .entry)) (now (store .entry)) (now (out .entry)) r ⌝ }
+{
+    let check = table::check_tables(nodes, rules, store);
+    match check {
+        TableCheck::Good => inner::walks::print_valid(nodes, rules, store, out),
+        TableCheck::Shape => Printed::Shape,
+        TableCheck::Node(i) => Printed::Node(i),
+        TableCheck::Rule(k) => Printed::Rule(k),
+    }
+}

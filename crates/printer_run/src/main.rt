@@ -1,0 +1,290 @@
+// Prints the tables of its standard input, and writes each line with what came of it: the answer's
+// number, its place, the bytes used, how many bytes of the output behind those were left alone, and
+// on lines of its own the text.
+use printer::Printed;
+ghost use Prim.Native.Nat.{_≤_};
+ghost use Rattle.io.specs.Counts.{Counts};
+
+// A number with one more digit, kept to 32 bits; other bytes mean nothing.
+fn more(v: u32, b: u8) -> u32 {
+    if b < 48 {
+        return v;
+    }
+    if 57 < b {
+        return v;
+    }
+    ((v as u64 * 10 + (b - 48) as u64) % 0x1_0000_0000) as u32
+}
+
+fn one_if(met: bool) -> usize
+    ensures { λ r. ⌜ r ≤ 1 ⌝ }
+{
+    if met { 1 } else { 0 }
+}
+
+fn kept(v: u32, met: bool) -> u32 {
+    if met { v } else { 0 }
+}
+
+// The numbers of a list in which a comma stands behind each.
+fn numbers(s: &[u8], out: &mut [u32]) -> usize
+    ensures { λ r. ⌜ Counts r (now (out .exit)) ⌝ }
+{
+    let mut v: u32 = 0;
+    let mut k = 0;
+    let mut i = 0;
+    while i < s.len() {
+        if out.len() <= k {
+            return k;
+        }
+        v = more(v, s[i]);
+        out[k] = v;
+        k += one_if(s[i] == b',');
+        v = kept(v, s[i] != b',');
+        i += 1;
+    }
+    k
+}
+
+// How many bytes stand at 170 from a place on.
+fn alone(out: &[u8], from: usize) -> usize {
+    let mut n = 0;
+    let mut i = from;
+    while i < out.len() {
+        n += one_if(out[i] == 170);
+        i += 1;
+    }
+    n
+}
+
+fn answer(number: usize, place: usize, used: usize, out: &[u8]) {
+    vectors::write_number(number);
+    vectors::write_number(place);
+    vectors::write_number(used);
+    vectors::write_number(alone(out, used));
+    vectors::write(b"\n");
+    if used <= out.len() {
+        vectors::write(&out[..used]);
+    }
+}
+
+// Prints tables into the first bytes of a buffer that stands at 170.
+fn run_print(nodes: &[u32], rules: &[u32], store: &[u8], room: usize, out: &mut [u8]) {
+    if out.len() < room {
+        return;
+    }
+    let printed = printer::print(nodes, rules, store, &mut out[..room]);
+    match printed {
+        Printed::Used(n) => answer(0, 0, n, out),
+        Printed::Shape => answer(20, 0, 0, out),
+        Printed::Node(i) => answer(21, i, 0, out),
+        Printed::Rule(k) => answer(22, k, 0, out),
+        Printed::NoRoom => answer(23, 0, 0, out),
+    }
+}
+
+fn turn(i: usize) -> u32 {
+    if i % 2 == 1 { 7 } else { 11 }
+}
+
+// A name under n - 1 operators: a predicate and a repetition by turns.
+fn make_deep(n: usize, nodes: &mut [u32]) -> usize
+    ensures { λ r. ⌜ Counts r (now (nodes .exit)) ⌝ }
+{
+    if 4097 < n {
+        return 0;
+    }
+    if nodes.len() < 6 * n + 6 {
+        return 0;
+    }
+    nodes[0] = 4;
+    nodes[4] = 1;
+    let mut i = 1;
+    while i < n {
+        let b = 6 * i;
+        nodes[b] = turn(i);
+        nodes[b + 3] = (i - 1) as u32;
+        i += 1;
+    }
+    6 * n
+}
+
+// Leaves whose texts are the first bytes of the store.
+fn make_leaves(n: usize, kind: u32, length: u32, nodes: &mut [u32]) -> usize
+    ensures { λ r. ⌜ Counts r (now (nodes .exit)) ⌝ }
+{
+    if 4097 < n {
+        return 0;
+    }
+    if nodes.len() < 6 * n {
+        return 0;
+    }
+    let mut i = 0;
+    while i < n {
+        let b = 6 * i;
+        nodes[b] = kind;
+        nodes[b + 4] = length;
+        i += 1;
+    }
+    6 * n
+}
+
+// The chain to the right over n leaves.
+fn make_chain(n: usize, nodes: &mut [u32]) -> usize
+    ensures { λ r. ⌜ Counts r (now (nodes .exit)) ⌝ }
+{
+    if n < 2 {
+        return 0;
+    }
+    if 2048 < n {
+        return 0;
+    }
+    if nodes.len() < 12 * n {
+        return 0;
+    }
+    let mut j = 1;
+    while j < n {
+        let b = 6 * (n - 1 + j);
+        nodes[b] = 8;
+        nodes[b + 3] = (n - 1 - j) as u32;
+        nodes[b + 4] = (n - 2 + j) as u32;
+        j += 1;
+    }
+    12 * n - 6
+}
+
+// Rules called by the first byte of the store, each with a node of its own.
+fn make_rules(n: usize, rules: &mut [u32]) -> usize
+    ensures { λ r. ⌜ Counts r (now (rules .exit)) ⌝ }
+{
+    if 1025 < n {
+        return 0;
+    }
+    if rules.len() < 6 * n {
+        return 0;
+    }
+    let mut k = 0;
+    while k < n {
+        let b = 6 * k;
+        rules[b + 1] = 1;
+        rules[b + 3] = k as u32;
+        k += 1;
+    }
+    6 * n
+}
+
+// One rule over all nodes.
+fn run_tree(nodes: &[u32], store: &[u8], room: usize, out: &mut [u8]) {
+    let n = nodes.len() / 6;
+    if n == 0 {
+        return;
+    }
+    if 5000 < n {
+        return;
+    }
+    let rules = [0, 1, 0, (n - 1) as u32, 0, 0];
+    run_print(nodes, &rules, store, room, out);
+}
+
+fn run_deep(n: usize, room: usize, store: &[u8], out: &mut [u8]) {
+    let mut nodes = [0u32; 24588];
+    let k = make_deep(n, &mut nodes);
+    run_tree(&nodes[..k], store, room, out);
+}
+
+fn run_chain(n: usize, kind: u32, length: u32, room: usize, store: &[u8], out: &mut [u8]) {
+    let mut nodes = [0u32; 24588];
+    make_leaves(n, kind, length, &mut nodes);
+    let k = make_chain(n, &mut nodes);
+    run_tree(&nodes[..k], store, room, out);
+}
+
+fn run_many(n: usize, room: usize, store: &[u8], out: &mut [u8]) {
+    let mut nodes = [0u32; 6150];
+    let mut rules = [0u32; 6150];
+    let k = make_leaves(n, 4, 1, &mut nodes);
+    let m = make_rules(n, &mut rules);
+    run_print(&nodes[..k], &rules[..m], store, room, out);
+}
+
+// p ROOM NODES RULES STORE: tables as they stand
+fn run_tables(line: &[u8], from: usize, room: usize, out: &mut [u8]) {
+    let mut nodes = [0u32; 600];
+    let mut rules = [0u32; 600];
+    let mut store = [0u8; 600];
+    let first = vectors::field(line, from);
+    let second = vectors::field(line, first.end);
+    let third = vectors::field(line, second.end);
+    let a = first.start;
+    let b = first.end;
+    let c = second.start;
+    let d = second.end;
+    let e = third.start;
+    let f = third.end;
+    let n = numbers(&line[a..b], &mut nodes);
+    let m = numbers(&line[c..d], &mut rules);
+    let k = vectors::unhex(&line[e..f], &mut store);
+    run_print(&nodes[..n], &rules[..m], &store[..k], room, out);
+}
+
+fn small(n: u64) -> u32 {
+    (n % 0x1_0000_0000) as u32
+}
+
+// d ROOM N, c ROOM N KIND LENGTH, m ROOM N, s ROOM N: tables that are made here, over a store of a's
+fn run_made(line: &[u8], from: usize, op: u8, room: usize, out: &mut [u8]) {
+    let store = [97u8; 65537];
+    let first = vectors::field(line, from);
+    let second = vectors::field(line, first.end);
+    let third = vectors::field(line, second.end);
+    let a = first.start;
+    let b = first.end;
+    let c = second.start;
+    let d = second.end;
+    let e = third.start;
+    let f = third.end;
+    let n = vectors::number(&line[a..b]) as usize;
+    let kind = small(vectors::number(&line[c..d]));
+    let length = small(vectors::number(&line[e..f]));
+    match op {
+        b'd' => run_deep(n, room, &store[..65536], out),
+        b'c' => run_chain(n, kind, length, room, &store[..65536], out),
+        b'm' => run_many(n, room, &store[..65536], out),
+        b's' => {
+            if n <= 65537 {
+                run_print(&[], &[], &store[..n], room, out);
+            }
+        }
+        _ => {}
+    }
+}
+
+fn run_line(line: &[u8]) {
+    let mut out = [170u8; 16384];
+    let op = vectors::field(line, 0);
+    let size = vectors::field(line, op.end);
+    let a = size.start;
+    let b = size.end;
+    let room = vectors::number(&line[a..b]) as usize;
+    let at = op.start;
+    vectors::write(line);
+    if line.len() <= at {
+        return;
+    }
+    if line[at] == b'p' {
+        run_tables(line, b, room, &mut out);
+    } else {
+        run_made(line, b, line[at], room, &mut out);
+    }
+}
+
+fn main() {
+    let mut input = io::large_buffer();
+    let n = io::read_full(0, &mut input);
+    let mut at = 0;
+    while at < n {
+        let end = vectors::line_end(&input[..n], at);
+        run_line(&input[at..end]);
+        at = end + 1;
+    }
+}
