@@ -30,7 +30,8 @@ use Rattle.literal.specs.declared.Escape.{Escape}
 use Rattle.literal.specs.declared.Escape.the-variants.{Means, Plain}
 use Rattle.literal.proofs.Escaped.{Each}
 use Rattle.literal.proofs.Pieces.{encoded-some, encoded-free}
-use Rattle.literal.proofs.Back.{Stands, escape, itself, PastEscapes, PastBytes, plain-byte, bytes-over-inside}
+use Rattle.literal.proofs.Stands.{Stands, escape, itself}
+use Rattle.literal.proofs.Back.{PastEscapes, PastBytes, plain-byte, bytes-over-inside}
 use Rattle.token.specs.Blanks.{run, first, inDigits, isZero, words, digits, openerBlank}
 use Rattle.token.specs.Tokens.{moved, pushLiteral, allowed, wordToken, tagToken, minusToken, dotsToken, insideLook, stringOf, insensToken, quoted, charToken, openerToken, oneKind, tokenOf, tokenAt}
 use Rattle.token.specs.Lists.{tok, onto, tokensBy, tokensFrom}

@@ -29,8 +29,11 @@ same-length c = search needs
 
 returns : tie.Need-returns
 returns c =
-    let a = answer-is _ _ _ _ (sym (c .before .before .before .before .before .before .check-tables .ensures) ∙ c .before .before .before .before .enum-told .given .1) (c .before .before .print-valid .ensures .0) in
-    (a .0, (a .1, c .before .before .print-valid .ensures .1))
+    let at-print-valid = c .before .before in
+    let at-enum-told = at-print-valid .before .before in
+    let at-check-tables = at-enum-told .before .before in
+    let a = answer-is _ _ _ _ (sym (at-check-tables .check-tables .ensures) ∙ at-enum-told .enum-told .given .1) (at-print-valid .print-valid .ensures .0) in
+    (a .0, (a .1, at-print-valid .print-valid .ensures .1))
 
 returns-2 : tie.Need-returns-2
 unfolding printIn

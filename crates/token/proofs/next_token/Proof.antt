@@ -41,27 +41,39 @@ enum-known-token-2 c = search needs
 
 returns-3 : tie.Need-returns-3
 returns-3 c =
-    let if1 = c .before .before .before .before .before .before .before .before .before .if1 in
-    let first-bad = c .before .before .before .before .before .before .before .before .first-bad in
-    let enum-told = c .before .before .before .before .before .before .enum-told in
-    let token-at = c .before .before .before .token-at in
+    let at-token-at = c .before .before .before in
+    let at-enum-told = at-token-at .before .before .before in
+    let at-first-bad = at-enum-told .before .before in
+    let at-if1 = at-first-bad .before in
+    let if1 = at-if1 .if1 in
+    let first-bad = at-first-bad .first-bad in
+    let enum-told = at-enum-told .enum-told in
+    let token-at = at-token-at .token-at in
     let token = c .before .token in
     answered _ _ _ (next-good _ _ (if1 .left) (sym (first-bad .ensures) ∙ enum-told .given .1) (Found _ _ _) (sym (token .given .1) ∙ token-at .ensures))
 
 returns-4 : tie.Need-returns-4
 returns-4 c =
-    let if1 = c .before .before .before .before .before .before .before .before .if1 in
-    let first-bad = c .before .before .before .before .before .before .before .first-bad in
-    let enum-told = c .before .before .before .before .before .enum-told in
-    let token-at = c .before .before .token-at in
+    let at-token-at = c .before .before in
+    let at-enum-told = at-token-at .before .before .before in
+    let at-first-bad = at-enum-told .before .before in
+    let at-if1 = at-first-bad .before in
+    let if1 = at-if1 .if1 in
+    let first-bad = at-first-bad .first-bad in
+    let enum-told = at-enum-told .enum-told in
+    let token-at = at-token-at .token-at in
     answered _ _ _ (next-good _ _ (if1 .left) (sym (first-bad .ensures) ∙ enum-told .given .1) End (sym (c .enum-told2 .given .1) ∙ token-at .ensures))
 
 returns-5 : tie.Need-returns-5
 returns-5 c =
-    let if1 = c .before .before .before .before .before .before .before .before .before .if1 in
-    let first-bad = c .before .before .before .before .before .before .before .before .first-bad in
-    let enum-told = c .before .before .before .before .before .before .enum-told in
-    let token-at = c .before .before .before .token-at in
+    let at-token-at = c .before .before .before in
+    let at-enum-told = at-token-at .before .before .before in
+    let at-first-bad = at-enum-told .before .before in
+    let at-if1 = at-first-bad .before in
+    let if1 = at-if1 .if1 in
+    let first-bad = at-first-bad .first-bad in
+    let enum-told = at-enum-told .enum-told in
+    let token-at = at-token-at .token-at in
     let token2 = c .before .token2 in
     answered _ _ _ (next-good _ _ (if1 .left) (sym (first-bad .ensures) ∙ enum-told .given .1) (NoToken _) (sym (token2 .given .1) ∙ token-at .ensures))
 

@@ -38,9 +38,12 @@ same-length-3 c =
 
 returns : tie.Need-returns Inv-loop μ-loop
 returns c =
-    let pre = c .before .before .before .before .before .before .before .before .pre in
-    let loop = c .before .before .before .loop in
-    let token-at = c .before .before .token-at in
+    let at-token-at = c .before .before in
+    let at-loop = at-token-at .before in
+    let start = at-loop .before .before .before .before .before in
+    let pre = start .pre in
+    let loop = at-loop .loop in
+    let token-at = at-token-at .token-at in
     fill-end (loop .inv) (token-at .ensures) (pre .1) (c .enum-told .given .1)
 
 enum-known-token : tie.Need-enum-known-token Inv-loop μ-loop
@@ -63,9 +66,12 @@ same-length-6 c =
 
 returns-2 : tie.Need-returns-2 Inv-loop μ-loop
 returns-2 c =
-    let pre = c .before .before .before .before .before .before .before .before .before .pre in
-    let loop = c .before .before .before .before .loop in
-    let token-at = c .before .before .before .token-at in
+    let at-token-at = c .before .before .before in
+    let at-loop = at-token-at .before in
+    let start = at-loop .before .before .before .before .before in
+    let pre = start .pre in
+    let loop = at-loop .loop in
+    let token-at = at-token-at .token-at in
     let token = c .before .token in
     fill-none (loop .inv) (token-at .ensures) (pre .1) (token .given .1)
 

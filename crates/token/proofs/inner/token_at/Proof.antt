@@ -41,9 +41,12 @@ word-at-requires c κs = search needs
 
 returns : tie.Need-returns Inv-loop μ-loop
 returns c =
-    let loop = c .before .before .before .before .before .loop in
-    let loop-test = c .before .before .before .before .loop-test in
-    let class = c .before .before .class in
+    let at-class = c .before .before in
+    let at-loop-test = at-class .before .before in
+    let at-loop = at-loop-test .before in
+    let loop = at-loop .loop in
+    let loop-test = at-loop-test .loop-test in
+    let class = at-class .class in
     let arms = c .before .match in
     at-word _ _ (loop-test .taken) _ (class .ensures) (arms .keys2) _ (c .word-at .ensures) ∙ loop .inv
 
@@ -52,9 +55,12 @@ digits-end-requires c κs = search needs
 
 returns-2 : tie.Need-returns-2 Inv-loop μ-loop
 returns-2 c =
-    let loop = c .before .before .before .before .before .loop in
-    let loop-test = c .before .before .before .before .loop-test in
-    let class = c .before .before .class in
+    let at-class = c .before .before in
+    let at-loop-test = at-class .before .before in
+    let at-loop = at-loop-test .before in
+    let loop = at-loop .loop in
+    let loop-test = at-loop-test .loop-test in
+    let class = at-class .class in
     let arms = c .before .match in
     at-number _ _ (loop-test .taken) _ (class .ensures) (arms .keys3) _ (c .digits-end .ensures) ∙ loop .inv
 
@@ -66,9 +72,12 @@ add-t14 c = omega arith
 
 returns-3 : tie.Need-returns-3 Inv-loop μ-loop
 returns-3 c =
-    let loop = c .before .before .before .before .before .loop in
-    let loop-test = c .before .before .before .before .loop-test in
-    let class = c .before .before .class in
+    let at-class = c .before .before in
+    let at-loop-test = at-class .before .before in
+    let at-loop = at-loop-test .before in
+    let loop = at-loop .loop in
+    let loop-test = at-loop-test .loop-test in
+    let class = at-class .class in
     let arms = c .before .match in
     at-one _ _ (loop-test .taken) _ (class .ensures) (arms .keys4) _ (c .one-kind .ensures) ∙ loop .inv
 
@@ -80,11 +89,16 @@ opener-at-requires c κs = search needs
 
 returns-4 : tie.Need-returns-4 Inv-loop μ-loop
 returns-4 c =
-    let loop = c .before .before .before .before .before .before .before .loop in
-    let loop-test = c .before .before .before .before .before .before .loop-test in
-    let class = c .before .before .before .before .class in
-    let arms = c .before .before .before .match in
-    let opener-blank-end = c .before .before .opener-blank-end in
+    let at-opener-blank-end = c .before .before in
+    let at-match = at-opener-blank-end .before in
+    let at-class = at-match .before in
+    let at-loop-test = at-class .before .before in
+    let at-loop = at-loop-test .before in
+    let loop = at-loop .loop in
+    let loop-test = at-loop-test .loop-test in
+    let class = at-class .class in
+    let arms = at-match .match in
+    let opener-blank-end = at-opener-blank-end .opener-blank-end in
     let if1 = c .before .if1 in
     at-opener _ _ (loop-test .taken) _ (class .ensures) (arms .keys5) _ (opener-blank-end .ensures) (if1 .taken) _ (c .opener-at .ensures) ∙ loop .inv
 
@@ -100,10 +114,14 @@ loop-less-2 c =
 
 loop-again-2 : tie.Need-loop-again-2 Inv-loop μ-loop
 loop-again-2 c =
-    let loop = c .before .before .before .before .before .before .loop in
-    let loop-test = c .before .before .before .before .before .loop-test in
-    let class = c .before .before .before .class in
-    let arms = c .before .before .match in
+    let at-match = c .before .before in
+    let at-class = at-match .before in
+    let at-loop-test = at-class .before .before in
+    let at-loop = at-loop-test .before in
+    let loop = at-loop .loop in
+    let loop-test = at-loop-test .loop-test in
+    let class = at-class .class in
+    let arms = at-match .match in
     let opener-blank-end = c .before .opener-blank-end in
     sym (at-next _ _ (loop-test .taken) _ (class .ensures) (arms .keys5) _ (opener-blank-end .ensures) (c .if1 .left)) ∙ loop .inv
 

@@ -7,7 +7,10 @@ enum-known-op : tie.Need-enum-known-op
 enum-known-op c = search needs
 
 put-unary-after-requires : tie.Need-put-unary-after-requires
-put-unary-after-requires c κs = rw (c .before .before .op .given .1) at (c .before .before .before .before .before .pre)
+put-unary-after-requires c κs =
+    let at-op = c .before .before in
+    let start = at-op .before .before .before in
+    rw (at-op .op .given .1) at (start .pre)
 
 enum-told : tie.Need-enum-told
 enum-told c = search needs
@@ -16,7 +19,10 @@ same-length : tie.Need-same-length
 same-length c = search needs
 
 returns : tie.Need-returns
-returns c = rw (c .before .before .before .before .before .op .given .1) (c .before .before .put-unary-after .ensures)
+returns c =
+    let at-put-unary-after = c .before .before in
+    let at-op = at-put-unary-after .before .before .before in
+    rw (at-op .op .given .1) (at-put-unary-after .put-unary-after .ensures)
 
 returns-2 : tie.Need-returns-2
 returns-2 c = rw (c .enum-told .given .1) (wrote-none _ _)

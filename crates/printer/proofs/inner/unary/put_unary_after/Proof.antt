@@ -37,7 +37,10 @@ slice-aggregate-put-count-2 : tie.Need-slice-aggregate-put-count-2
 slice-aggregate-put-count-2 c = search needs
 
 put-count-requires : tie.Need-put-count-requires
-put-count-requires c κs = rw (c .before .before .before .before .unary .given .1) at (c .before .before .before .before .before .before .before .pre)
+put-count-requires c κs =
+    let at-unary = c .before .before .before .before in
+    let start = at-unary .before .before .before in
+    rw (at-unary .unary .given .1) at (start .pre)
 
 enum-known-unary-2 : tie.Need-enum-known-unary-2
 enum-known-unary-2 c = search needs
@@ -49,7 +52,10 @@ slice-aggregate-put-count-4 : tie.Need-slice-aggregate-put-count-4
 slice-aggregate-put-count-4 c = search needs
 
 put-count-requires-2 : tie.Need-put-count-requires-2
-put-count-requires-2 c κs = rw (c .before .before .before .before .unary2 .given .1) at (c .before .before .before .before .before .before .before .pre)
+put-count-requires-2 c κs =
+    let at-unary2 = c .before .before .before .before in
+    let start = at-unary2 .before .before .before in
+    rw (at-unary2 .unary2 .given .1) at (start .pre)
 
 enum-known-unary-3 : tie.Need-enum-known-unary-3
 enum-known-unary-3 c = search needs
@@ -61,13 +67,19 @@ slice-aggregate-put-count-6 : tie.Need-slice-aggregate-put-count-6
 slice-aggregate-put-count-6 c = search needs
 
 put-count-requires-3 : tie.Need-put-count-requires-3
-put-count-requires-3 c κs = rw (c .before .before .before .before .unary3 .given .1) at (c .before .before .before .before .before .before .before .pre)
+put-count-requires-3 c κs =
+    let at-unary3 = c .before .before .before .before in
+    let start = at-unary3 .before .before .before in
+    rw (at-unary3 .unary3 .given .1) at (start .pre)
 
 enum-known-unary-4 : tie.Need-enum-known-unary-4
 enum-known-unary-4 c = search needs
 
 put-counts-requires : tie.Need-put-counts-requires
-put-counts-requires c κs = rw (c .before .before .unary4 .given .1) at (c .before .before .before .before .before .pre)
+put-counts-requires c κs =
+    let at-unary4 = c .before .before in
+    let start = at-unary4 .before .before .before in
+    rw (at-unary4 .unary4 .given .1) at (start .pre)
 
 enum-told-6 : tie.Need-enum-told-6
 enum-told-6 c = search needs
@@ -103,25 +115,37 @@ same-length-4 : tie.Need-same-length-4
 same-length-4 c = search needs
 
 returns-6 : tie.Need-returns-6
-returns-6 c = rw (c .before .before .before .before .before .before .before .unary .given .1) (c .before .before .put-count .ensures)
+returns-6 c =
+    let at-put-count = c .before .before in
+    let at-unary = at-put-count .before .before .before .before .before in
+    rw (at-unary .unary .given .1) (at-put-count .put-count .ensures)
 
 same-length-5 : tie.Need-same-length-5
 same-length-5 c = search needs
 
 returns-7 : tie.Need-returns-7
-returns-7 c = rw (c .before .before .before .before .before .before .before .unary2 .given .1) (c .before .before .put-count2 .ensures)
+returns-7 c =
+    let at-put-count2 = c .before .before in
+    let at-unary2 = at-put-count2 .before .before .before .before .before in
+    rw (at-unary2 .unary2 .given .1) (at-put-count2 .put-count2 .ensures)
 
 same-length-6 : tie.Need-same-length-6
 same-length-6 c = search needs
 
 returns-8 : tie.Need-returns-8
-returns-8 c = rw (c .before .before .before .before .before .before .before .unary3 .given .1) (c .before .before .put-count3 .ensures)
+returns-8 c =
+    let at-put-count3 = c .before .before in
+    let at-unary3 = at-put-count3 .before .before .before .before .before in
+    rw (at-unary3 .unary3 .given .1) (at-put-count3 .put-count3 .ensures)
 
 same-length-7 : tie.Need-same-length-7
 same-length-7 c = search needs
 
 returns-9 : tie.Need-returns-9
-returns-9 c = rw (c .before .before .before .before .before .unary4 .given .1) (c .before .before .put-counts .ensures)
+returns-9 c =
+    let at-put-counts = c .before .before in
+    let at-unary4 = at-put-counts .before .before .before in
+    rw (at-unary4 .unary4 .given .1) (at-put-counts .put-counts .ensures)
 
 same-length-8 : tie.Need-same-length-8
 same-length-8 c = search needs

@@ -43,7 +43,10 @@ slice-aggregate-put : tie.Need-slice-aggregate-put
 slice-aggregate-put c = search needs
 
 put-requires : tie.Need-put-requires
-put-requires c κs = rw (c .before .before .enum-told10 .given .1) at (c .before .before .before .before .before .pre)
+put-requires c κs =
+    let at-enum-told10 = c .before .before in
+    let start = at-enum-told10 .before .before .before in
+    rw (at-enum-told10 .enum-told10 .given .1) at (start .pre)
 
 same-length : tie.Need-same-length
 same-length c = search needs
@@ -82,7 +85,10 @@ same-length-3 : tie.Need-same-length-3
 same-length-3 c = search needs
 
 returns-10 : tie.Need-returns-10
-returns-10 c = rw (c .before .before .before .before .before .enum-told10 .given .1) (c .before .before .put .ensures)
+returns-10 c =
+    let at-put = c .before .before in
+    let at-enum-told10 = at-put .before .before .before in
+    rw (at-enum-told10 .enum-told10 .given .1) (at-put .put .ensures)
 
 pub put-unary-before-spec : {M : Type 1} → statement M
 put-unary-before-spec =

@@ -56,11 +56,14 @@ measure-spend-brackets-requires t c κs = search needs
 
 measure-spend-leaf-requires : (t : ℕ) → of-measure measure-lts.Need-spend-leaf-requires t
 measure-spend-leaf-requires t c κs =
-    let s = c .before .before .before .before .before .before .before .before .before .before in
+    let at-node = c .before .before .before .before in
+    let at-node-at = at-node .before .before in
+    let start = at-node-at .before .before .before .before in
+    let s = start in
     let ns = now (s .args .nodes) in
     let st = now (s .args .store) in
     let i = s .args .i in
-    let e = sym (c .before .before .before .before .before .before .node-at .ensures) ∙ c .before .before .before .before .node .given .1 in
+    let e = sym (at-node-at .node-at .ensures) ∙ at-node .node .given .1 in
     sound-tip ns st i (s .pre .1) e
 
 measure-enum-known-node-2 : (t : ℕ) → of-measure measure-lts.Need-enum-known-node-2 t
@@ -77,11 +80,14 @@ measure-spend-brackets-requires-2 t c κs = search needs
 
 measure-spend-op-requires : (t : ℕ) → of-measure measure-lts.Need-spend-op-requires t
 measure-spend-op-requires t c κs =
-    let s = c .before .before .before .before .before .before .before .before .before .before in
+    let at-node2 = c .before .before .before .before in
+    let at-node-at = at-node2 .before .before in
+    let start = at-node-at .before .before .before .before in
+    let s = start in
     let ns = now (s .args .nodes) in
     let st = now (s .args .store) in
     let i = s .args .i in
-    let e = sym (c .before .before .before .before .before .before .node-at .ensures) ∙ c .before .before .before .before .node2 .given .1 in
+    let e = sym (at-node-at .node-at .ensures) ∙ at-node2 .node2 .given .1 in
     sound-one ns st i (s .pre .1) e .1
 
 measure-under-requires : (t : ℕ) → of-measure measure-lts.Need-under-requires t
@@ -134,38 +140,58 @@ measure-enum-told t c = search needs
 
 measure-returns-2 : (t : ℕ) → of-measure measure-lts.Need-returns-2 t
 measure-returns-2 t c =
-    let s = c .before .before .before .before .before .before .before .before .before .before .before in
+    let at-brackets = c .before .before in
+    let at-leaf-form = at-brackets .before in
+    let at-node = at-leaf-form .before .before in
+    let at-node-at = at-node .before .before in
+    let start = at-node-at .before .before .before .before in
+    let s = start in
     let ns = now (s .args .nodes) in
     let st = now (s .args .store) in
     let i = s .args .i in
-    let e = sym (c .before .before .before .before .before .before .before .node-at .ensures) ∙ c .before .before .before .before .before .node .given .1 in
-    leaf-spent ns st i (s .args .place) e (c .before .before .before .leaf-form .ensures) (c .before .before .brackets .ensures) _ (c .before .spend-brackets .ensures) (c .spend-leaf .ensures)
+    let e = sym (at-node-at .node-at .ensures) ∙ at-node .node .given .1 in
+    leaf-spent ns st i (s .args .place) e (at-leaf-form .leaf-form .ensures) (at-brackets .brackets .ensures) _ (c .before .spend-brackets .ensures) (c .spend-leaf .ensures)
 
 measure-returns-3 : (t : ℕ) → of-measure measure-lts.Need-returns-3 t
 measure-returns-3 t c =
-    let s = c .before .before .before .before .before .before .before .before .before .before .before .before .before in
+    let at-spend-op = c .before .before in
+    let at-spend-brackets2 = at-spend-op .before in
+    let at-brackets2 = at-spend-brackets2 .before in
+    let at-op-form = at-brackets2 .before in
+    let at-node2 = at-op-form .before .before in
+    let at-node-at = at-node2 .before .before in
+    let start = at-node-at .before .before .before .before in
+    let s = start in
     let ns = now (s .args .nodes) in
     let st = now (s .args .store) in
     let i = s .args .i in
-    let e = sym (c .before .before .before .before .before .before .before .before .before .node-at .ensures) ∙ c .before .before .before .before .before .before .before .node2 .given .1 in
-    one-spent ns st i (s .args .place) (s .pre .1) e (c .before .before .before .before .before .op-form .ensures) (c .before .before .before .before .brackets2 .ensures) (c .before .under .ensures) _ (c .before .before .before .spend-brackets2 .ensures) (c .before .before .spend-op .ensures) (c .measure .ensures)
+    let e = sym (at-node-at .node-at .ensures) ∙ at-node2 .node2 .given .1 in
+    one-spent ns st i (s .args .place) (s .pre .1) e (at-op-form .op-form .ensures) (at-brackets2 .brackets2 .ensures) (c .before .under .ensures) _ (at-spend-brackets2 .spend-brackets2 .ensures) (at-spend-op .spend-op .ensures) (c .measure .ensures)
 
 measure-returns-4 : (t : ℕ) → of-measure measure-lts.Need-returns-4 t
 measure-returns-4 t c =
-    let s = c .before .before .before .before .before .before .before .before .before .before .before .before in
+    let at-spend = c .before .before in
+    let at-spend-brackets3 = at-spend .before in
+    let at-brackets3 = at-spend-brackets3 .before in
+    let at-node3 = at-brackets3 .before .before in
+    let at-node-at = at-node3 .before .before in
+    let start = at-node-at .before .before .before .before in
+    let s = start in
     let ns = now (s .args .nodes) in
     let st = now (s .args .store) in
     let i = s .args .i in
-    let e = sym (c .before .before .before .before .before .before .before .before .node-at .ensures) ∙ c .before .before .before .before .before .before .node3 .given .1 in
-    two-spent ns st i (s .args .place) (s .pre .1) e (c .before .before .before .before .brackets3 .ensures) _ (c .before .before .before .spend-brackets3 .ensures) (c .before .before .spend .ensures) (c .before .measure2 .ensures) (c .measure3 .ensures)
+    let e = sym (at-node-at .node-at .ensures) ∙ at-node3 .node3 .given .1 in
+    two-spent ns st i (s .args .place) (s .pre .1) e (at-brackets3 .brackets3 .ensures) _ (at-spend-brackets3 .spend-brackets3 .ensures) (at-spend .spend .ensures) (c .before .measure2 .ensures) (c .measure3 .ensures)
 
 measure-returns-5 : (t : ℕ) → of-measure measure-lts.Need-returns-5 t
 measure-returns-5 t c =
-    let s = c .before .before .before .before .before .before in
+    let at-node-at = c .before .before in
+    let start = at-node-at .before .before .before .before in
+    let s = start in
     let ns = now (s .args .nodes) in
     let st = now (s .args .store) in
     let i = s .args .i in
-    let e = sym (c .before .before .node-at .ensures) ∙ c .enum-told .given .1 in
+    let e = sym (at-node-at .node-at .ensures) ∙ c .enum-told .given .1 in
     absurd (sound-unknown ns st i (s .pre .1) e)
 
 pub +measure-spec : {M : Type 1} → statement M

@@ -53,33 +53,50 @@ write-brackets-requires t c κs = search needs
 
 write-put-open-requires : (t : ℕ) → of-write write-lts.Need-put-open-requires t
 write-put-open-requires t c κs =
-    let s = c .before .before .before .before .before .before .before .before .before .before in
+    let at-leaf-form = c .before .before in
+    let at-node = at-leaf-form .before .before in
+    let at-node-at = at-node .before .before in
+    let start = at-node-at .before .before .before .before in
+    let s = start in
     let ns = now (s .args .nodes) in
     let st = now (s .args .store) in
     let i = s .args .i in
-    let e = sym (c .before .before .before .before .before .before .node-at .ensures) ∙ c .before .before .before .before .node .given .1 in
-    let g = begin (leaf-row ns st i (s .args .place) e (c .before .before .leaf-form .ensures) (c .before .brackets .ensures)) (s .pre .1 .1 .1) in
+    let e = sym (at-node-at .node-at .ensures) ∙ at-node .node .given .1 in
+    let g = begin (leaf-row ns st i (s .args .place) e (at-leaf-form .leaf-form .ensures) (c .before .brackets .ensures)) (s .pre .1 .1 .1) in
     part-room g
 
 write-put-leaf-requires : (t : ℕ) → of-write write-lts.Need-put-leaf-requires t
 write-put-leaf-requires t c κs =
-    let s = c .before .before .before .before .before .before .before .before .before .before .before .before .before .before in
+    let at-put-open = c .before .before .before in
+    let at-brackets = at-put-open .before .before in
+    let at-leaf-form = at-brackets .before in
+    let at-node = at-leaf-form .before .before in
+    let at-node-at = at-node .before .before in
+    let start = at-node-at .before .before .before .before in
+    let s = start in
     let ns = now (s .args .nodes) in
     let st = now (s .args .store) in
     let i = s .args .i in
-    let e = sym (c .before .before .before .before .before .before .before .before .before .before .node-at .ensures) ∙ c .before .before .before .before .before .before .before .before .node .given .1 in
-    let g = begin (leaf-row ns st i (s .args .place) e (c .before .before .before .before .before .before .leaf-form .ensures) (c .before .before .before .before .before .brackets .ensures)) (s .pre .1 .1 .1) in
-    (s .pre .1 .0, (sound-tip ns st i (s .pre .1 .1 .0) e, part-room (go g (c .before .before .before .put-open .ensures))))
+    let e = sym (at-node-at .node-at .ensures) ∙ at-node .node .given .1 in
+    let g = begin (leaf-row ns st i (s .args .place) e (at-leaf-form .leaf-form .ensures) (at-brackets .brackets .ensures)) (s .pre .1 .1 .1) in
+    (s .pre .1 .0, (sound-tip ns st i (s .pre .1 .1 .0) e, part-room (go g (at-put-open .put-open .ensures))))
 
 write-put-close-requires : (t : ℕ) → of-write write-lts.Need-put-close-requires t
 write-put-close-requires t c κs =
-    let s = c .before .before .before .before .before .before .before .before .before .before .before .before .before .before .before .before .before .before in
+    let at-put-leaf = c .before .before .before in
+    let at-put-open = at-put-leaf .before .before .before .before in
+    let at-brackets = at-put-open .before .before in
+    let at-leaf-form = at-brackets .before in
+    let at-node = at-leaf-form .before .before in
+    let at-node-at = at-node .before .before in
+    let start = at-node-at .before .before .before .before in
+    let s = start in
     let ns = now (s .args .nodes) in
     let st = now (s .args .store) in
     let i = s .args .i in
-    let e = sym (c .before .before .before .before .before .before .before .before .before .before .before .before .before .before .node-at .ensures) ∙ c .before .before .before .before .before .before .before .before .before .before .before .before .node .given .1 in
-    let g = begin (leaf-row ns st i (s .args .place) e (c .before .before .before .before .before .before .before .before .before .before .leaf-form .ensures) (c .before .before .before .before .before .before .before .before .before .brackets .ensures)) (s .pre .1 .1 .1) in
-    part-room (go (go g (c .before .before .before .before .before .before .before .put-open .ensures)) (c .before .before .before .put-leaf .ensures))
+    let e = sym (at-node-at .node-at .ensures) ∙ at-node .node .given .1 in
+    let g = begin (leaf-row ns st i (s .args .place) e (at-leaf-form .leaf-form .ensures) (at-brackets .brackets .ensures)) (s .pre .1 .1 .1) in
+    part-room (go (go g (at-put-open .put-open .ensures)) (at-put-leaf .put-leaf .ensures))
 
 write-enum-known-node-2 : (t : ℕ) → of-write write-lts.Need-enum-known-node-2 t
 write-enum-known-node-2 t c = search needs
@@ -92,23 +109,33 @@ write-brackets-requires-2 t c κs = search needs
 
 write-put-open-requires-2 : (t : ℕ) → of-write write-lts.Need-put-open-requires-2 t
 write-put-open-requires-2 t c κs =
-    let s = c .before .before .before .before .before .before .before .before .before .before in
+    let at-op-form = c .before .before in
+    let at-node2 = at-op-form .before .before in
+    let at-node-at = at-node2 .before .before in
+    let start = at-node-at .before .before .before .before in
+    let s = start in
     let ns = now (s .args .nodes) in
     let st = now (s .args .store) in
     let i = s .args .i in
-    let e = sym (c .before .before .before .before .before .before .node-at .ensures) ∙ c .before .before .before .before .node2 .given .1 in
-    let g = begin (one-row ns st i (s .args .place) (s .pre .1 .1 .0) e (c .before .before .op-form .ensures) (c .before .brackets2 .ensures) refl) (s .pre .1 .1 .1) in
+    let e = sym (at-node-at .node-at .ensures) ∙ at-node2 .node2 .given .1 in
+    let g = begin (one-row ns st i (s .args .place) (s .pre .1 .1 .0) e (at-op-form .op-form .ensures) (c .before .brackets2 .ensures) refl) (s .pre .1 .1 .1) in
     part-room g
 
 write-put-before-requires : (t : ℕ) → of-write write-lts.Need-put-before-requires t
 write-put-before-requires t c κs =
-    let s = c .before .before .before .before .before .before .before .before .before .before .before .before .before .before in
+    let at-put-open2 = c .before .before .before in
+    let at-brackets2 = at-put-open2 .before .before in
+    let at-op-form = at-brackets2 .before in
+    let at-node2 = at-op-form .before .before in
+    let at-node-at = at-node2 .before .before in
+    let start = at-node-at .before .before .before .before in
+    let s = start in
     let ns = now (s .args .nodes) in
     let st = now (s .args .store) in
     let i = s .args .i in
-    let e = sym (c .before .before .before .before .before .before .before .before .before .before .node-at .ensures) ∙ c .before .before .before .before .before .before .before .before .node2 .given .1 in
-    let g = begin (one-row ns st i (s .args .place) (s .pre .1 .1 .0) e (c .before .before .before .before .before .before .op-form .ensures) (c .before .before .before .before .before .brackets2 .ensures) refl) (s .pre .1 .1 .1) in
-    (sound-one ns st i (s .pre .1 .1 .0) e .1, part-room (go g (c .before .before .before .put-open2 .ensures)))
+    let e = sym (at-node-at .node-at .ensures) ∙ at-node2 .node2 .given .1 in
+    let g = begin (one-row ns st i (s .args .place) (s .pre .1 .1 .0) e (at-op-form .op-form .ensures) (at-brackets2 .brackets2 .ensures) refl) (s .pre .1 .1 .1) in
+    (sound-one ns st i (s .pre .1 .1 .0) e .1, part-room (go g (at-put-open2 .put-open2 .ensures)))
 
 write-under-requires : (t : ℕ) → of-write write-lts.Need-under-requires t
 write-under-requires t c κs = search needs
@@ -126,23 +153,42 @@ write-write-requires t c κs =
 
 write-put-after-requires : (t : ℕ) → of-write write-lts.Need-put-after-requires t
 write-put-after-requires t c κs =
-    let s = c .before .before .before .before .before .before .before .before .before .before .before .before .before .before .before .before .before .before .before .before .before .before .before in
+    let at-write = c .before .before .before in
+    let at-under = at-write .before .before in
+    let at-put-before = at-under .before .before .before in
+    let at-put-open2 = at-put-before .before .before .before .before in
+    let at-brackets2 = at-put-open2 .before .before in
+    let at-op-form = at-brackets2 .before in
+    let at-node2 = at-op-form .before .before in
+    let at-node-at = at-node2 .before .before in
+    let start = at-node-at .before .before .before .before in
+    let s = start in
     let ns = now (s .args .nodes) in
     let st = now (s .args .store) in
     let i = s .args .i in
-    let e = sym (c .before .before .before .before .before .before .before .before .before .before .before .before .before .before .before .before .before .before .before .node-at .ensures) ∙ c .before .before .before .before .before .before .before .before .before .before .before .before .before .before .before .before .before .node2 .given .1 in
-    let g = begin (one-row ns st i (s .args .place) (s .pre .1 .1 .0) e (c .before .before .before .before .before .before .before .before .before .before .before .before .before .before .before .op-form .ensures) (c .before .before .before .before .before .before .before .before .before .before .before .before .before .before .brackets2 .ensures) (c .before .before .before .before .before .under .ensures)) (s .pre .1 .1 .1) in
-    part-room (go (go (go g (c .before .before .before .before .before .before .before .before .before .before .before .before .put-open2 .ensures)) (c .before .before .before .before .before .before .before .before .put-before .ensures)) (c .before .before .before .write .ensures))
+    let e = sym (at-node-at .node-at .ensures) ∙ at-node2 .node2 .given .1 in
+    let g = begin (one-row ns st i (s .args .place) (s .pre .1 .1 .0) e (at-op-form .op-form .ensures) (at-brackets2 .brackets2 .ensures) (at-under .under .ensures)) (s .pre .1 .1 .1) in
+    part-room (go (go (go g (at-put-open2 .put-open2 .ensures)) (at-put-before .put-before .ensures)) (at-write .write .ensures))
 
 write-put-close-requires-2 : (t : ℕ) → of-write write-lts.Need-put-close-requires-2 t
 write-put-close-requires-2 t c κs =
-    let s = c .before .before .before .before .before .before .before .before .before .before .before .before .before .before .before .before .before .before .before .before .before .before .before .before .before .before .before in
+    let at-put-after = c .before .before .before in
+    let at-write = at-put-after .before .before .before .before in
+    let at-under = at-write .before .before in
+    let at-put-before = at-under .before .before .before in
+    let at-put-open2 = at-put-before .before .before .before .before in
+    let at-brackets2 = at-put-open2 .before .before in
+    let at-op-form = at-brackets2 .before in
+    let at-node2 = at-op-form .before .before in
+    let at-node-at = at-node2 .before .before in
+    let start = at-node-at .before .before .before .before in
+    let s = start in
     let ns = now (s .args .nodes) in
     let st = now (s .args .store) in
     let i = s .args .i in
-    let e = sym (c .before .before .before .before .before .before .before .before .before .before .before .before .before .before .before .before .before .before .before .before .before .before .before .node-at .ensures) ∙ c .before .before .before .before .before .before .before .before .before .before .before .before .before .before .before .before .before .before .before .before .before .node2 .given .1 in
-    let g = begin (one-row ns st i (s .args .place) (s .pre .1 .1 .0) e (c .before .before .before .before .before .before .before .before .before .before .before .before .before .before .before .before .before .before .before .op-form .ensures) (c .before .before .before .before .before .before .before .before .before .before .before .before .before .before .before .before .before .before .brackets2 .ensures) (c .before .before .before .before .before .before .before .before .before .under .ensures)) (s .pre .1 .1 .1) in
-    part-room (go (go (go (go g (c .before .before .before .before .before .before .before .before .before .before .before .before .before .before .before .before .put-open2 .ensures)) (c .before .before .before .before .before .before .before .before .before .before .before .before .put-before .ensures)) (c .before .before .before .before .before .before .before .write .ensures)) (c .before .before .before .put-after .ensures))
+    let e = sym (at-node-at .node-at .ensures) ∙ at-node2 .node2 .given .1 in
+    let g = begin (one-row ns st i (s .args .place) (s .pre .1 .1 .0) e (at-op-form .op-form .ensures) (at-brackets2 .brackets2 .ensures) (at-under .under .ensures)) (s .pre .1 .1 .1) in
+    part-room (go (go (go (go g (at-put-open2 .put-open2 .ensures)) (at-put-before .put-before .ensures)) (at-write .write .ensures)) (at-put-after .put-after .ensures))
 
 write-enum-known-node-3 : (t : ℕ) → of-write write-lts.Need-enum-known-node-3 t
 write-enum-known-node-3 t c = search needs
@@ -152,11 +198,14 @@ write-brackets-requires-3 t c κs = search needs
 
 write-put-open-requires-3 : (t : ℕ) → of-write write-lts.Need-put-open-requires-3 t
 write-put-open-requires-3 t c κs =
-    let s = c .before .before .before .before .before .before .before .before .before in
+    let at-node3 = c .before .before .before in
+    let at-node-at = at-node3 .before .before in
+    let start = at-node-at .before .before .before .before in
+    let s = start in
     let ns = now (s .args .nodes) in
     let st = now (s .args .store) in
     let i = s .args .i in
-    let e = sym (c .before .before .before .before .before .node-at .ensures) ∙ c .before .before .before .node3 .given .1 in
+    let e = sym (at-node-at .node-at .ensures) ∙ at-node3 .node3 .given .1 in
     let g = begin (two-row ns st i (s .args .place) (s .pre .1 .1 .0) e (c .before .brackets3 .ensures)) (s .pre .1 .1 .1) in
     part-room g
 
@@ -173,13 +222,19 @@ write-write-requires-2 t c κs =
 
 write-put-separator-requires : (t : ℕ) → of-write write-lts.Need-put-separator-requires t
 write-put-separator-requires t c κs =
-    let s = c .before .before .before .before .before .before .before .before .before .before .before .before .before .before .before .before .before in
+    let at-write2 = c .before .before .before in
+    let at-put-open3 = at-write2 .before .before .before .before in
+    let at-brackets3 = at-put-open3 .before .before in
+    let at-node3 = at-brackets3 .before .before in
+    let at-node-at = at-node3 .before .before in
+    let start = at-node-at .before .before .before .before in
+    let s = start in
     let ns = now (s .args .nodes) in
     let st = now (s .args .store) in
     let i = s .args .i in
-    let e = sym (c .before .before .before .before .before .before .before .before .before .before .before .before .before .node-at .ensures) ∙ c .before .before .before .before .before .before .before .before .before .before .before .node3 .given .1 in
-    let g = begin (two-row ns st i (s .args .place) (s .pre .1 .1 .0) e (c .before .before .before .before .before .before .before .before .before .brackets3 .ensures)) (s .pre .1 .1 .1) in
-    part-room (go (go g (c .before .before .before .before .before .before .before .put-open3 .ensures)) (c .before .before .before .write2 .ensures))
+    let e = sym (at-node-at .node-at .ensures) ∙ at-node3 .node3 .given .1 in
+    let g = begin (two-row ns st i (s .args .place) (s .pre .1 .1 .0) e (at-brackets3 .brackets3 .ensures)) (s .pre .1 .1 .1) in
+    part-room (go (go g (at-put-open3 .put-open3 .ensures)) (at-write2 .write2 .ensures))
 
 write-write-requires-3 : (t : ℕ) → of-write write-lts.Need-write-requires-3 t
 write-write-requires-3 t c κs =
@@ -194,84 +249,150 @@ write-write-requires-3 t c κs =
 
 write-put-close-requires-3 : (t : ℕ) → of-write write-lts.Need-put-close-requires-3 t
 write-put-close-requires-3 t c κs =
-    let s = c .before .before .before .before .before .before .before .before .before .before .before .before .before .before .before .before .before .before .before .before .before .before .before .before .before in
+    let at-write3 = c .before .before .before in
+    let at-put-separator = at-write3 .before .before .before .before in
+    let at-write2 = at-put-separator .before .before .before .before in
+    let at-put-open3 = at-write2 .before .before .before .before in
+    let at-brackets3 = at-put-open3 .before .before in
+    let at-node3 = at-brackets3 .before .before in
+    let at-node-at = at-node3 .before .before in
+    let start = at-node-at .before .before .before .before in
+    let s = start in
     let ns = now (s .args .nodes) in
     let st = now (s .args .store) in
     let i = s .args .i in
-    let e = sym (c .before .before .before .before .before .before .before .before .before .before .before .before .before .before .before .before .before .before .before .before .before .node-at .ensures) ∙ c .before .before .before .before .before .before .before .before .before .before .before .before .before .before .before .before .before .before .before .node3 .given .1 in
-    let g = begin (two-row ns st i (s .args .place) (s .pre .1 .1 .0) e (c .before .before .before .before .before .before .before .before .before .before .before .before .before .before .before .before .before .brackets3 .ensures)) (s .pre .1 .1 .1) in
-    part-room (go (go (go (go g (c .before .before .before .before .before .before .before .before .before .before .before .before .before .before .before .put-open3 .ensures)) (c .before .before .before .before .before .before .before .before .before .before .before .write2 .ensures)) (c .before .before .before .before .before .before .before .put-separator .ensures)) (c .before .before .before .write3 .ensures))
+    let e = sym (at-node-at .node-at .ensures) ∙ at-node3 .node3 .given .1 in
+    let g = begin (two-row ns st i (s .args .place) (s .pre .1 .1 .0) e (at-brackets3 .brackets3 .ensures)) (s .pre .1 .1 .1) in
+    part-room (go (go (go (go g (at-put-open3 .put-open3 .ensures)) (at-write2 .write2 .ensures)) (at-put-separator .put-separator .ensures)) (at-write3 .write3 .ensures))
 
 write-enum-told : (t : ℕ) → of-write write-lts.Need-enum-told t
 write-enum-told t c = search needs
 
 write-same-length : (t : ℕ) → of-write write-lts.Need-same-length t
 write-same-length t c =
-    let s = c .before .before .before .before .before .before .before .before .before .before .before .before .before .before .before .before .before .before .before .before .before in
+    let at-put-close = c .before .before in
+    let at-put-leaf = at-put-close .before .before .before .before in
+    let at-put-open = at-put-leaf .before .before .before .before in
+    let at-brackets = at-put-open .before .before in
+    let at-leaf-form = at-brackets .before in
+    let at-node = at-leaf-form .before .before in
+    let at-node-at = at-node .before .before in
+    let start = at-node-at .before .before .before .before in
+    let s = start in
     let ns = now (s .args .nodes) in
     let st = now (s .args .store) in
     let i = s .args .i in
-    let e = sym (c .before .before .before .before .before .before .before .before .before .before .before .before .before .before .before .before .before .node-at .ensures) ∙ c .before .before .before .before .before .before .before .before .before .before .before .before .before .before .before .node .given .1 in
-    let g = begin (leaf-row ns st i (s .args .place) e (c .before .before .before .before .before .before .before .before .before .before .before .before .before .leaf-form .ensures) (c .before .before .before .before .before .before .before .before .before .before .before .before .brackets .ensures)) (s .pre .1 .1 .1) in
-    wrote-length (finish (go (go g (c .before .before .before .before .before .before .before .before .before .before .put-open .ensures)) (c .before .before .before .before .before .before .put-leaf .ensures)) (c .before .before .put-close .ensures))
+    let e = sym (at-node-at .node-at .ensures) ∙ at-node .node .given .1 in
+    let g = begin (leaf-row ns st i (s .args .place) e (at-leaf-form .leaf-form .ensures) (at-brackets .brackets .ensures)) (s .pre .1 .1 .1) in
+    wrote-length (finish (go (go g (at-put-open .put-open .ensures)) (at-put-leaf .put-leaf .ensures)) (at-put-close .put-close .ensures))
 
 write-returns : (t : ℕ) → of-write write-lts.Need-returns t
 write-returns t c =
-    let s = c .before .before .before .before .before .before .before .before .before .before .before .before .before .before .before .before .before .before .before .before .before in
+    let at-put-close = c .before .before in
+    let at-put-leaf = at-put-close .before .before .before .before in
+    let at-put-open = at-put-leaf .before .before .before .before in
+    let at-brackets = at-put-open .before .before in
+    let at-leaf-form = at-brackets .before in
+    let at-node = at-leaf-form .before .before in
+    let at-node-at = at-node .before .before in
+    let start = at-node-at .before .before .before .before in
+    let s = start in
     let ns = now (s .args .nodes) in
     let st = now (s .args .store) in
     let i = s .args .i in
-    let e = sym (c .before .before .before .before .before .before .before .before .before .before .before .before .before .before .before .before .before .node-at .ensures) ∙ c .before .before .before .before .before .before .before .before .before .before .before .before .before .before .before .node .given .1 in
-    let g = begin (leaf-row ns st i (s .args .place) e (c .before .before .before .before .before .before .before .before .before .before .before .before .before .leaf-form .ensures) (c .before .before .before .before .before .before .before .before .before .before .before .before .brackets .ensures)) (s .pre .1 .1 .1) in
-    finish (go (go g (c .before .before .before .before .before .before .before .before .before .before .put-open .ensures)) (c .before .before .before .before .before .before .put-leaf .ensures)) (c .before .before .put-close .ensures)
+    let e = sym (at-node-at .node-at .ensures) ∙ at-node .node .given .1 in
+    let g = begin (leaf-row ns st i (s .args .place) e (at-leaf-form .leaf-form .ensures) (at-brackets .brackets .ensures)) (s .pre .1 .1 .1) in
+    finish (go (go g (at-put-open .put-open .ensures)) (at-put-leaf .put-leaf .ensures)) (at-put-close .put-close .ensures)
 
 write-same-length-2 : (t : ℕ) → of-write write-lts.Need-same-length-2 t
 write-same-length-2 t c =
-    let s = c .before .before .before .before .before .before .before .before .before .before .before .before .before .before .before .before .before .before .before .before .before .before .before .before .before .before .before .before .before .before in
+    let at-put-close2 = c .before .before in
+    let at-put-after = at-put-close2 .before .before .before .before in
+    let at-write = at-put-after .before .before .before .before in
+    let at-under = at-write .before .before in
+    let at-put-before = at-under .before .before .before in
+    let at-put-open2 = at-put-before .before .before .before .before in
+    let at-brackets2 = at-put-open2 .before .before in
+    let at-op-form = at-brackets2 .before in
+    let at-node2 = at-op-form .before .before in
+    let at-node-at = at-node2 .before .before in
+    let start = at-node-at .before .before .before .before in
+    let s = start in
     let ns = now (s .args .nodes) in
     let st = now (s .args .store) in
     let i = s .args .i in
-    let e = sym (c .before .before .before .before .before .before .before .before .before .before .before .before .before .before .before .before .before .before .before .before .before .before .before .before .before .before .node-at .ensures) ∙ c .before .before .before .before .before .before .before .before .before .before .before .before .before .before .before .before .before .before .before .before .before .before .before .before .node2 .given .1 in
-    let g = begin (one-row ns st i (s .args .place) (s .pre .1 .1 .0) e (c .before .before .before .before .before .before .before .before .before .before .before .before .before .before .before .before .before .before .before .before .before .before .op-form .ensures) (c .before .before .before .before .before .before .before .before .before .before .before .before .before .before .before .before .before .before .before .before .before .brackets2 .ensures) (c .before .before .before .before .before .before .before .before .before .before .before .before .under .ensures)) (s .pre .1 .1 .1) in
-    wrote-length (finish (go (go (go (go g (c .before .before .before .before .before .before .before .before .before .before .before .before .before .before .before .before .before .before .before .put-open2 .ensures)) (c .before .before .before .before .before .before .before .before .before .before .before .before .before .before .before .put-before .ensures)) (c .before .before .before .before .before .before .before .before .before .before .write .ensures)) (c .before .before .before .before .before .before .put-after .ensures)) (c .before .before .put-close2 .ensures))
+    let e = sym (at-node-at .node-at .ensures) ∙ at-node2 .node2 .given .1 in
+    let g = begin (one-row ns st i (s .args .place) (s .pre .1 .1 .0) e (at-op-form .op-form .ensures) (at-brackets2 .brackets2 .ensures) (at-under .under .ensures)) (s .pre .1 .1 .1) in
+    wrote-length (finish (go (go (go (go g (at-put-open2 .put-open2 .ensures)) (at-put-before .put-before .ensures)) (at-write .write .ensures)) (at-put-after .put-after .ensures)) (at-put-close2 .put-close2 .ensures))
 
 write-returns-2 : (t : ℕ) → of-write write-lts.Need-returns-2 t
 write-returns-2 t c =
-    let s = c .before .before .before .before .before .before .before .before .before .before .before .before .before .before .before .before .before .before .before .before .before .before .before .before .before .before .before .before .before .before in
+    let at-put-close2 = c .before .before in
+    let at-put-after = at-put-close2 .before .before .before .before in
+    let at-write = at-put-after .before .before .before .before in
+    let at-under = at-write .before .before in
+    let at-put-before = at-under .before .before .before in
+    let at-put-open2 = at-put-before .before .before .before .before in
+    let at-brackets2 = at-put-open2 .before .before in
+    let at-op-form = at-brackets2 .before in
+    let at-node2 = at-op-form .before .before in
+    let at-node-at = at-node2 .before .before in
+    let start = at-node-at .before .before .before .before in
+    let s = start in
     let ns = now (s .args .nodes) in
     let st = now (s .args .store) in
     let i = s .args .i in
-    let e = sym (c .before .before .before .before .before .before .before .before .before .before .before .before .before .before .before .before .before .before .before .before .before .before .before .before .before .before .node-at .ensures) ∙ c .before .before .before .before .before .before .before .before .before .before .before .before .before .before .before .before .before .before .before .before .before .before .before .before .node2 .given .1 in
-    let g = begin (one-row ns st i (s .args .place) (s .pre .1 .1 .0) e (c .before .before .before .before .before .before .before .before .before .before .before .before .before .before .before .before .before .before .before .before .before .before .op-form .ensures) (c .before .before .before .before .before .before .before .before .before .before .before .before .before .before .before .before .before .before .before .before .before .brackets2 .ensures) (c .before .before .before .before .before .before .before .before .before .before .before .before .under .ensures)) (s .pre .1 .1 .1) in
-    finish (go (go (go (go g (c .before .before .before .before .before .before .before .before .before .before .before .before .before .before .before .before .before .before .before .put-open2 .ensures)) (c .before .before .before .before .before .before .before .before .before .before .before .before .before .before .before .put-before .ensures)) (c .before .before .before .before .before .before .before .before .before .before .write .ensures)) (c .before .before .before .before .before .before .put-after .ensures)) (c .before .before .put-close2 .ensures)
+    let e = sym (at-node-at .node-at .ensures) ∙ at-node2 .node2 .given .1 in
+    let g = begin (one-row ns st i (s .args .place) (s .pre .1 .1 .0) e (at-op-form .op-form .ensures) (at-brackets2 .brackets2 .ensures) (at-under .under .ensures)) (s .pre .1 .1 .1) in
+    finish (go (go (go (go g (at-put-open2 .put-open2 .ensures)) (at-put-before .put-before .ensures)) (at-write .write .ensures)) (at-put-after .put-after .ensures)) (at-put-close2 .put-close2 .ensures)
 
 write-same-length-3 : (t : ℕ) → of-write write-lts.Need-same-length-3 t
 write-same-length-3 t c =
-    let s = c .before .before .before .before .before .before .before .before .before .before .before .before .before .before .before .before .before .before .before .before .before .before .before .before .before .before .before .before in
+    let at-put-close3 = c .before .before in
+    let at-write3 = at-put-close3 .before .before .before .before in
+    let at-put-separator = at-write3 .before .before .before .before in
+    let at-write2 = at-put-separator .before .before .before .before in
+    let at-put-open3 = at-write2 .before .before .before .before in
+    let at-brackets3 = at-put-open3 .before .before in
+    let at-node3 = at-brackets3 .before .before in
+    let at-node-at = at-node3 .before .before in
+    let start = at-node-at .before .before .before .before in
+    let s = start in
     let ns = now (s .args .nodes) in
     let st = now (s .args .store) in
     let i = s .args .i in
-    let e = sym (c .before .before .before .before .before .before .before .before .before .before .before .before .before .before .before .before .before .before .before .before .before .before .before .before .node-at .ensures) ∙ c .before .before .before .before .before .before .before .before .before .before .before .before .before .before .before .before .before .before .before .before .before .before .node3 .given .1 in
-    let g = begin (two-row ns st i (s .args .place) (s .pre .1 .1 .0) e (c .before .before .before .before .before .before .before .before .before .before .before .before .before .before .before .before .before .before .before .before .brackets3 .ensures)) (s .pre .1 .1 .1) in
-    wrote-length (finish (go (go (go (go g (c .before .before .before .before .before .before .before .before .before .before .before .before .before .before .before .before .before .before .put-open3 .ensures)) (c .before .before .before .before .before .before .before .before .before .before .before .before .before .before .write2 .ensures)) (c .before .before .before .before .before .before .before .before .before .before .put-separator .ensures)) (c .before .before .before .before .before .before .write3 .ensures)) (c .before .before .put-close3 .ensures))
+    let e = sym (at-node-at .node-at .ensures) ∙ at-node3 .node3 .given .1 in
+    let g = begin (two-row ns st i (s .args .place) (s .pre .1 .1 .0) e (at-brackets3 .brackets3 .ensures)) (s .pre .1 .1 .1) in
+    wrote-length (finish (go (go (go (go g (at-put-open3 .put-open3 .ensures)) (at-write2 .write2 .ensures)) (at-put-separator .put-separator .ensures)) (at-write3 .write3 .ensures)) (at-put-close3 .put-close3 .ensures))
 
 write-returns-3 : (t : ℕ) → of-write write-lts.Need-returns-3 t
 write-returns-3 t c =
-    let s = c .before .before .before .before .before .before .before .before .before .before .before .before .before .before .before .before .before .before .before .before .before .before .before .before .before .before .before .before in
+    let at-put-close3 = c .before .before in
+    let at-write3 = at-put-close3 .before .before .before .before in
+    let at-put-separator = at-write3 .before .before .before .before in
+    let at-write2 = at-put-separator .before .before .before .before in
+    let at-put-open3 = at-write2 .before .before .before .before in
+    let at-brackets3 = at-put-open3 .before .before in
+    let at-node3 = at-brackets3 .before .before in
+    let at-node-at = at-node3 .before .before in
+    let start = at-node-at .before .before .before .before in
+    let s = start in
     let ns = now (s .args .nodes) in
     let st = now (s .args .store) in
     let i = s .args .i in
-    let e = sym (c .before .before .before .before .before .before .before .before .before .before .before .before .before .before .before .before .before .before .before .before .before .before .before .before .node-at .ensures) ∙ c .before .before .before .before .before .before .before .before .before .before .before .before .before .before .before .before .before .before .before .before .before .before .node3 .given .1 in
-    let g = begin (two-row ns st i (s .args .place) (s .pre .1 .1 .0) e (c .before .before .before .before .before .before .before .before .before .before .before .before .before .before .before .before .before .before .before .before .brackets3 .ensures)) (s .pre .1 .1 .1) in
-    finish (go (go (go (go g (c .before .before .before .before .before .before .before .before .before .before .before .before .before .before .before .before .before .before .put-open3 .ensures)) (c .before .before .before .before .before .before .before .before .before .before .before .before .before .before .write2 .ensures)) (c .before .before .before .before .before .before .before .before .before .before .put-separator .ensures)) (c .before .before .before .before .before .before .write3 .ensures)) (c .before .before .put-close3 .ensures)
+    let e = sym (at-node-at .node-at .ensures) ∙ at-node3 .node3 .given .1 in
+    let g = begin (two-row ns st i (s .args .place) (s .pre .1 .1 .0) e (at-brackets3 .brackets3 .ensures)) (s .pre .1 .1 .1) in
+    finish (go (go (go (go g (at-put-open3 .put-open3 .ensures)) (at-write2 .write2 .ensures)) (at-put-separator .put-separator .ensures)) (at-write3 .write3 .ensures)) (at-put-close3 .put-close3 .ensures)
 
 write-returns-4 : (t : ℕ) → of-write write-lts.Need-returns-4 t
 write-returns-4 t c =
-    let s = c .before .before .before .before .before .before in
+    let at-node-at = c .before .before in
+    let start = at-node-at .before .before .before .before in
+    let s = start in
     let ns = now (s .args .nodes) in
     let st = now (s .args .store) in
     let i = s .args .i in
-    let e = sym (c .before .before .node-at .ensures) ∙ c .enum-told .given .1 in
+    let e = sym (at-node-at .node-at .ensures) ∙ c .enum-told .given .1 in
     absurd (sound-unknown ns st i (s .pre .1 .1 .0) e)
 
 pub +write-spec : {M : Type 1} → statement M

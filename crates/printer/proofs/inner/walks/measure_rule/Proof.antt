@@ -18,27 +18,33 @@ spend-mark-requires c κs = search needs
 
 measure-requires : tie.Need-measure-requires
 measure-requires c κs =
-    let s = c .before .before .before .before .before .before .before in
+    let at-head-at = c .before .before .before in
+    let start = at-head-at .before .before .before .before in
+    let s = start in
     let ns = now (s .args .nodes) in
     let rs = now (s .args .rules) in
     let st = now (s .args .store) in
-    let h = c .before .before .before .head-at .result in
-    let e = c .before .before .before .head-at .ensures in
+    let h = at-head-at .head-at .result in
+    let e = at-head-at .head-at .ensures in
     let v = s .pre .0 in
     let l = s .pre .1 in
     rule-tree ns rs st (s .args .k) h e v l
 
 returns : tie.Need-returns
 returns c =
-    let s = c .before .before .before .before .before .before .before .before in
+    let at-spend2 = c .before .before in
+    let at-spend = at-spend2 .before in
+    let at-head-at = at-spend .before in
+    let start = at-head-at .before .before .before .before in
+    let s = start in
     let ns = now (s .args .nodes) in
     let rs = now (s .args .rules) in
     let st = now (s .args .store) in
-    let h = c .before .before .before .before .head-at .result in
-    let e = c .before .before .before .before .head-at .ensures in
+    let h = at-head-at .head-at .result in
+    let e = at-head-at .head-at .ensures in
     let v = s .pre .0 in
     let l = s .pre .1 in
-    rule-spent ns rs st (s .args .k) h e (rule-inside ns rs st (s .args .k) h e v l) _ (c .before .before .before .spend .ensures) (c .before .before .spend2 .ensures) (c .before .spend-mark .ensures) (c .measure .ensures)
+    rule-spent ns rs st (s .args .k) h e (rule-inside ns rs st (s .args .k) h e v l) _ (at-spend .spend .ensures) (at-spend2 .spend2 .ensures) (c .before .spend-mark .ensures) (c .measure .ensures)
 
 pub measure-rule-spec : {M : Type 1} → statement M
 measure-rule-spec =

@@ -21,12 +21,14 @@ loop-holds c = (spent-begin _ _ _ _, refl)
 
 returns : tie.Need-returns Inv-loop μ-loop
 returns c =
-    let s = c .before .before .before .before .before .before in
+    let at-loop = c .before .before in
+    let start = at-loop .before .before .before .before in
+    let s = start in
     let ns = now (s .args .nodes) in
     let rs = now (s .args .rules) in
     let st = now (s .args .store) in
-    let k = c .before .before .loop .k in
-    spent-zero _ (rest ns rs st k) (c .if1 .taken) ∙ c .before .before .loop .inv .0
+    let k = at-loop .loop .k in
+    spent-zero _ (rest ns rs st k) (c .if1 .taken) ∙ at-loop .loop .inv .0
 
 measure-rule-requires : tie.Need-measure-rule-requires Inv-loop μ-loop
 measure-rule-requires c κs = (c .before .before .before .before .before .before .pre, omega (arith, c .before .before .loop .inv .1))

@@ -31,9 +31,12 @@ same-length c = search needs
 returns-2 : tie.Need-returns-2
 unfolding printIn
 returns-2 c =
-    let e = c .before .before .before .before .before .before .before .measure-rules .ensures in
-    let h = c .before .before .before .before .before .before .if1 .left in
-    let w = wrote-front (c .before .before .print-rules .ensures) (room-fits _ _ e h) in
+    let at-print-rules = c .before .before in
+    let at-if1 = at-print-rules .before .before .before .before in
+    let at-measure-rules = at-if1 .before in
+    let e = at-measure-rules .measure-rules .ensures in
+    let h = at-if1 .if1 .left in
+    let w = wrote-front (at-print-rules .print-rules .ensures) (room-fits _ _ e h) in
     (answer-used _ _ e h (w .1), w .0)
 
 pub print-valid-spec : {M : Type 1} → statement M

@@ -19,11 +19,14 @@ good-leaf-requires c κs = search needs
 
 returns : tie.Need-returns
 returns c =
-    let start = c .before .before .before .before .before .before .before .before in
+    let at-node = c .before .before .before in
+    let at-node-at = at-node .before .before in
+    let start = at-node-at .before .before .before in
+    let start = start in
     let nodes = now (start .args .nodes) in
     let store = now (start .args .store) in
-    let node-at = c .before .before .before .before .before .node-at in
-    let node = c .before .before .before .node in
+    let node-at = at-node-at .node-at in
+    let node = at-node .node in
     sym (verdict-tip nodes store (start .args .i) (sym (node-at .ensures) ∙ node .given .1) (sym (c .before .good-leaf .ensures) ∙ c .if1 .taken))
 
 enum-known-node-2 : tie.Need-enum-known-node-2
@@ -110,29 +113,38 @@ enum-told c = search needs
 
 returns-4 : tie.Need-returns-4
 returns-4 c =
-    let start = c .before .before .before .before .before .before .before .before in
+    let at-node = c .before .before .before in
+    let at-node-at = at-node .before .before in
+    let start = at-node-at .before .before .before in
+    let start = start in
     let nodes = now (start .args .nodes) in
     let store = now (start .args .store) in
-    let node-at = c .before .before .before .before .before .node-at in
-    let node = c .before .before .before .node in
+    let node-at = at-node-at .node-at in
+    let node = at-node .node in
     sym (verdict-tip-out nodes store (start .args .i) (sym (node-at .ensures) ∙ node .given .1) (sym (c .before .good-leaf .ensures) ∙ c .if1 .left))
 
 returns-5 : tie.Need-returns-5
 returns-5 c =
-    let start = c .before .before .before .before .before .before .before .before .before .before in
+    let at-node2 = c .before .before .before .before .before in
+    let at-node-at = at-node2 .before .before in
+    let start = at-node-at .before .before .before in
+    let start = start in
     let nodes = now (start .args .nodes) in
     let store = now (start .args .store) in
-    let node-at = c .before .before .before .before .before .before .before .node-at in
-    let node2 = c .before .before .before .before .before .node2 in
+    let node-at = at-node-at .node-at in
+    let node2 = at-node2 .node2 in
     sym (verdict-one-op nodes store (start .args .i) (sym (node-at .ensures) ∙ node2 .given .1) (sym (c .before .good-op .ensures) ∙ c .if4 .left))
 
 returns-6 : tie.Need-returns-6
 returns-6 c =
-    let start = c .before .before .before .before .before .before .before .before in
+    let at-node2 = c .before .before .before in
+    let at-node-at = at-node2 .before .before in
+    let start = at-node-at .before .before .before in
+    let start = start in
     let nodes = now (start .args .nodes) in
     let store = now (start .args .store) in
-    let node-at = c .before .before .before .before .before .node-at in
-    let node2 = c .before .before .before .node2 in
+    let node-at = at-node-at .node-at in
+    let node2 = at-node2 .node2 in
     sym (verdict-one-child nodes store (start .args .i) (sym (node-at .ensures) ∙ node2 .given .1) (c .if3 .left))
 
 returns-7 : tie.Need-returns-7
@@ -165,11 +177,14 @@ returns-9 c =
 
 returns-10 : tie.Need-returns-10
 returns-10 c =
-    let start = c .before .before .before .before .before .before .before .before in
+    let at-node3 = c .before .before .before in
+    let at-node-at = at-node3 .before .before in
+    let start = at-node-at .before .before .before in
+    let start = start in
     let nodes = now (start .args .nodes) in
     let store = now (start .args .store) in
-    let node-at = c .before .before .before .before .before .node-at in
-    let node3 = c .before .before .before .node3 in
+    let node-at = at-node-at .node-at in
+    let node3 = at-node3 .node3 in
     sym (verdict-two-right nodes store (start .args .i) (sym (node-at .ensures) ∙ node3 .given .1) (c .if6 .left))
 
 returns-11 : tie.Need-returns-11
@@ -183,10 +198,12 @@ returns-11 c =
 
 returns-12 : tie.Need-returns-12
 returns-12 c =
-    let start = c .before .before .before .before .before in
+    let at-node-at = c .before .before in
+    let start = at-node-at .before .before .before in
+    let start = start in
     let nodes = now (start .args .nodes) in
     let store = now (start .args .store) in
-    let node-at = c .before .before .node-at in
+    let node-at = at-node-at .node-at in
     sym (verdict-unknown nodes store (start .args .i) (sym (node-at .ensures) ∙ c .enum-told .given .1))
 
 pub first-of-spec : {M : Type 1} → statement M

@@ -24,9 +24,11 @@ begin-at-requires c κs = search needs
 returns : tie.Need-returns
 unfolding goodRoot
 returns c =
-    let start = c .before .before .before .before .before .before in
+    let at-if1 = c .before .before .before in
+    let start = at-if1 .before .before .before in
+    let start = start in
     let nodes = now (start .args .nodes) in
-    let if1 = c .before .before .before .if1 in
+    let if1 = at-if1 .if1 in
     let b = c .begin-at .ensures in let w = c .before .wide .ensures ∙ start .pre .1 .1 .at (start .args .root) (if1 .taken) in ap (λ (x : ℕ). eqb x (c .begin-at .result)) w ∙ ap (eqb (firstAt nodes (start .args .root))) b ∙ rw (lt-ltb (start .args .root) (nodesIn nodes) (if1 .taken))
 
 returns-2 : tie.Need-returns-2

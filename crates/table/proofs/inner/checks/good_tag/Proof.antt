@@ -33,10 +33,13 @@ is-label-requires c κs = search needs
 
 returns : tie.Need-returns
 returns c =
-    let start = c .before .before .before .before .before in
+    let at-if1 = c .before .before in
+    let at-is-inside = at-if1 .before in
+    let start = at-is-inside .before .before in
+    let start = start in
     let store = now (start .args .store) in
-    let is-inside = c .before .before .before .is-inside in
-    let if1 = c .before .before .if1 in
+    let is-inside = at-is-inside .is-inside in
+    let if1 = at-if1 .if1 in
     c .is-label .ensures ∙ ap isLabel (part-between store (start .args .p) (start .args .n)) ∙ sym (tag-in store (start .args .p) (start .args .n) (sym (is-inside .ensures) ∙ if1 .taken))
 
 returns-2 : tie.Need-returns-2

@@ -32,12 +32,15 @@ good-rule-requires c κs =
 
 returns : tie.Need-returns Inv-loop μ-loop
 returns c =
-    let start = c .before .before .before .before .before .before .before in
+    let at-loop-test = c .before .before in
+    let at-loop = at-loop-test .before in
+    let start = at-loop .before .before .before .before in
+    let start = start in
     let nodes = now (start .args .nodes) in
     let rules = now (start .args .rules) in
     let store = now (start .args .store) in
-    let loop-test = c .before .before .loop-test in
-    let loop = c .before .before .before .loop in
+    let loop-test = at-loop-test .loop-test in
+    let loop = at-loop .loop in
     sym (lowest-bad (goodRule nodes rules store) _ _ (loop-test .taken) (loop .inv .1) (sym (c .before .good-rule .ensures) ∙ not-true _ (c .if1 .taken)))
 
 add-k : tie.Need-add-k Inv-loop μ-loop

@@ -35,10 +35,14 @@ next-is-requires-3 c κs = search needs
 returns-2 : tie.Need-returns-2
 unfolding slashBlank lineBlank
 returns-2 c =
-    let next-is = c .before .before .before .before .before .next-is in
-    let if1 = c .before .before .before .before .if1 in
-    let next-is2 = c .before .before .before .next-is2 in
-    let if2 = c .before .before .if2 in
+    let at-if2 = c .before .before in
+    let at-next-is2 = at-if2 .before in
+    let at-if1 = at-next-is2 .before in
+    let at-next-is = at-if1 .before in
+    let next-is = at-next-is .next-is in
+    let if1 = at-if1 .if1 in
+    let next-is2 = at-next-is2 .next-is2 in
+    let if2 = at-if2 .if2 in
     let next-is3 = c .before .next-is3 in
     rw (sym (next-is .ensures) ∙ if1 .taken, drop-next, sym (next-is2 .ensures) ∙ if2 .left, sym (next-is3 .ensures) ∙ c .if3 .taken)
 
@@ -68,12 +72,18 @@ enum-known-close c = search needs
 returns-4 : tie.Need-returns-4
 unfolding slashBlank
 returns-4 c =
-    let args = c .before .before .before .before .before .before .before .before .before .args in
-    let next-is = c .before .before .before .before .before .before .before .next-is in
-    let if1 = c .before .before .before .before .before .before .if1 in
-    let next-is4 = c .before .before .before .before .before .next-is4 in
-    let if4 = c .before .before .before .before .if4 in
-    let comment-end = c .before .before .before .comment-end in
+    let at-comment-end = c .before .before .before in
+    let at-if4 = at-comment-end .before in
+    let at-next-is4 = at-if4 .before in
+    let at-if1 = at-next-is4 .before in
+    let at-next-is = at-if1 .before in
+    let start = at-next-is .before .before in
+    let args = start .args in
+    let next-is = at-next-is .next-is in
+    let if1 = at-if1 .if1 in
+    let next-is4 = at-next-is4 .next-is4 in
+    let if4 = at-if4 .if4 in
+    let comment-end = at-comment-end .comment-end in
     let close = c .before .close in
     rw (sym (next-is .ensures) ∙ if1 .left, sym (next-is4 .ensures) ∙ if4 .taken, drop-next) (comment-closed _ _ (closeOf 1 (drop (args .at + 2) (args .s .now))) (sym (comment-end .ensures) ∙ close .given .1))
 
@@ -83,12 +93,18 @@ enum-told c = search needs
 returns-5 : tie.Need-returns-5
 unfolding slashBlank
 returns-5 c =
-    let args = c .before .before .before .before .before .before .before .before .args in
-    let next-is = c .before .before .before .before .before .before .next-is in
-    let if1 = c .before .before .before .before .before .if1 in
-    let next-is4 = c .before .before .before .before .next-is4 in
-    let if4 = c .before .before .before .if4 in
-    let comment-end = c .before .before .comment-end in
+    let at-comment-end = c .before .before in
+    let at-if4 = at-comment-end .before in
+    let at-next-is4 = at-if4 .before in
+    let at-if1 = at-next-is4 .before in
+    let at-next-is = at-if1 .before in
+    let start = at-next-is .before .before in
+    let args = start .args in
+    let next-is = at-next-is .next-is in
+    let if1 = at-if1 .if1 in
+    let next-is4 = at-next-is4 .next-is4 in
+    let if4 = at-if4 .if4 in
+    let comment-end = at-comment-end .comment-end in
     rw (sym (next-is .ensures) ∙ if1 .left, sym (next-is4 .ensures) ∙ if4 .taken, drop-next) (comment-open _ (closeOf 1 (drop (args .at + 2) (args .s .now))) (sym (comment-end .ensures) ∙ c .enum-told .given .1))
 
 returns-6 : tie.Need-returns-6

@@ -30,10 +30,14 @@ quoted-at-requires c κs =
 returns : tie.Need-returns
 unfolding charToken
 returns c =
-    let next-is = c .before .before .before .before .before .before .next-is in
-    let if1 = c .before .before .before .before .before .if1 in
-    let escape-at = c .before .before .before .before .escape-at in
-    let escape = c .before .before .escape in
+    let at-escape = c .before .before in
+    let at-escape-at = at-escape .before .before in
+    let at-if1 = at-escape-at .before in
+    let at-next-is = at-if1 .before in
+    let next-is = at-next-is .next-is in
+    let if1 = at-if1 .if1 in
+    let escape-at = at-escape-at .escape-at in
+    let escape = at-escape .escape in
     rw (sym (next-is .ensures) ∙ if1 .taken, sym (escape-at .ensures) ∙ escape .given .1) (c .quoted-at .ensures)
 
 enum-told : tie.Need-enum-told
@@ -66,10 +70,14 @@ enum-told-2 c = search needs
 returns-3 : tie.Need-returns-3
 unfolding charToken
 returns-3 c =
-    let next-is = c .before .before .before .before .before .before .next-is in
-    let if1 = c .before .before .before .before .before .if1 in
-    let char-at = c .before .before .before .before .char-at in
-    let sequence = c .before .before .sequence in
+    let at-sequence = c .before .before in
+    let at-char-at = at-sequence .before .before in
+    let at-if1 = at-char-at .before in
+    let at-next-is = at-if1 .before in
+    let next-is = at-next-is .next-is in
+    let if1 = at-if1 .if1 in
+    let char-at = at-char-at .char-at in
+    let sequence = at-sequence .sequence in
     rw (sym (next-is .ensures) ∙ if1 .left, sym (char-at .ensures) ∙ sequence .given .1) (c .quoted-at2 .ensures)
 
 returns-4 : tie.Need-returns-4

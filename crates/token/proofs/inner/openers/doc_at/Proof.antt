@@ -56,10 +56,14 @@ returns-3 c =
 returns-4 : tie.Need-returns-4
 unfolding docToken
 returns-4 c =
-    let next-is = c .before .before .before .before .before .next-is in
-    let if1 = c .before .before .before .before .if1 in
-    let next-is2 = c .before .before .before .next-is2 in
-    let if2 = c .before .before .if2 in
+    let at-if2 = c .before .before in
+    let at-next-is2 = at-if2 .before in
+    let at-if1 = at-next-is2 .before in
+    let at-next-is = at-if1 .before in
+    let next-is = at-next-is .next-is in
+    let if1 = at-if1 .if1 in
+    let next-is2 = at-next-is2 .next-is2 in
+    let if2 = at-if2 .if2 in
     let next-is3 = c .before .next-is3 in
     rw (sym (next-is .ensures) ∙ not-false _ (if1 .left), drop-next, sym (next-is2 .ensures) ∙ if2 .left, sym (next-is3 .ensures) ∙ c .if3 .left) (none _)
 

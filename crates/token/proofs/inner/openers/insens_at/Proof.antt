@@ -23,8 +23,10 @@ string-at-requires c κs = search needs
 returns-2 : tie.Need-returns-2
 unfolding insensToken
 returns-2 c =
-    let args = c .before .before .before .before .before .args in
-    let if1 = c .before .before .before .if1 in
+    let at-if1 = c .before .before .before in
+    let start = at-if1 .before .before in
+    let args = start .args in
+    let if1 = at-if1 .if1 in
     let if2 = c .before .if2 in
     let a = args in rw (next-at (a .s .now) (a .at + 1) (if1 .left) 34 (if2 .taken), drop-next) (c .string-at .ensures)
 

@@ -49,10 +49,14 @@ loop-less c =
 
 loop-again : tie.Need-loop-again Inv-loop μ-loop
 loop-again c =
-    let loop = c .before .before .before .before .before .before .before .before .loop in
-    let loop-test = c .before .before .before .before .before .before .before .loop-test in
-    let if1 = c .before .before .before .before .before .if1 in
-    let escape-at = c .before .before .before .escape-at in
+    let at-escape-at = c .before .before .before in
+    let at-if1 = at-escape-at .before .before in
+    let at-loop-test = at-if1 .before .before in
+    let at-loop = at-loop-test .before in
+    let loop = at-loop .loop in
+    let loop-test = at-loop-test .loop-test in
+    let if1 = at-if1 .if1 in
+    let escape-at = at-escape-at .escape-at in
     let escape = c .before .escape in
     sym (inside-escape _ _ (loop-test .taken) _ _ (if1 .left) (sym (escape-at .ensures) ∙ escape .given .1)) ∙ loop .inv
 
@@ -61,11 +65,16 @@ enum-told c = search needs
 
 returns-2 : tie.Need-returns-2 Inv-loop μ-loop
 returns-2 c =
-    let loop = c .before .before .before .before .before .before .before .loop in
-    let loop-test = c .before .before .before .before .before .before .loop-test in
-    let if1 = c .before .before .before .before .if1 in
-    let if2 = c .before .before .before .if2 in
-    let escape-at = c .before .before .escape-at in
+    let at-escape-at = c .before .before in
+    let at-if2 = at-escape-at .before in
+    let at-if1 = at-if2 .before in
+    let at-loop-test = at-if1 .before .before in
+    let at-loop = at-loop-test .before in
+    let loop = at-loop .loop in
+    let loop-test = at-loop-test .loop-test in
+    let if1 = at-if1 .if1 in
+    let if2 = at-if2 .if2 in
+    let escape-at = at-escape-at .escape-at in
     sym (inside-bad _ _ (loop-test .taken) (if2 .taken) (if1 .left) (sym (escape-at .ensures) ∙ c .enum-told .given .1)) ∙ loop .inv
 
 add-i-2 : tie.Need-add-i-2 Inv-loop μ-loop

@@ -19,9 +19,12 @@ enum-known-inside c = search needs
 
 shared-slice-read-if1 : tie.Need-shared-slice-read-if1
 shared-slice-read-if1 c =
-    let args = c .before .before .before .before .before .before .args in
-    let inside-end = c .before .before .before .before .inside-end in
-    let inside = c .before .before .inside in
+    let at-inside = c .before .before in
+    let at-inside-end = at-inside .before .before in
+    let start = at-inside-end .before .before in
+    let args = start .args in
+    let inside-end = at-inside-end .inside-end in
+    let inside = at-inside .inside in
     let a = args in string-inside (a .s .now) (a .at) (a .k) _ (sym (inside-end .ensures) ∙ inside .given .1)
 
 add-t12 : tie.Need-add-t12
@@ -33,8 +36,10 @@ add-t12 c =
 
 returns : tie.Need-returns
 returns c =
-    let inside-end = c .before .before .before .before .before .inside-end in
-    let inside = c .before .before .before .inside in
+    let at-inside = c .before .before .before in
+    let at-inside-end = at-inside .before .before in
+    let inside-end = at-inside-end .inside-end in
+    let inside = at-inside .inside in
     string-closed _ _ _ _ (sym (inside-end .ensures) ∙ inside .given .1) _ (c .if1 .taken)
 
 returns-2 : tie.Need-returns-2
@@ -44,8 +49,10 @@ returns-2 c =
 
 returns-3 : tie.Need-returns-3
 returns-3 c =
-    let inside-end = c .before .before .before .before .before .inside-end in
-    let inside = c .before .before .before .inside in
+    let at-inside = c .before .before .before in
+    let at-inside-end = at-inside .before .before in
+    let inside-end = at-inside-end .inside-end in
+    let inside = at-inside .inside in
     string-bad _ _ _ _ (sym (inside-end .ensures) ∙ inside .given .1) _ (c .if1 .left)
 
 pub string-at-spec : {M : Type 1} → statement M

@@ -38,8 +38,10 @@ returns-2 c =
 returns-3 : tie.Need-returns-3
 unfolding tagToken
 returns-3 c =
-    let args = c .before .before .before .before .before .args in
-    let if1 = c .before .before .before .if1 in
+    let at-if1 = c .before .before .before in
+    let start = at-if1 .before .before in
+    let args = start .args in
+    let if1 = at-if1 .if1 in
     let starts-word = c .before .starts-word in
     let a = args in rw (first-at (a .s .now) (a .at + 1) (if1 .left) startsWord _ (sym (starts-word .ensures) ∙ c .if2 .left)) (none _)
 

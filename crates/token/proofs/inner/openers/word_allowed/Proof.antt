@@ -42,9 +42,12 @@ begins-at-requires-2 c κs = search needs
 returns-4 : tie.Need-returns-4
 unfolding allowed
 returns-4 c =
-    let begins-at = c .before .before .before .before .before .begins-at in
-    let if2 = c .before .before .before .before .if2 in
-    let if4 = c .before .before .if4 in
+    let at-if4 = c .before .before in
+    let at-if2 = at-if4 .before .before in
+    let at-begins-at = at-if2 .before in
+    let begins-at = at-begins-at .begins-at in
+    let if2 = at-if2 .if2 in
+    let if4 = at-if4 .if4 in
     rw (sym (begins-at .ensures) ∙ not-false _ (if2 .left), if4 .taken) (c .begins-at2 .ensures)
 
 returns-5 : tie.Need-returns-5

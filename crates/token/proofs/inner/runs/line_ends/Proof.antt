@@ -20,7 +20,8 @@ next-is-requires c κs = search needs
 
 returns-2 : tie.Need-returns-2
 returns-2 c =
-    let pre = c .before .before .before .before .before .pre in
+    let start = c .before .before .before .before .before in
+    let pre = start .pre in
     let if2 = c .before .if2 in
     rw (at-byte _ _ (pre), if2 .taken) (c .next-is .ensures)
 
