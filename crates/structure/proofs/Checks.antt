@@ -1,0 +1,362 @@
+-- The paths of the functions that check expressions, terms and nodes.
+use Prim.Native.Nat.{ℕ, zero, suc, _+_, _-_, _*_, _≤_, _<_}
+use mathlib.Core.Path.{_≡_, refl, sym, ap, _∙_, subst}
+use mathlib.Core.Bool.{Bool, true, false}
+use mathlib.Core.List.{List}
+use mathlib.Core.Logic.{_⊎_, inl, inr}
+use native.Mathlib.Omega.{arith}
+use lib.ListN.{length}
+use Rattle.text.specs.Choice.{choose, and}
+use Rattle.text.specs.Words.{push}
+use Rattle.table.specs.Tree.{Span, plain, Tree, count, size}
+use Rattle.table.specs.declared.Unary.{Unary}
+use Rattle.table.specs.declared.Unary.the-variants.{PosPred, NegPred, Push}
+use Rattle.structure.specs.declared.Level.{Level}
+use Rattle.structure.specs.declared.Level.the-variants.{Tagged, Plain}
+use Rattle.structure.specs.declared.Refusal.{Refusal}
+use Rattle.structure.specs.declared.Refusal.the-variants.{NotAllowed}
+use Rattle.structure.specs.declared.Checked.{Checked}
+use Rattle.structure.specs.declared.Checked.the-variants as Checked
+use Rattle.structure.specs.declared.Wanted.{Wanted}
+use Rattle.structure.specs.declared.Wanted.the-variants.{Here, Missing}
+use Rattle.structure.specs.declared.Opening.{Opening}
+use Rattle.structure.specs.declared.Opening.the-variants.{From, Untied}
+use Rattle.structure.specs.declared.Bracket.{Bracket}
+use Rattle.structure.specs.declared.Bracket.the-variants.{Opens, Unopened, Nothing}
+use Rattle.structure.specs.declared.Tail.{Tail}
+use Rattle.structure.specs.declared.Tail.the-variants as Tail
+use Rattle.structure.specs.declared.Tails.{Tails}
+use Rattle.structure.specs.declared.Tails.the-variants as Tails
+use Rattle.structure.specs.Tokens.{toks, kind, start, end, is, label, spells}
+use Rattle.structure.specs.Structure.{Parsed, got, refused, next, want, opened, endsAt, before, after, inTag, post, postfixAt, leafAt, postsBy, expr, term, signed, node, posts, Run}
+use Rattle.structure.specs.Answers.{summary, wanted, tagNodes, tagBytes, openingOf, signOf, signs, Signed, bracketOf, tailOf, tailed, Posted}
+use Rattle.structure.proofs.Steps.{choose-true, choose-false, inside-is, sees, misses, want-true, want-false, next-assoc, next-fun, next-on, next-id, spells-in}
+use Rattle.structure.proofs.Sizes.{most, label-short, Grown, grown-none, grown-ends, grown-before, grown-after, grown-tag, tag-small}
+use Rattle.structure.proofs.Fuel.{postfix-past}
+use Rattle.structure.proofs.Grammar.{term-law, signed-law, node-law, posts-law}
+use Rattle.structure.proofs.Arrays.{label-length}
+use Rattle.structure.proofs.Wants.{was-here, was-missing, was-past, was-bad, was-ended, good, bad, sum-refused, sum-got}
+
+-- ---- a tag
+
+-- a term from its predicates on, in its tag
+pub record Opened (level : Level) (s : List ℕ) (at p k b : ℕ) : Type 0 where
+  pub from : at + k ≤ p
+  pub within : (at ≡ p → ⊥) → p ≤ length (toks s)
+  pub one : k ≤ 1
+  pub small : length s ≤ 65536 → b ≤ most * k
+  pub wrap : Tree Span → Tree Span
+  pub same : (o : ℕ) → Run level s (term o at) ≡ next (Run level s (signed o p)) (λ t n. got (wrap t) n)
+  pub grown : (t : Tree Span) → Grown t (wrap t) k b
+
+module _ (level : Level) (s : List ℕ) (at : ℕ) where
+  untagged : is s at 19 ≡ false → Opened level s at at 0 0
+  untagged e = record {
+    from = omega arith;
+    within = λ h. absurd (h refl);
+    one = omega arith;
+    small = λ h. omega arith;
+    wrap = λ t. t;
+    same = λ o. term-law level s o at ∙ choose-false (is s at 19) _ _ e ∙ sym (next-id (Run level s (signed o at)));
+    grown = λ t. grown-none t;
+  }
+
+  tagged : is s at 19 ≡ true → is s (at + 1) 1 ≡ true → Opened level s at (at + 2) (tagNodes level) (tagBytes level (length (label s at)))
+  tagged e f =
+      let m = inside-is s (at + 1) 1 (omega arith) f in
+      let h = label-short s at in
+      let y = tag-small level 0 (omega arith) in
+      let z : at + 1 + 1 ≡ at + 2 = omega arith in
+      record {
+        from = omega arith;
+        within = λ n. omega arith;
+        one = y .0;
+        small = λ w. tag-small level (length (label s at)) (omega arith) .1;
+        wrap = inTag level (start s at) (label s at);
+        same = λ o. term-law level s o at ∙ choose-true (is s at 19) _ _ e ∙ want-true refused s (at + 1) 1 _ f ∙ ap (λ (j : ℕ). next (Run level s (signed o j)) (λ t n. got (inTag level (start s at) (label s at) t) n)) z;
+        grown = λ t. grown-tag level (start s at) (label s at) t;
+      }
+
+  by-tag : (p k b : ℕ) (b₁ b₂ : Bool) (k₁ n₁ : ℕ) → (b₁ ≡ false → Opened level s at at 0 0) → (b₁ ≡ true → b₂ ≡ true → Opened level s at (at + 2) k₁ n₁)
+      → choose b₁ (λ u. choose b₂ (λ u. From (at + 2) k₁ n₁) (λ u. Untied)) (λ u. From at 0 0) ≡ From p k b → Opened level s at p k b
+  by-tag p k b false b₂ k₁ n₁ f g e =
+      let x : at ≡ p = cc in
+      let y : _≡_ {A = ℕ} 0 k = cc in
+      let z : _≡_ {A = ℕ} 0 b = cc in
+      subst (λ (i : ℕ). Opened level s at p k i) z (subst (λ (i : ℕ). Opened level s at p i 0) y (subst (λ (i : ℕ). Opened level s at i 0 0) x (f refl)))
+  by-tag p k b true true k₁ n₁ f g e =
+      let x : at + 2 ≡ p = cc in
+      let y : k₁ ≡ k = cc in
+      let z : n₁ ≡ b = cc in
+      subst (λ (i : ℕ). Opened level s at p k i) z (subst (λ (i : ℕ). Opened level s at p i n₁) y (subst (λ (i : ℕ). Opened level s at i k₁ n₁) x (g refl refl)))
+  by-tag p k b true false k₁ n₁ f g e = let z : _≡_ {A = ℕ} 0 1 = cc in absurd (omega arith)
+
+  no-tag : (b₁ b₂ : Bool) (k b : ℕ) → choose b₁ (λ u. choose b₂ (λ u. From (at + 2) k b) (λ u. Untied)) (λ u. From at 0 0) ≡ Untied → (b₁ ≡ true) × (b₂ ≡ false)
+  no-tag true false k b e = (refl, refl)
+  no-tag true true k b e = let z : _≡_ {A = ℕ} 0 1 = cc in absurd (omega arith)
+  no-tag false b₂ k b e = let z : _≡_ {A = ℕ} 0 1 = cc in absurd (omega arith)
+
+  pub was-from : (r : Opening) (p k b : ℕ) → r ≡ openingOf level s at → r ≡ From p k b → Opened level s at p k b
+  unfolding openingOf
+  was-from r p k b e q = by-tag p k b (is s at 19) (is s (at + 1) 1) (tagNodes level) (tagBytes level (length (label s at))) untagged tagged (sym e ∙ q)
+
+  pub was-untied : (r : Opening) → r ≡ openingOf level s at → r ≡ Untied → (at < length (toks s)) × ((o : ℕ) → Run level s (term o at) ≡ refused (NotAllowed (start s (at + 1))))
+  unfolding openingOf
+  was-untied r e q =
+      let (f, g) = no-tag (is s at 19) (is s (at + 1) 1) (tagNodes level) (tagBytes level (length (label s at))) (sym e ∙ q) in
+      (inside-is s at 19 (omega arith) f, λ o. term-law level s o at ∙ choose-true (is s at 19) _ _ f ∙ want-false refused s (at + 1) 1 _ g)
+
+  -- what `tag_of` answers
+  pub tag-none : (x : ℕ) → x ≡ kind s at → (x ≡ 19 → ⊥) → From at 0 0 ≡ openingOf level s at
+  unfolding openingOf
+  tag-none x e q = sym (choose-false (is s at 19) _ _ (misses s at x 19 e q))
+
+  module _ (x : ℕ) (e : x ≡ kind s at) (q : x ≡ 19) (r : Wanted) (f : r ≡ wanted s (at + 1) 1) where
+    pub tag-untied : r ≡ Missing → Untied ≡ openingOf level s at
+    unfolding openingOf
+    tag-untied h = sym (choose-true (is s at 19) _ _ (sees s at x 19 e q) ∙ choose-false (is s (at + 1) 1) _ _ (was-missing s (at + 1) 1 r f h))
+
+    tag-is : (p : ℕ) → r ≡ Here p → openingOf level s at ≡ From p (tagNodes level) (tagBytes level (length (label s at)))
+    unfolding openingOf
+    tag-is p h =
+        let w = was-here s (at + 1) 1 r p f h in
+        let z : at + 2 ≡ p = let y = w .1 in omega arith in
+        choose-true (is s at 19) _ _ (sees s at x 19 e q) ∙ choose-true (is s (at + 1) 1) _ _ (w .0) ∙ ap (λ (i : ℕ). From i (tagNodes level) (tagBytes level (length (label s at)))) z
+
+    pub tag-kept : (p : ℕ) → r ≡ Here p → level ≡ Tagged → (a z : ℕ) → a ≡ start s at → z ≡ end s at → From p 1 (z - (a + 1)) ≡ openingOf level s at
+    tag-kept p h k a z i j =
+        let l = label-length s at a z i j in
+        sym (tag-is p h ∙ ap (λ (v : Level). From p (tagNodes v) (tagBytes v (length (label s at)))) k ∙ ap (From p 1) (sym l))
+
+    pub tag-dropped : (p : ℕ) → r ≡ Here p → level ≡ Plain → From p 0 0 ≡ openingOf level s at
+    tag-dropped p h k = sym (tag-is p h ∙ ap (λ (v : Level). From p (tagNodes v) (tagBytes v (length (label s at)))) k)
+
+-- ---- predicates
+
+sign-pos : (s : List ℕ) (i : ℕ) → is s i 8 ≡ true → signOf s i ≡ PosPred
+sign-pos s i e = choose-true (is s i 8) _ _ e
+
+sign-neg : (s : List ℕ) (i : ℕ) → is s i 8 ≡ false → signOf s i ≡ NegPred
+sign-neg s i e = choose-false (is s i 8) _ _ e
+
+signs-in : (s : List ℕ) (at k p : ℕ) (t : Tree Span) → p ≡ at + k → signs s at k (before (start s p) (plain (signOf s p)) t) ≡ signs s at (suc k) t
+unfolding signs
+signs-in s at zero p t e = let z : p ≡ at = omega arith in ap (λ (j : ℕ). before (start s j) (plain (signOf s j)) t) z
+signs-in s at (suc k) p t e = ap (before (start s at) (plain (signOf s at))) (signs-in s (at + 1) k p t (omega arith))
+
+pub grown-signs : (s : List ℕ) (at k : ℕ) (t : Tree Span) → Grown t (signs s at k t) k 0
+unfolding signs
+grown-signs s at zero t = grown-none t
+grown-signs s at (suc k) t =
+    let i = grown-signs s (at + 1) k t in
+    let g = grown-before (start s at) (signOf s at) (signs s (at + 1) k t) in
+    record { counts = omega arith; sizes = omega arith }
+
+module _ (s : List ℕ) where
+  -- a predicate and what follows it
+  sign-step : (level : Level) (o i x : ℕ) → x ≡ kind s i → (x ≡ 8) ⊎ (x ≡ 9) → Run level s (signed o i) ≡ next (Run level s (signed o (i + 1))) (λ t n. got (before (start s i) (plain (signOf s i)) t) n)
+  sign-step level o i x e (inl q) =
+      let v = sees s i x 8 e q in
+      signed-law level s o i ∙ choose-true (is s i 8) _ _ v ∙ next-fun _ _ _ (λ t n. ap (λ (u : Unary). got (before (start s i) (plain u) t) n) (sym (sign-pos s i v)))
+  sign-step level o i x e (inr q) =
+      let w = misses s i x 8 e (λ h. let z : _≡_ {A = ℕ} 8 9 = sym h ∙ q in omega arith) in
+      signed-law level s o i ∙ choose-false (is s i 8) _ _ w ∙ choose-true (is s i 9) _ _ (sees s i x 9 e q)
+      ∙ next-fun _ _ _ (λ t n. ap (λ (u : Unary). got (before (start s i) (plain u) t) n) (sym (sign-neg s i w)))
+
+  sign-inside : (i x : ℕ) → x ≡ kind s i → (x ≡ 8) ⊎ (x ≡ 9) → i < length (toks s)
+  sign-inside i x e (inl q) = inside-is s i 8 (omega arith) (sees s i x 8 e q)
+  sign-inside i x e (inr q) = inside-is s i 9 (omega arith) (sees s i x 9 e q)
+
+  pub record SignInv (at p : ℕ) : Type 0 where
+    pub from : at ≤ p
+    pub within : (at ≡ p → ⊥) → p ≤ length (toks s)
+    pub same : (level : Level) (o : ℕ) → Run level s (signed o at) ≡ next (Run level s (signed o p)) (λ t n. got (signs s at (p - at) t) n)
+
+  pub sign-none : (at : ℕ) → SignInv at at
+  unfolding signs
+  sign-none at =
+      let z : at - at ≡ 0 = omega arith in
+      record {
+        from = omega arith;
+        within = λ h. absurd (h refl);
+        same = λ level o. sym (next-fun _ _ _ (λ t n. ap (λ (k : ℕ). got (signs s at k t) n) z) ∙ next-id (Run level s (signed o at)));
+      }
+
+  pub sign-more : (at p x : ℕ) → x ≡ kind s p → (x ≡ 8) ⊎ (x ≡ 9) → SignInv at p → (p < length (toks s)) × SignInv at (p + 1)
+  sign-more at p x e q i =
+      let h = i .from in
+      let z : suc (p - at) ≡ p + 1 - at = omega arith in
+      let m = sign-inside p x e q in (
+        m,
+        record {
+          from = omega arith;
+          within = λ n. omega arith;
+          same = λ level o.
+              i .same level o ∙ ap (λ (m : Parsed). next m (λ t n. got (signs s at (p - at) t) n)) (sign-step level o p x e q) ∙ next-assoc _ _ _
+              ∙ next-fun _ _ _ (λ t n. next-on _ _ _ ∙ ap (λ (u : Tree Span). got u n) (signs-in s at (p - at) p t (omega arith) ∙ ap (λ (k : ℕ). signs s at k t) z));
+        },
+      )
+
+  pub sign-done : (at p x : ℕ) → x ≡ kind s p → (x ≡ 8 → ⊥) → (x ≡ 9 → ⊥) → SignInv at p → Signed s at p
+  sign-done at p x e q r i = record { from = i .from; within = i .within; same = i .same; noPos = misses s p x 8 e q; noNeg = misses s p x 9 e r }
+
+  -- ---- postfixes
+
+  pub record PostInv (at p k : ℕ) : Type 0 where
+    pub from : at + k ≤ p
+    pub within : (at ≡ p → ⊥) → p ≤ length (toks s)
+    pub around : (level : Level) (t : Tree Span) → (u : Tree Span) × (Run level s (posts t at) ≡ Run level s (posts u p)) × Grown t u k 0
+
+  pub post-start : (at : ℕ) → PostInv at at 0
+  post-start at = record { from = omega arith; within = λ h. absurd (h refl); around = λ level t. (t, refl, grown-none t) }
+
+  posts-on : (level : Level) (t : Tree Span) (i : ℕ) (v : Unary) (n : ℕ) → postfixAt s i ≡ post v n → Run level s (posts t i) ≡ Run level s (posts (after (end s (n - 1)) v t) n)
+  posts-on level t i v n e = posts-law level s t i ∙ ap (λ p. postsBy p (λ v n. Run level s (posts (after (end s (n - 1)) v t) n)) (λ u. got t i)) e
+
+  pub post-more : (at p k : ℕ) (r : Tail) (n : ℕ) → r ≡ tailOf (postfixAt s p) → r ≡ Tail.Past n → PostInv at p k → (p < n) × (n ≤ length (toks s)) × PostInv at n (k + 1)
+  post-more at p k r n e q i =
+      let (v, f) = was-past (postfixAt s p) r n e q in
+      let h = postfix-past s p v n f in
+      let l = i .from in (
+        h .0,
+        h .1,
+        record {
+          from = omega arith;
+          within = λ m. h .1;
+          around = λ level t.
+              let (u, g, w) = i .around level t in
+              let y = grown-after (end s (n - 1)) v u in
+              (after (end s (n - 1)) v u, g ∙ posts-on level u p v n f, record { counts = omega arith; sizes = omega arith });
+        },
+      )
+
+  pub post-bad : (at p k : ℕ) (r : Tail) (x : Refusal) → r ≡ tailOf (postfixAt s p) → r ≡ Tail.Bad x → PostInv at p k → Posted s at (Tails.Bad x)
+  unfolding tailed
+  post-bad at p k r x e q i = record {
+    around = λ level t.
+        let (u, g, w) = i .around level t in
+        sum-refused (g ∙ posts-law level s u p ∙ ap (λ p₁. postsBy p₁ (λ v n. Run level s (posts (after (end s (n - 1)) v u) n)) (λ _. got u p)) (was-bad (postfixAt s p) r x e q));
+  }
+
+  pub post-done : (at p k : ℕ) (r : Tail) → r ≡ tailOf (postfixAt s p) → r ≡ Tail.Ended → PostInv at p k → Posted s at (Tails.All p k)
+  unfolding tailed
+  post-done at p k r e q i = record {
+    around = λ level t.
+        let (u, g, w) = i .around level t in
+        let c = w .counts in
+        let b = w .sizes in
+        sum-got {t = u} p (count t + k) (size t) (g ∙ posts-law level s u p ∙ ap (λ p₁. postsBy p₁ (λ v n. Run level s (posts (after (end s (n - 1)) v u) n)) (λ _. got u p)) (was-ended (postfixAt s p) r e q))
+        refl (omega arith) (omega arith);
+  }
+
+-- what all postfixes came to
+pub tails-all : (m : Parsed) (t : Tree Span) (r : Tails) (n k : ℕ) → tailed t r ≡ summary m → r ≡ Tails.All n k → (u : Tree Span) × (m ≡ got u n) × Grown t u k 0
+unfolding tailed
+tails-all m t (Tails.All i j) n k e q =
+    let x : i ≡ n = cc in
+    let y : j ≡ k = cc in
+    let (u, f, c, b) = good m (Checked.Good i (count t + j) (size t)) i (count t + j) (size t) e refl in
+    (u, f ∙ ap (got u) x, record { counts = omega arith; sizes = omega arith })
+tails-all m t (Tails.Bad x) n k e q = let z : _≡_ {A = ℕ} 0 1 = cc in absurd (omega arith)
+
+pub tails-bad : (m : Parsed) (t : Tree Span) (r : Tails) (x : Refusal) → tailed t r ≡ summary m → r ≡ Tails.Bad x → m ≡ refused x
+unfolding tailed
+tails-bad m t (Tails.All i j) x e q = let z : _≡_ {A = ℕ} 0 1 = cc in absurd (omega arith)
+tails-bad m t (Tails.Bad y) x e q = let z : y ≡ x = cc in bad m (Checked.Refused y) x e (ap Checked.Refused z)
+
+-- ---- what opens an expression
+
+-- an expression in brackets, and what stands around it
+pub record Bracketed (level : Level) (s : List ℕ) (at p k : ℕ) : Type 0 where
+  pub from : at + k ≤ p
+  pub one : k ≤ 1
+  pub within : p < length (toks s)
+  pub wrap : Tree Span → ℕ → Tree Span
+  pub same : (o : ℕ) → Run level s (node o at) ≡ opened o s p (λ u. next (Run level s (expr (o + 1) (p + 1))) (λ t n. want refused s n 7 (λ m. got (wrap t n) m)))
+  pub grown : (t : Tree Span) (n : ℕ) → Grown t (wrap t n) k 0
+
+module _ (level : Level) (s : List ℕ) (at : ℕ) where
+  grouped : is s at 6 ≡ true → Bracketed level s at at 0
+  grouped e = record {
+    from = omega arith;
+    one = omega arith;
+    within = inside-is s at 6 (omega arith) e;
+    wrap = λ t n. endsAt t (end s n);
+    same = λ o. node-law level s o at ∙ choose-true (is s at 6) _ _ e;
+    grown = λ t n. grown-ends t (end s n);
+  }
+
+  pushes : is s at 6 ≡ false → spells push s at ≡ true → is s (at + 1) 6 ≡ true → Bracketed level s at (at + 1) 1
+  pushes e f g = record {
+    from = omega arith;
+    one = omega arith;
+    within = inside-is s (at + 1) 6 (omega arith) g;
+    wrap = λ t n. before (start s at) (plain Push) t;
+    same = λ o. node-law level s o at ∙ choose-false (is s at 6) _ _ e ∙ choose-true (spells push s at) _ _ f ∙ want-true refused s (at + 1) 6 _ g;
+    grown = λ t n. grown-before (start s at) Push t;
+  }
+
+  by-bracket : (p k : ℕ) (b₁ b₂ b₃ : Bool) → (b₁ ≡ true → Bracketed level s at at 0) → (b₁ ≡ false → b₂ ≡ true → b₃ ≡ true → Bracketed level s at (at + 1) 1)
+      → choose b₁ (λ u. Opens at 0) (λ u. choose b₂ (λ u. choose b₃ (λ u. Opens (at + 1) 1) (λ u. Unopened)) (λ u. Nothing)) ≡ Opens p k → Bracketed level s at p k
+  by-bracket p k true b₂ b₃ f g e =
+      let x : at ≡ p = cc in
+      let y : _≡_ {A = ℕ} 0 k = cc in
+      subst (λ (i : ℕ). Bracketed level s at p i) y (subst (λ (i : ℕ). Bracketed level s at i 0) x (f refl))
+  by-bracket p k false true true f g e =
+      let x : at + 1 ≡ p = cc in
+      let y : _≡_ {A = ℕ} 1 k = cc in
+      subst (λ (i : ℕ). Bracketed level s at p i) y (subst (λ (i : ℕ). Bracketed level s at i 1) x (g refl refl refl))
+  by-bracket p k false true false f g e = let z : _≡_ {A = ℕ} 0 1 = cc in absurd (omega arith)
+  by-bracket p k false false b₃ f g e = let z : _≡_ {A = ℕ} 0 1 = cc in absurd (omega arith)
+
+  pub was-open : (r : Bracket) (p k : ℕ) → r ≡ bracketOf s at → r ≡ Opens p k → Bracketed level s at p k
+  unfolding bracketOf
+  was-open r p k e q = by-bracket p k (is s at 6) (spells push s at) (is s (at + 1) 6) grouped pushes (sym e ∙ q)
+
+  by-unopened : (b₁ b₂ b₃ : Bool) → choose b₁ (λ u. Opens at 0) (λ u. choose b₂ (λ u. choose b₃ (λ u. Opens (at + 1) 1) (λ u. Unopened)) (λ u. Nothing)) ≡ Unopened → (b₁ ≡ false) × (b₂ ≡ true) × (b₃ ≡ false)
+  by-unopened false true false e = (refl, refl, refl)
+  by-unopened true b₂ b₃ e = let z : _≡_ {A = ℕ} 0 1 = cc in absurd (omega arith)
+  by-unopened false true true e = let z : _≡_ {A = ℕ} 0 1 = cc in absurd (omega arith)
+  by-unopened false false b₃ e = let z : _≡_ {A = ℕ} 0 1 = cc in absurd (omega arith)
+
+  by-nothing : (b₁ b₂ b₃ : Bool) → choose b₁ (λ u. Opens at 0) (λ u. choose b₂ (λ u. choose b₃ (λ u. Opens (at + 1) 1) (λ u. Unopened)) (λ u. Nothing)) ≡ Nothing → (b₁ ≡ false) × (b₂ ≡ false)
+  by-nothing false false b₃ e = (refl, refl)
+  by-nothing true b₂ b₃ e = let z : _≡_ {A = ℕ} 0 1 = cc in absurd (omega arith)
+  by-nothing false true true e = let z : _≡_ {A = ℕ} 0 1 = cc in absurd (omega arith)
+  by-nothing false true false e = let z : _≡_ {A = ℕ} 0 1 = cc in absurd (omega arith)
+
+  pub was-unopened : (r : Bracket) → r ≡ bracketOf s at → r ≡ Unopened → (at < length (toks s)) × ((o : ℕ) → Run level s (node o at) ≡ refused (NotAllowed (start s (at + 1))))
+  unfolding bracketOf
+  was-unopened r e q =
+      let (f, g, h) = by-unopened (is s at 6) (spells push s at) (is s (at + 1) 6) (sym e ∙ q) in
+      (spells-in push s at g, λ o. node-law level s o at ∙ choose-false (is s at 6) _ _ f ∙ choose-true (spells push s at) _ _ g ∙ want-false refused s (at + 1) 6 _ h)
+
+  pub was-nothing : (r : Bracket) → r ≡ bracketOf s at → r ≡ Nothing → (o : ℕ) → Run level s (node o at) ≡ leafAt o s at
+  unfolding bracketOf
+  was-nothing r e q o =
+      let (f, g) = by-nothing (is s at 6) (spells push s at) (is s (at + 1) 6) (sym e ∙ q) in
+      node-law level s o at ∙ choose-false (is s at 6) _ _ f ∙ choose-false (spells push s at) _ _ g
+
+  -- what `bracket_of` answers
+  module _ (x : ℕ) (e : x ≡ kind s at) where
+    pub bracket-group : x ≡ 6 → Opens at 0 ≡ bracketOf s at
+    unfolding bracketOf
+    bracket-group q = sym (choose-true (is s at 6) _ _ (sees s at x 6 e q))
+
+    module _ (q : x ≡ 6 → ⊥) (b : Bool) (f : b ≡ spells push s at) where
+      pub bracket-nothing : b ≡ false → Nothing ≡ bracketOf s at
+      unfolding bracketOf
+      bracket-nothing g = sym (choose-false (is s at 6) _ _ (misses s at x 6 e q) ∙ choose-false (spells push s at) _ _ (sym f ∙ g))
+
+      module _ (g : b ≡ true) where
+        pub push-in : at < length (toks s)
+        push-in = spells-in push s at (sym f ∙ g)
+
+        module _ (y : ℕ) (h : y ≡ kind s (at + 1)) where
+          pub bracket-push : y ≡ 6 → Opens (at + 1) 1 ≡ bracketOf s at
+          unfolding bracketOf
+          bracket-push l = sym (choose-false (is s at 6) _ _ (misses s at x 6 e q) ∙ choose-true (spells push s at) _ _ (sym f ∙ g) ∙ choose-true (is s (at + 1) 6) _ _ (sees s (at + 1) y 6 h l))
+
+          pub bracket-unopened : (y ≡ 6 → ⊥) → Unopened ≡ bracketOf s at
+          unfolding bracketOf
+          bracket-unopened l = sym (choose-false (is s at 6) _ _ (misses s at x 6 e q) ∙ choose-true (spells push s at) _ _ (sym f ∙ g) ∙ choose-false (is s (at + 1) 6) _ _ (misses s (at + 1) y 6 h l))

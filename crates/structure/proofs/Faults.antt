@@ -1,0 +1,198 @@
+-- The paths of the walk over values.
+use Prim.Native.Nat.{ℕ, zero, suc, _+_, _-_, _≤_, _<_}
+use mathlib.Core.Path.{_≡_, refl, sym, ap, _∙_}
+use mathlib.Core.Bool.{Bool, true, false}
+use mathlib.Core.List.{List}
+use native.Mathlib.Omega.{arith}
+use native.Mathlib.Nat.{zero-add}
+use lib.Dec.{eqb}
+use lib.ListN.{length, take, drop}
+use borrow.Author.Tests.{eq-eqb, ne-eqb}
+use Rattle.text.specs.Choice.{choose, or}
+use Rattle.text.specs.Digits.{decimalOf}
+use Rattle.text.specs.Scans.{later}
+use Rattle.text.specs.declared.Decimal.{Decimal}
+use Rattle.text.specs.declared.Decimal.the-variants as Decimal
+use Rattle.text.specs.declared.Check.{Check}
+use Rattle.text.specs.declared.Check.the-variants as Check
+use Rattle.literal.specs.Escapes.{escapeLook, badEscape}
+use Rattle.token.proofs.Bounds.{stop-at}
+use Rattle.structure.specs.declared.Level.{Level}
+use Rattle.structure.specs.declared.Level.the-variants.{Tagged, Plain}
+use Rattle.structure.specs.declared.Fault.{Fault}
+use Rattle.structure.specs.declared.Fault.the-variants.{Sound, Over, Zero, PeekRange, NotScalar, NotPlain}
+use Rattle.structure.specs.Tokens.{toks, kind, start, end, is, part, within, word, spells, pushLiteral}
+use Rattle.structure.specs.Values.{integerOf, opening, inside, repeatFault, peekFault, literalFault, wordFault, numberFault, faultAt, orFault, faultsFrom, faults}
+use Rattle.structure.proofs.Steps.{choose-true, choose-false, sees, misses, another, or-first, or-second, or-neither}
+use Rattle.structure.proofs.Sizes.{part-short}
+use Rattle.structure.proofs.Arrays.{part-is, word-is, inside-of}
+
+-- ---- numbers
+
+pub number-is : (s : List ℕ) (i a z limit : ℕ) (r : Decimal) → a ≡ start s i → z ≡ end s i → r ≡ decimalOf limit (take (z - a) (drop a s)) → r ≡ decimalOf limit (word s i)
+number-is s i a z limit r e f g = g ∙ ap (decimalOf limit) (part-is s a z ∙ word-is s i a z e f)
+
+module _ (s : List ℕ) (i x : ℕ) (e : x ≡ kind s i) (a z : ℕ) (f : a ≡ start s i) (g : z ≡ end s i) (r : Decimal) where
+  pub integer-negative : x ≡ 21 → r ≡ decimalOf 2147483648 (take (z - (a + 1)) (drop (a + 1) s)) → r ≡ integerOf s i
+  integer-negative q h =
+      let y : a + 1 ≡ start s i + 1 = omega arith in
+      let w : z ≡ end s i - 0 = omega arith in
+      h ∙ ap (decimalOf 2147483648) (part-is s (a + 1) z ∙ ap (λ (n : ℕ). part s n z) y ∙ ap (part s (start s i + 1)) w) ∙ sym (choose-true (is s i 21) _ _ (sees s i x 21 e q))
+
+  pub integer-positive : (x ≡ 21 → ⊥) → r ≡ decimalOf 2147483647 (take (z - a) (drop a s)) → r ≡ integerOf s i
+  integer-positive q h = number-is s i a z 2147483647 r f g h ∙ sym (choose-false (is s i 21) _ _ (misses s i x 21 e q))
+
+module _ (s : List ℕ) (i : ℕ) (d r : Decimal) (e : d ≡ r) where
+  pub peek-fits : (n : ℕ) → d ≡ Decimal.Is n → Sound ≡ peekFault s i r
+  peek-fits n q = sym (ap (peekFault s i) (sym e ∙ q))
+
+  pub peek-over : d ≡ Decimal.Over → (y : ℕ) → y ≡ start s i → PeekRange y ≡ peekFault s i r
+  peek-over q y z = ap PeekRange z ∙ sym (ap (peekFault s i) (sym e ∙ q))
+
+  pub peek-other : d ≡ Decimal.NotDigits → Sound ≡ peekFault s i r
+  peek-other q = sym (ap (peekFault s i) (sym e ∙ q))
+
+  pub repeat-other : d ≡ Decimal.NotDigits → Sound ≡ repeatFault s i r
+  repeat-other q = sym (ap (repeatFault s i) (sym e ∙ q))
+
+  pub repeat-over : d ≡ Decimal.Over → (y : ℕ) → y ≡ start s i → Over y ≡ repeatFault s i r
+  repeat-over q y z = ap Over z ∙ sym (ap (repeatFault s i) (sym e ∙ q))
+
+  some-count : (n : ℕ) → (n ≡ 0 → ⊥) → Sound ≡ repeatFault s i (Decimal.Is n)
+  some-count zero h = absurd (h refl)
+  some-count (suc n) h = refl
+
+  zero-count : (n : ℕ) → n ≡ 0 → repeatFault s i (Decimal.Is n) ≡ choose (is s (i + 1) 3) (λ u. Zero (start s i)) (λ u. Sound)
+  zero-count n h = ap (λ (k : ℕ). repeatFault s i (Decimal.Is k)) h
+
+  module _ (n : ℕ) (q : d ≡ Decimal.Is n) where
+    pub repeat-some : (n ≡ 0 → ⊥) → Sound ≡ repeatFault s i r
+    repeat-some h = some-count n h ∙ sym (ap (repeatFault s i) (sym e ∙ q))
+
+    module _ (h : n ≡ 0) (x : ℕ) (f : x ≡ kind s (i + 1)) where
+      pub repeat-zero : x ≡ 3 → (y : ℕ) → y ≡ start s i → Zero y ≡ repeatFault s i r
+      repeat-zero g y z = ap Zero z ∙ sym (ap (repeatFault s i) (sym e ∙ q) ∙ zero-count n h ∙ choose-true (is s (i + 1) 3) _ _ (sees s (i + 1) x 3 f g))
+
+      pub repeat-least : (x ≡ 3 → ⊥) → Sound ≡ repeatFault s i r
+      repeat-least g = sym (ap (repeatFault s i) (sym e ∙ q) ∙ zero-count n h ∙ choose-false (is s (i + 1) 3) _ _ (misses s (i + 1) x 3 f g))
+
+module _ (s : List ℕ) (before i : ℕ) (r : Fault) where
+  pub number-after-bracket : before ≡ 4 → r ≡ peekFault s i (integerOf s i) → r ≡ numberFault s before i
+  number-after-bracket q h = h ∙ sym (choose-true (or (eqb before 4) (eqb before 22)) _ _ (or-first (eqb before 4) (eqb before 22) (eq-eqb before 4 q)))
+
+  pub number-after-dots : before ≡ 22 → r ≡ peekFault s i (integerOf s i) → r ≡ numberFault s before i
+  number-after-dots q h = h ∙ sym (choose-true (or (eqb before 4) (eqb before 22)) _ _ (or-second (eqb before 4) (eqb before 22) (eq-eqb before 22 q)))
+
+  pub number-repeats : (before ≡ 4 → ⊥) → (before ≡ 22 → ⊥) → r ≡ repeatFault s i (decimalOf 4294967295 (word s i)) → r ≡ numberFault s before i
+  number-repeats q p h = h ∙ sym (choose-false (or (eqb before 4) (eqb before 22)) _ _ (or-neither (eqb before 4) (eqb before 22) (ne-eqb before 4 q) (ne-eqb before 22 p)))
+
+-- ---- words
+
+pub word-tagged : (level : Level) (s : List ℕ) (i : ℕ) → level ≡ Tagged → Sound ≡ wordFault level s i
+word-tagged level s i q = sym (ap (λ (l : Level). wordFault l s i) q)
+
+module _ (level : Level) (s : List ℕ) (i : ℕ) (q : level ≡ Plain) (b : Bool) (e : b ≡ spells pushLiteral s i) where
+  pub word-pushed : b ≡ true → (y : ℕ) → y ≡ start s i → NotPlain y ≡ wordFault level s i
+  word-pushed h y z = ap NotPlain z ∙ sym (ap (λ (l : Level). wordFault l s i) q ∙ choose-true (spells pushLiteral s i) _ _ (sym e ∙ h))
+
+  pub word-plain : b ≡ false → Sound ≡ wordFault level s i
+  word-plain h = sym (ap (λ (l : Level). wordFault l s i) q ∙ choose-false (spells pushLiteral s i) _ _ (sym e ∙ h))
+
+-- ---- literals
+
+-- a bad escape stands inside
+bad-in : (xs : List ℕ) (k : ℕ) → badEscape xs ≡ Check.Bad k → k < length xs
+unfolding badEscape
+bad-in xs k e =
+    let (n, f, g, h) = stop-at escapeLook xs 0 k (ap (later 0) e ∙ ap Check.Bad (zero-add k)) in
+    omega arith
+
+module _ (s : List ℕ) (i n a z : ℕ) (e : n ≡ opening s i) (f : a ≡ start s i + n) (g : z ≡ end s i - 1) (r : Check) (h : r ≡ badEscape (part s a z)) where
+  pub literal-sound : r ≡ Check.Good → Sound ≡ literalFault s i (badEscape (inside s i))
+  literal-sound q = sym (ap (literalFault s i) (ap badEscape (sym (inside-of s i n a z e f g)) ∙ sym h ∙ q))
+
+  pub literal-bad : (k : ℕ) → r ≡ Check.Bad k → NotScalar (a + k) ≡ literalFault s i (badEscape (inside s i))
+  literal-bad k q =
+      let y : a + k ≡ start s i + opening s i + k = omega arith in
+      ap NotScalar y ∙ sym (ap (literalFault s i) (ap badEscape (sym (inside-of s i n a z e f g)) ∙ sym h ∙ q))
+
+  pub literal-low : (k : ℕ) → r ≡ Check.Bad k → k < length s
+  literal-low k q = let m = bad-in (part s a z) k (sym h ∙ q) in let l = part-short s a z in omega arith
+
+-- ---- a token's value
+
+module _ (level : Level) (s : List ℕ) (before i x : ℕ) (e : x ≡ kind s i) (r : Fault) where
+  pub value-word : x ≡ 18 → r ≡ wordFault level s i → r ≡ faultAt level s before i
+  unfolding faultAt
+  value-word q h = h ∙ sym (choose-true (is s i 18) _ _ (sees s i x 18 e q))
+
+  pub value-number : x ≡ 20 → r ≡ numberFault s before i → r ≡ faultAt level s before i
+  unfolding faultAt
+  value-number q h = h ∙ sym (choose-false (is s i 18) _ _ (another s i x 20 18 e q (λ m. omega arith)) ∙ choose-true (is s i 20) _ _ (sees s i x 20 e q))
+
+  pub value-minus : x ≡ 21 → r ≡ peekFault s i (integerOf s i) → r ≡ faultAt level s before i
+  unfolding faultAt
+  value-minus q h =
+      h ∙ sym (choose-false (is s i 18) _ _ (another s i x 21 18 e q (λ m. omega arith)) ∙ choose-false (is s i 20) _ _ (another s i x 21 20 e q (λ m. omega arith)) ∙ choose-true (is s i 21) _ _ (sees s i x 21 e q))
+
+  literal-by : is s i 18 ≡ false → is s i 20 ≡ false → is s i 21 ≡ false → or (is s i 23) (or (is s i 24) (is s i 25)) ≡ true → r ≡ literalFault s i (badEscape (inside s i)) → r ≡ faultAt level s before i
+  unfolding faultAt
+  literal-by a b c d h =
+      h ∙ sym (choose-false (is s i 18) _ _ a ∙ choose-false (is s i 20) _ _ b ∙ choose-false (is s i 21) _ _ c ∙ choose-true (or (is s i 23) (or (is s i 24) (is s i 25))) _ _ d)
+
+  pub value-string : x ≡ 23 → r ≡ literalFault s i (badEscape (inside s i)) → r ≡ faultAt level s before i
+  value-string q h =
+      literal-by (another s i x 23 18 e q (λ m. omega arith)) (another s i x 23 20 e q (λ m. omega arith)) (another s i x 23 21 e q (λ m. omega arith)) (or-first (is s i 23) (or (is s i 24) (is s i 25)) (sees s i x 23 e q)) h
+
+  pub value-insens : x ≡ 24 → r ≡ literalFault s i (badEscape (inside s i)) → r ≡ faultAt level s before i
+  value-insens q h =
+      literal-by (another s i x 24 18 e q (λ m. omega arith)) (another s i x 24 20 e q (λ m. omega arith)) (another s i x 24 21 e q (λ m. omega arith))
+      (or-second (is s i 23) (or (is s i 24) (is s i 25)) (or-first (is s i 24) (is s i 25) (sees s i x 24 e q))) h
+
+  pub value-character : x ≡ 25 → r ≡ literalFault s i (badEscape (inside s i)) → r ≡ faultAt level s before i
+  value-character q h =
+      literal-by (another s i x 25 18 e q (λ m. omega arith)) (another s i x 25 20 e q (λ m. omega arith)) (another s i x 25 21 e q (λ m. omega arith))
+      (or-second (is s i 23) (or (is s i 24) (is s i 25)) (or-second (is s i 24) (is s i 25) (sees s i x 25 e q))) h
+
+  pub value-none : (x ≡ 18 → ⊥) → (x ≡ 20 → ⊥) → (x ≡ 21 → ⊥) → (x ≡ 23 → ⊥) → (x ≡ 24 → ⊥) → (x ≡ 25 → ⊥) → Sound ≡ faultAt level s before i
+  unfolding faultAt
+  value-none a b c d f g =
+      sym (choose-false (is s i 18) _ _ (misses s i x 18 e a) ∙ choose-false (is s i 20) _ _ (misses s i x 20 e b) ∙ choose-false (is s i 21) _ _ (misses s i x 21 e c)
+      ∙ choose-false (or (is s i 23) (or (is s i 24) (is s i 25))) _ _
+      (or-neither (is s i 23) (or (is s i 24) (is s i 25)) (misses s i x 23 e d) (or-neither (is s i 24) (is s i 25) (misses s i x 24 e f) (misses s i x 25 e g))))
+
+-- ---- all tokens
+
+module _ (level : Level) (s : List ℕ) where
+  pub record FaultInv (before i : ℕ) : Type 0 where
+    pub within : i ≤ length (toks s)
+    pub same : faults level s ≡ faultsFrom level s before i (length (toks s) - i)
+
+  pub faults-start : FaultInv 0 0
+  unfolding faults
+  faults-start = record { within = omega arith; same = let z : length (toks s) ≡ length (toks s) - 0 = omega arith in ap (faultsFrom level s 0 0) z }
+
+  one-fault : (before i k : ℕ) → faultsFrom level s before i (suc k) ≡ orFault (faultAt level s before i) (λ u. faultsFrom level s (kind s i) (i + 1) k)
+  unfolding faultsFrom
+  one-fault before i k = refl
+
+  module _ (before i : ℕ) (h : i < length (toks s)) (v : FaultInv before i) (y : Fault) (e : y ≡ faultAt level s before i) where
+    first : faults level s ≡ orFault y (λ u. faultsFrom level s (kind s i) (i + 1) (length (toks s) - (i + 1)))
+    first =
+        let z : length (toks s) - i ≡ suc (length (toks s) - (i + 1)) = omega arith in
+        v .same ∙ ap (faultsFrom level s before i) z ∙ one-fault before i (length (toks s) - (i + 1)) ∙ ap (λ (f : Fault). orFault f (λ u. faultsFrom level s (kind s i) (i + 1) (length (toks s) - (i + 1)))) (sym e)
+
+    pub faults-more : y ≡ Sound → (k : ℕ) → k ≡ kind s i → FaultInv k (i + 1)
+    faults-more q k f = record {
+      within = omega arith;
+      same =
+          first ∙ ap (λ (f : Fault). orFault f (λ u. faultsFrom level s (kind s i) (i + 1) (length (toks s) - (i + 1)))) q
+          ∙ ap (λ (j : ℕ). faultsFrom level s j (i + 1) (length (toks s) - (i + 1))) (sym f);
+    }
+
+    pub faults-stop : (x : Fault) → ((f : Unit {0} → Fault) → orFault x f ≡ x) → y ≡ x → x ≡ faults level s
+    faults-stop x g q = sym (first ∙ ap (λ (f : Fault). orFault f (λ u. faultsFrom level s (kind s i) (i + 1) (length (toks s) - (i + 1)))) q ∙ g _)
+
+  pub faults-none : (before i : ℕ) → length (toks s) ≤ i → FaultInv before i → Sound ≡ faults level s
+  unfolding faultsFrom
+  faults-none before i h v = let z : length (toks s) - i ≡ 0 = omega arith in sym (v .same ∙ ap (faultsFrom level s before i) z)

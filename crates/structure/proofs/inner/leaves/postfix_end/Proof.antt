@@ -1,0 +1,84 @@
+use Rattle.structure.proofs.Leaves.{post-in, post-opt, post-rep, post-once, post-number, post-comma, post-none}
+use Rattle.structure.proofs.Steps.{inside-is, sees}
+use Rattle.structure.proofs.Arrays.{sizes}
+use native.Mathlib.Omega.{arith}
+use borrow.Author.Needs.{needs}
+use Rattle.structure.proofs.inner.leaves.postfix_end.Statement.{statement}
+use Rattle.structure.proofs.inner.leaves.postfix_end.Tie as tie
+
+kind-at-requires : tie.Need-kind-at-requires
+kind-at-requires c κs = search needs
+
+add-t8 : tie.Need-add-t8
+add-t8 c = let i = post-in _ _ _ (c .before .kind-at .ensures) 12 (omega arith) (c .match .keys1) in let z = sizes _ _ _ _ (c .before .before .before .before .before .before .pre) in omega arith
+
+add-t9 : tie.Need-add-t9
+add-t9 c = let i = post-in _ _ _ (c .before .kind-at .ensures) 13 (omega arith) (c .match .keys2) in let z = sizes _ _ _ _ (c .before .before .before .before .before .before .pre) in omega arith
+
+add-t10 : tie.Need-add-t10
+add-t10 c = let i = post-in _ _ _ (c .before .kind-at .ensures) 14 (omega arith) (c .match .keys3) in let z = sizes _ _ _ _ (c .before .before .before .before .before .before .pre) in omega arith
+
+add-kind-at : tie.Need-add-kind-at
+add-kind-at c = let i = post-in _ _ _ (c .before .kind-at .ensures) 2 (omega arith) (c .match .keys4) in let z = sizes _ _ _ _ (c .before .before .before .before .before .before .pre) in omega arith
+
+kind-at-requires-2 : tie.Need-kind-at-requires-2
+kind-at-requires-2 c κs = search needs
+
+add-number-end : tie.Need-add-number-end
+add-number-end c = let i = post-in _ _ _ (c .before .before .before .kind-at .ensures) 2 (omega arith) (c .before .before .match .keys4) in let z = sizes _ _ _ _ (c .before .before .before .before .before .before .before .before .pre) in omega arith
+
+number-end-requires : tie.Need-number-end-requires
+number-end-requires c κs = (c .before .before .before .before .before .before .before .before .pre, inside-is _ _ 20 (omega arith) (sees _ _ _ 20 (c .before .kind-at2 .ensures) (c .if1 .taken)))
+
+returns : tie.Need-returns
+returns c =
+    let at-kind-at2 = c .before .before in
+    let at-match = at-kind-at2 .before in
+    let at-kind-at = at-match .before in
+    post-number _ _ _ (at-kind-at .kind-at .ensures) (at-match .match .keys4) _ (at-kind-at2 .kind-at2 .ensures) (c .before .if1 .taken) _ (c .number-end .ensures)
+
+add-comma-end : tie.Need-add-comma-end
+add-comma-end c = let i = post-in _ _ _ (c .before .before .before .kind-at .ensures) 2 (omega arith) (c .before .before .match .keys4) in let z = sizes _ _ _ _ (c .before .before .before .before .before .before .before .before .pre) in omega arith
+
+comma-end-requires : tie.Need-comma-end-requires
+comma-end-requires c κs = search needs
+
+returns-2 : tie.Need-returns-2
+returns-2 c = post-opt _ _ _ (c .before .kind-at .ensures) (c .match .keys1)
+
+returns-3 : tie.Need-returns-3
+returns-3 c = post-rep _ _ _ (c .before .kind-at .ensures) (c .match .keys2)
+
+returns-4 : tie.Need-returns-4
+returns-4 c = post-once _ _ _ (c .before .kind-at .ensures) (c .match .keys3)
+
+returns-5 : tie.Need-returns-5
+returns-5 c =
+    let at-kind-at2 = c .before .before in
+    let at-match = at-kind-at2 .before in
+    let at-kind-at = at-match .before in
+    post-comma _ _ _ (at-kind-at .kind-at .ensures) (at-match .match .keys4) _ (at-kind-at2 .kind-at2 .ensures) (c .before .if1 .left) _ (c .comma-end .ensures)
+
+returns-6 : tie.Need-returns-6
+returns-6 c = post-none _ _ _ (c .before .kind-at .ensures) (c .match .rest .0 .0 .0 .1) (c .match .rest .0 .0 .1) (c .match .rest .0 .1) (c .match .rest .1)
+
+pub postfix-end-spec : {M : Type 1} → statement M
+postfix-end-spec =
+    tie.close
+    (tie.spec
+    kind-at-requires
+    add-t8
+    add-t9
+    add-t10
+    add-kind-at
+    kind-at-requires-2
+    add-number-end
+    number-end-requires
+    returns
+    add-comma-end
+    comma-end-requires
+    returns-2
+    returns-3
+    returns-4
+    returns-5
+    returns-6)

@@ -1,0 +1,5 @@
+-- Structure: the definitions that the contracts of this crate cite.
+pub mod Tokens
+pub mod Values
+pub mod Structure
+pub mod Answers

@@ -1,0 +1,124 @@
+-- What tokens are worth, and the refusals 5, 6, 7, 8 and 13.
+use Prim.Native.Nat.{ℕ, zero, suc, _+_, _-_}
+use mathlib.Core.Bool.{Bool}
+use mathlib.Core.List.{List}
+use lib.Dec.{eqb}
+use lib.ListN.{length}
+use Rattle.text.specs.Choice.{choose, or}
+use Rattle.text.specs.Digits.{decimalOf}
+use Rattle.text.specs.Utf8.{charOf}
+use Rattle.text.specs.declared.Decimal.{Decimal}
+use Rattle.text.specs.declared.Decimal.the-variants as Decimal
+use Rattle.text.specs.declared.Sequence.{Sequence}
+use Rattle.text.specs.declared.Sequence.the-variants as Sequence
+use Rattle.text.specs.declared.Check.{Check}
+use Rattle.text.specs.declared.Check.the-variants as Check
+use Rattle.literal.specs.Escapes.{escapeOf, unescaped, badEscape}
+use Rattle.literal.specs.declared.Escape.{Escape}
+use Rattle.literal.specs.declared.Escape.the-variants as Escape
+use Rattle.structure.specs.declared.Level.{Level}
+use Rattle.structure.specs.declared.Level.the-variants.{Tagged, Plain}
+use Rattle.structure.specs.declared.Fault.{Fault}
+use Rattle.structure.specs.declared.Fault.the-variants.{Sound, Over, Zero, PeekRange, NotScalar, NotPlain}
+use Rattle.structure.specs.Tokens.{toks, kind, start, is, within, word, spells, pushLiteral}
+
+abbrev pub worth : Decimal → ℕ
+worth (Decimal.Is n) = n
+worth Decimal.Over = 0
+worth Decimal.NotDigits = 0
+
+-- a repeat number, up to 4,294,967,295
+unfoldable pub number : List ℕ → ℕ → ℕ
+number s i = worth (decimalOf 4294967295 (word s i))
+
+abbrev pub negated : ℕ → ℕ
+negated zero = 0
+negated (suc n) = 4294967295 - n
+
+-- a number that may stand in a PEEK slice
+abbrev pub isInteger : List ℕ → ℕ → Bool
+isInteger s i = or (is s i 20) (is s i 21)
+
+-- its value against i32, two's complement
+abbrev pub integerOf : List ℕ → ℕ → Decimal
+integerOf s i = choose (is s i 21) (λ u. decimalOf 2147483648 (within s i 1 0)) (λ u. decimalOf 2147483647 (word s i))
+
+unfoldable pub integer : List ℕ → ℕ → ℕ
+integer s i = choose (is s i 21) (λ u. negated (worth (integerOf s i))) (λ u. worth (integerOf s i))
+
+-- how many bytes open a literal: `"` or `'`, and `^"`
+abbrev pub opening : List ℕ → ℕ → ℕ
+opening s i = choose (is s i 24) (λ u. 2) (λ u. 1)
+
+-- the inside of a literal
+abbrev pub inside : List ℕ → ℕ → List ℕ
+inside s i = within s i (opening s i) 1
+
+-- the string that it means
+unfoldable pub string : List ℕ → ℕ → List ℕ
+string s i = unescaped (inside s i)
+
+abbrev pub rawChar : Sequence → ℕ
+rawChar (Sequence.Is c n) = c
+rawChar Sequence.Broken = 0
+
+abbrev pub charBy : Escape → List ℕ → ℕ
+charBy (Escape.Means c n) xs = c
+charBy Escape.Plain xs = rawChar (charOf xs)
+
+-- the character that a character literal means
+unfoldable pub character : List ℕ → ℕ → ℕ
+character s i = charBy (escapeOf (inside s i)) (inside s i)
+
+-- a repeat number: over 4,294,967,295, or 0 where it is an exact count or a maximum, since `}` follows
+abbrev pub repeatFault : List ℕ → ℕ → Decimal → Fault
+repeatFault s i Decimal.NotDigits = Sound
+repeatFault s i Decimal.Over = Over (start s i)
+repeatFault s i (Decimal.Is zero) = choose (is s (i + 1) 3) (λ u. Zero (start s i)) (λ u. Sound)
+repeatFault s i (Decimal.Is (suc n)) = Sound
+
+-- a PEEK number outside i32
+abbrev pub peekFault : List ℕ → ℕ → Decimal → Fault
+peekFault s i (Decimal.Is n) = Sound
+peekFault s i Decimal.Over = PeekRange (start s i)
+peekFault s i Decimal.NotDigits = Sound
+
+-- an escape of a surrogate or above U+10FFFF, at its backslash
+abbrev pub literalFault : List ℕ → ℕ → Check → Fault
+literalFault s i Check.Good = Sound
+literalFault s i (Check.Bad k) = NotScalar (start s i + opening s i + k)
+
+-- plain only: PUSH_LITERAL
+abbrev pub wordFault : Level → List ℕ → ℕ → Fault
+wordFault Tagged s i = Sound
+wordFault Plain s i = choose (spells pushLiteral s i) (λ u. NotPlain (start s i)) (λ u. Sound)
+
+-- a number after `[` or `..` stands in a PEEK slice
+abbrev pub numberFault : List ℕ → ℕ → ℕ → Fault
+numberFault s before i =
+    choose (or (eqb before 4) (eqb before 22)) (λ u. peekFault s i (integerOf s i)) (λ u. repeatFault s i (decimalOf 4294967295 (word s i)))
+
+-- what is wrong with the value of a token, by its kind and that of the token before it
+unfoldable pub faultAt : Level → List ℕ → ℕ → ℕ → Fault
+faultAt level s before i =
+    choose (is s i 18) (λ u. wordFault level s i)
+    (λ u. choose (is s i 20) (λ u. numberFault s before i)
+    (λ u. choose (is s i 21) (λ u. peekFault s i (integerOf s i))
+    (λ u. choose (or (is s i 23) (or (is s i 24) (is s i 25))) (λ u. literalFault s i (badEscape (inside s i))) (λ u. Sound))))
+
+abbrev pub orFault : Fault → (Unit {0} → Fault) → Fault
+orFault Sound f = f tt
+orFault (Over p) f = Over p
+orFault (Zero p) f = Zero p
+orFault (PeekRange p) f = PeekRange p
+orFault (NotScalar p) f = NotScalar p
+orFault (NotPlain p) f = NotPlain p
+
+-- the first fault among n tokens from an index on, the one before them being of a kind
+unfoldable pub faultsFrom : Level → List ℕ → ℕ → ℕ → ℕ → Fault
+faultsFrom level s before i zero = Sound
+faultsFrom level s before i (suc n) = orFault (faultAt level s before i) (λ u. faultsFrom level s (kind s i) (i + 1) n)
+
+-- the first fault of a text, from the left
+unfoldable pub faults : Level → List ℕ → Fault
+faults level s = faultsFrom level s 0 0 (length (toks s))

@@ -1,0 +1,275 @@
+// Expressions, terms and nodes, checked and counted. A term's tag, predicates and postfixes are gone
+// through by loops: only brackets nest.
+use crate::Bracket;
+use crate::Checked;
+use crate::Level;
+use crate::Opening;
+use crate::Refusal;
+use crate::Tail;
+use crate::Tails;
+use crate::Wanted;
+ghost use mathlib.Core.Path.{_≡_};
+ghost use Prim.Native.Nat.{_+_, _*_, _≤_, _<_};
+ghost use lib.ListN.{length};
+ghost use Rattle.structure.specs.Tokens.{toks};
+ghost use Rattle.structure.specs.Structure.{Run, expr, term, node};
+ghost use Rattle.structure.specs.Answers.{Lent, summary, openingOf, Signed, bracketOf, Posted};
+
+// At most one (tag, `=`) before a term.
+pub fn tag_of(
+    text: &[u8],
+    kinds: &[u8],
+    starts: &[u32],
+    ends: &[u32],
+    level: Level,
+    at: usize,
+) -> Opening
+    requires { ⌜ Lent (now text) (now kinds) (now starts) (now ends) ⌝ }
+    ensures { λ r. ⌜ r ≡ openingOf level (now (text .entry)) at ⌝ }
+{
+    if super::tokens::kind_at(text, kinds, starts, ends, at) != 19 {
+        return Opening::From {
+            next: at,
+            nodes: 0,
+            bytes: 0,
+        };
+    }
+    let tie = super::tokens::expect(text, kinds, starts, ends, at + 1, 1);
+    let Wanted::Here(p) = tie else {
+        return Opening::Untied;
+    };
+    match level {
+        Level::Tagged => {
+            let a = super::tokens::start_at(text, kinds, starts, ends, at);
+            let z = super::tokens::end_at(text, kinds, starts, ends, at);
+            Opening::From {
+                next: p,
+                nodes: 1,
+                bytes: z - (a + 1),
+            }
+        }
+        Level::Plain => Opening::From {
+            next: p,
+            nodes: 0,
+            bytes: 0,
+        },
+    }
+}
+
+// Past the predicates from an index on.
+pub fn signs_end(text: &[u8], kinds: &[u8], starts: &[u32], ends: &[u32], at: usize) -> usize
+    requires { ⌜ Lent (now text) (now kinds) (now starts) (now ends) ⌝ }
+    ensures { λ r. ⌜ Signed (now (text .entry)) at r ⌝ }
+{
+    let mut i = at;
+    loop {
+        let k = super::tokens::kind_at(text, kinds, starts, ends, i);
+        if k != 8 {
+            if k != 9 {
+                return i;
+            }
+        }
+        i += 1;
+    }
+}
+
+// Past the postfixes from an index on.
+pub fn check_posts(text: &[u8], kinds: &[u8], starts: &[u32], ends: &[u32], at: usize) -> Tails
+    requires { ⌜ Lent (now text) (now kinds) (now starts) (now ends) ⌝ }
+    ensures { λ r. ⌜ Posted (now (text .entry)) at r ⌝ }
+{
+    let mut i = at;
+    let mut count = 0;
+    loop {
+        let tail = super::leaves::postfix_end(text, kinds, starts, ends, i);
+        match tail {
+            Tail::Past(n) => {
+                i = n;
+                count += 1;
+            }
+            Tail::Bad(refusal) => {
+                return Tails::Bad(refusal);
+            }
+            Tail::Ended => {
+                return Tails::All {
+                    next: i,
+                    nodes: count,
+                };
+            }
+        }
+    }
+}
+
+// What opens an expression in the node at an index.
+pub fn bracket_of(text: &[u8], kinds: &[u8], starts: &[u32], ends: &[u32], at: usize) -> Bracket
+    requires { ⌜ Lent (now text) (now kinds) (now starts) (now ends) ⌝ }
+    ensures { λ r. ⌜ r ≡ bracketOf (now (text .entry)) at ⌝ }
+{
+    if super::tokens::kind_at(text, kinds, starts, ends, at) == 6 {
+        return Bracket::Opens { at, nodes: 0 };
+    }
+    if !super::tokens::spelled(b"PUSH", text, kinds, starts, ends, at) {
+        return Bracket::Nothing;
+    }
+    let i = at + 1;
+    if super::tokens::kind_at(text, kinds, starts, ends, i) == 6 {
+        return Bracket::Opens { at: i, nodes: 1 };
+    }
+    Bracket::Unopened
+}
+
+// Terms joined by `~` or `|`.
+pub fn check_expr(
+    text: &[u8],
+    kinds: &[u8],
+    starts: &[u32],
+    ends: &[u32],
+    level: Level,
+    at: usize,
+    deep: usize,
+) -> Checked
+    requires { ⌜ Lent (now text) (now kinds) (now starts) (now ends) ⌝ }
+    requires { ⌜ deep ≤ 1024 ⌝ }
+    ensures { λ r. ⌜ r ≡ summary (Run level (now (text .entry)) (expr deep at)) ⌝ }
+{
+    match check_term(text, kinds, starts, ends, level, at, deep) {
+        Checked::Refused(refusal) => Checked::Refused(refusal),
+        Checked::Good { next, nodes, bytes } => {
+            let mut i = next;
+            let mut count = nodes;
+            let mut size = bytes;
+            loop {
+                let k = super::tokens::kind_at(text, kinds, starts, ends, i);
+                if k != 10 {
+                    if k != 11 {
+                        return Checked::Good {
+                            next: i,
+                            nodes: count,
+                            bytes: size,
+                        };
+                    }
+                }
+                match check_term(text, kinds, starts, ends, level, i + 1, deep) {
+                    Checked::Refused(refusal) => {
+                        return Checked::Refused(refusal);
+                    }
+                    Checked::Good { next, nodes, bytes } => {
+                        i = next;
+                        count = count + nodes + 1;
+                        size = size + bytes;
+                    }
+                }
+            }
+        }
+    }
+}
+
+// At most one (tag, `=`), any `&` and `!`, a node, any postfixes.
+fn check_term(
+    text: &[u8],
+    kinds: &[u8],
+    starts: &[u32],
+    ends: &[u32],
+    level: Level,
+    at: usize,
+    deep: usize,
+) -> Checked
+    requires { ⌜ Lent (now text) (now kinds) (now starts) (now ends) ⌝ }
+    requires { ⌜ deep ≤ 1024 ⌝ }
+    ensures { λ r. ⌜ r ≡ summary (Run level (now (text .entry)) (term deep at)) ⌝ }
+{
+    let opening = tag_of(text, kinds, starts, ends, level, at);
+    let Opening::From {
+        next: from,
+        nodes: tags,
+        bytes: named,
+    } = opening
+    else {
+        return Checked::Refused(Refusal::NotAllowed(super::tokens::start_at(
+            text,
+            kinds,
+            starts,
+            ends,
+            at + 1,
+        )));
+    };
+    let first = signs_end(text, kinds, starts, ends, from);
+    match check_node(text, kinds, starts, ends, level, first, deep) {
+        Checked::Refused(refusal) => Checked::Refused(refusal),
+        Checked::Good { next, nodes, bytes } => {
+            let tails = check_posts(text, kinds, starts, ends, next);
+            match tails {
+                Tails::Bad(refusal) => Checked::Refused(refusal),
+                Tails::All {
+                    next: last,
+                    nodes: posts,
+                } => Checked::Good {
+                    next: last,
+                    nodes: nodes + posts + (first - from) + tags,
+                    bytes: bytes + named,
+                },
+            }
+        }
+    }
+}
+
+// An expression in brackets, after PUSH or not; or a leaf.
+fn check_node(
+    text: &[u8],
+    kinds: &[u8],
+    starts: &[u32],
+    ends: &[u32],
+    level: Level,
+    at: usize,
+    deep: usize,
+) -> Checked
+    requires { ⌜ Lent (now text) (now kinds) (now starts) (now ends) ⌝ }
+    requires { ⌜ deep ≤ 1024 ⌝ }
+    ensures { λ r. ⌜ r ≡ summary (Run level (now (text .entry)) (node deep at)) ⌝ }
+{
+    let bracket = bracket_of(text, kinds, starts, ends, at);
+    match bracket {
+        Bracket::Nothing => super::leaves::check_leaf(text, kinds, starts, ends, at, deep),
+        Bracket::Unopened => Checked::Refused(Refusal::NotAllowed(super::tokens::start_at(
+            text,
+            kinds,
+            starts,
+            ends,
+            at + 1,
+        ))),
+        Bracket::Opens {
+            at: open,
+            nodes: around,
+        } => {
+            if 1024 <= deep {
+                return Checked::Refused(Refusal::TooDeep(super::tokens::start_at(
+                    text,
+                    kinds,
+                    starts,
+                    ends,
+                    open,
+                )));
+            }
+            match check_expr(text, kinds, starts, ends, level, open + 1, deep + 1) {
+                Checked::Refused(refusal) => Checked::Refused(refusal),
+                Checked::Good { next, nodes, bytes } => {
+                    let close = super::tokens::expect(text, kinds, starts, ends, next, 7);
+                    let Wanted::Here(n) = close else {
+                        return Checked::Refused(Refusal::NotAllowed(super::tokens::start_at(
+                            text,
+                            kinds,
+                            starts,
+                            ends,
+                            next,
+                        )));
+                    };
+                    Checked::Good {
+                        next: n,
+                        nodes: nodes + around,
+                        bytes,
+                    }
+                }
+            }
+        }
+    }
+}
