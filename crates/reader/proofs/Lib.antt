@@ -1,0 +1,10 @@
+-- The laws of the building pass.
+pub mod Patches
+pub mod Lays
+pub mod Orders
+pub mod Worths
+pub mod Leaves
+pub mod Loops
+pub mod Chains
+pub mod Terms
+pub mod Nodes

@@ -1,0 +1,203 @@
+-- What the tokens of numbers, characters and postfixes are worth, as the code finds it.
+use Prim.Native.Nat.{ℕ, zero, suc, _+_, _-_, _≤_, _<_}
+use mathlib.Core.Path.{_≡_, refl, sym, ap, _∙_}
+use mathlib.Core.Bool.{Bool, true, false}
+use mathlib.Core.List.{List, [], _∷_}
+use native.Mathlib.Omega.{arith}
+use lib.Dec.{eqb}
+use lib.ListN.{length, take, drop}
+use borrow.Author.Tests.{eqb-true, eq-eqb, ne-eqb}
+use Rattle.text.specs.Choice.{choose, and, or}
+use Rattle.text.specs.Words.{begins}
+use Rattle.text.specs.Digits.{decimalOf}
+use Rattle.text.specs.Utf8.{charOf}
+use Rattle.text.specs.declared.Decimal.{Decimal}
+use Rattle.text.specs.declared.Sequence.{Sequence}
+use Rattle.text.specs.declared.Sequence.the-variants as Sequence
+use Rattle.literal.specs.Escapes.{escapeOf}
+use Rattle.literal.specs.declared.Escape.{Escape}
+use Rattle.literal.specs.declared.Escape.the-variants as Escape
+use Rattle.table.specs.declared.Unary.{Unary}
+use Rattle.table.specs.declared.Unary.the-variants.{PosPred, NegPred, Opt, Rep, RepOnce, RepExact, RepMin, RepMax, RepMinMax, Push}
+use Rattle.structure.specs.Tokens.{toks, kind, start, end, is, part, within, word, spells}
+use Rattle.structure.specs.Values.{worth, negated, number, isInteger, integerOf, integer, opening, inside, rawChar, charBy, character}
+use Rattle.structure.specs.Structure.{want, Postfix, post, notPost, noPost, fromNumber, fromComma, postfixAt}
+use Rattle.structure.proofs.Steps.{choose-true, choose-false, sees, misses, want-true, want-false}
+use Rattle.reader.specs.declared.Suffix.{Suffix}
+use Rattle.reader.specs.declared.Suffix.the-variants as Suffix
+use Rattle.reader.specs.Build.{suffixOf}
+use Rattle.reader.proofs.Orders.{low, spans, word-is, part-length, part-none}
+
+pub negated-is : (n : ℕ) → (n ≡ 0 → ⊥) → 4294967295 - (n - 1) ≡ negated n
+negated-is zero h = absurd (h refl)
+negated-is (suc n) h = let e : suc n - 1 ≡ n = omega arith in ap (λ (k : ℕ). 4294967295 - k) e
+
+-- ---- spelling
+
+module _ (p s : List ℕ) (i : ℕ) where
+  pub spells-kind : (x : ℕ) → x ≡ kind s i → (x ≡ 18 → ⊥) → false ≡ spells p s i
+  unfolding spells
+  spells-kind x e h = sym (rw (misses s i x 18 e h))
+
+  module _ (x a z : ℕ) (e : x ≡ kind s i) (h : x ≡ 18) (e₁ : a ≡ start s i) (e₂ : z ≡ end s i) where
+    length-is : z - a ≡ length (word s i)
+    length-is = let l = low s i in sym (part-length s a z (omega arith)) ∙ ap length (word-is s i a z e₁ e₂)
+
+    pub spells-length : (z - a ≡ length p → ⊥) → false ≡ spells p s i
+    unfolding spells
+    spells-length n =
+        let q : eqb (length (word s i)) (length p) ≡ false = ne-eqb _ _ (λ k. n (length-is ∙ k)) in
+        sym (rw (sees s i x 18 e h, q))
+
+    pub spells-bytes : z - a ≡ length p → begins p (take (z - a) (drop a s)) ≡ spells p s i
+    unfolding spells part
+    spells-bytes n =
+        let q : eqb (length (word s i)) (length p) ≡ true = eq-eqb _ _ (sym length-is ∙ n) in
+        let w : take (z - a) (drop a s) ≡ word s i = word-is s i a z e₁ e₂ in
+        sym (rw (sees s i x 18 e h, q, w))
+
+-- ---- numbers
+
+pub number-is : (s : List ℕ) (i a z : ℕ) → a ≡ start s i → z ≡ end s i → (d : Decimal) (r : ℕ) → d ≡ decimalOf 4294967295 (take (z - a) (drop a s)) → r ≡ worth d → r ≡ number s i
+unfolding number part
+number-is s i a z e₁ e₂ d r q₁ q₂ = q₂ ∙ ap worth (q₁ ∙ ap (decimalOf 4294967295) (word-is s i a z e₁ e₂))
+
+module _ (s : List ℕ) (i x : ℕ) (e : x ≡ kind s i) where
+  pub integer-yes : x ≡ 20 → true ≡ isInteger s i
+  integer-yes h = sym (rw (sees s i x 20 e h))
+
+  pub integer-by : (x ≡ 20 → ⊥) → eqb x 21 ≡ isInteger s i
+  unfolding is
+  integer-by h = ap (λ (k : ℕ). eqb k 21) e ∙ sym (ap (λ (b : Bool). or b (eqb (kind s i) 21)) (ne-eqb (kind s i) 20 (λ k. h (e ∙ k))))
+
+  module _ (a z : ℕ) (e₁ : a ≡ start s i) (e₂ : z ≡ end s i) (d : Decimal) where
+    pub integer-negative : x ≡ 21 → (b : ℕ) → b ≡ a + 1 → d ≡ decimalOf 2147483648 (take (z - b) (drop b s)) → (w r : ℕ) → w ≡ worth d → r ≡ negated w → r ≡ integer s i
+    unfolding integer part
+    integer-negative h b q q₁ w r q₂ q₃ =
+        let t = sees s i x 21 e h in
+        let f : z ≡ end s i - 0 = omega arith in
+        let g : b ≡ start s i + 1 = omega arith in
+        let p : take (z - b) (drop b s) ≡ within s i 1 0 = ap (λ (j : ℕ). take (z - j) (drop j s)) g ∙ ap (λ (j : ℕ). take (j - (start s i + 1)) (drop (start s i + 1) s)) f in
+        q₃ ∙ ap negated (q₂ ∙ ap worth (q₁ ∙ ap (decimalOf 2147483648) p)) ∙ sym (rw (t))
+
+    pub integer-positive : (x ≡ 21 → ⊥) → d ≡ decimalOf 2147483647 (take (z - a) (drop a s)) → (r : ℕ) → r ≡ worth d → r ≡ integer s i
+    unfolding integer part
+    integer-positive h q₁ r q₂ =
+        let t = misses s i x 21 e h in
+        q₂ ∙ ap worth (q₁ ∙ ap (decimalOf 2147483647) (word-is s i a z e₁ e₂)) ∙ sym (rw (t))
+
+pub opening-two : (s : List ℕ) (i x : ℕ) → x ≡ kind s i → x ≡ 24 → 2 ≡ opening s i
+opening-two s i x e h = sym (rw (sees s i x 24 e h))
+
+pub opening-one : (s : List ℕ) (i x : ℕ) → x ≡ kind s i → (x ≡ 24 → ⊥) → 1 ≡ opening s i
+opening-one s i x e h = sym (rw (misses s i x 24 e h))
+
+-- ---- a character
+
+pub meant-escape : (xs : List ℕ) {r : Escape} {c n : ℕ} → r ≡ escapeOf xs → r ≡ Escape.Means c n → c ≡ charBy (escapeOf xs) xs
+meant-escape xs e q = sym (ap (λ (x : Escape). charBy x xs) (sym e ∙ q))
+
+pub meant-raw : (xs : List ℕ) {r : Escape} {w : Sequence} {c n : ℕ} → r ≡ escapeOf xs → r ≡ Escape.Plain → w ≡ charOf xs → w ≡ Sequence.Is c n → c ≡ charBy (escapeOf xs) xs
+meant-raw xs e q f g = sym (ap (λ (x : Escape). charBy x xs) (sym e ∙ q) ∙ ap rawChar (sym f ∙ g))
+
+pub meant-broken : (xs : List ℕ) {r : Escape} {w : Sequence} → r ≡ escapeOf xs → r ≡ Escape.Plain → w ≡ charOf xs → w ≡ Sequence.Broken → 0 ≡ charBy (escapeOf xs) xs
+meant-broken xs e q f g = sym (ap (λ (x : Escape). charBy x xs) (sym e ∙ q) ∙ ap rawChar (sym f ∙ g))
+
+module _ (s : List ℕ) (i a z : ℕ) (v : is s i 25 ≡ true) (e₁ : a ≡ start s i) (e₂ : z ≡ end s i) where
+  not-insens : opening s i ≡ 1
+  unfolding is
+  not-insens = let k = eqb-true (kind s i) 25 v in rw (ne-eqb (kind s i) 24 (λ h. absurd (omega arith)))
+
+  pub inside-is : part s (a + 1) (z - 1) ≡ inside s i
+  inside-is =
+      let p : a + 1 ≡ start s i + opening s i = let o = not-insens in omega arith in
+      let q : z - 1 ≡ end s i - 1 = omega arith in
+      ap (λ (j : ℕ). part s j (z - 1)) p ∙ ap (part s (start s i + opening s i)) q
+
+  pub character-is : (r : ℕ) → r ≡ charBy (escapeOf (take (z - 1 - (a + 1)) (drop (a + 1) s))) (take (z - 1 - (a + 1)) (drop (a + 1) s)) → r ≡ character s i
+  unfolding character part
+  character-is r q = q ∙ ap (λ (xs : List ℕ). charBy (escapeOf xs) xs) inside-is
+
+  pub character-none : z - 1 < a + 1 → 0 ≡ character s i
+  unfolding character escapeOf charOf
+  character-none h = sym (ap (λ (xs : List ℕ). charBy (escapeOf xs) xs) (sym inside-is ∙ part-none s (a + 1) (z - 1) (omega arith)))
+
+-- ---- postfixes
+
+module _ (s : List ℕ) (i n x : ℕ) (en : n ≡ number s i) (e : x ≡ kind s (i + 1)) where
+  pub exact : x ≡ 3 → Suffix.Post (RepExact n) (i + 2) ≡ suffixOf (fromNumber s i)
+  unfolding fromNumber suffixOf
+  exact h = ap (λ (k : ℕ). Suffix.Post (RepExact k) (i + 2)) en ∙ sym (rw (sees s (i + 1) x 3 e h))
+
+  pub no-comma : (x ≡ 3 → ⊥) → (x ≡ 15 → ⊥) → Suffix.Bad ≡ suffixOf (fromNumber s i)
+  unfolding fromNumber suffixOf want
+  no-comma h g = sym (rw (misses s (i + 1) x 3 e h, misses s (i + 1) x 15 e g))
+
+  module _ (h : x ≡ 3 → ⊥) (g : x ≡ 15) (y : ℕ) (f : y ≡ kind s (i + 1 + 1)) where
+    pub least : y ≡ 3 → Suffix.Post (RepMin n) (i + 1 + 1 + 1) ≡ suffixOf (fromNumber s i)
+    unfolding fromNumber suffixOf want
+    least k = ap (λ (j : ℕ). Suffix.Post (RepMin j) (i + 1 + 1 + 1)) en ∙ sym (rw (misses s (i + 1) x 3 e h, sees s (i + 1) x 15 e g, sees s (i + 1 + 1) y 3 f k))
+
+    pub no-number : (y ≡ 3 → ⊥) → (y ≡ 20 → ⊥) → Suffix.Bad ≡ suffixOf (fromNumber s i)
+    unfolding fromNumber suffixOf want
+    no-number k j = sym (rw (misses s (i + 1) x 3 e h, sees s (i + 1) x 15 e g, misses s (i + 1 + 1) y 3 f k, misses s (i + 1 + 1) y 20 f j))
+
+    module _ (k : y ≡ 3 → ⊥) (j : y ≡ 20) (z m : ℕ) (em : m ≡ number s (i + 1 + 1)) (q : z ≡ kind s (i + 1 + 1 + 1)) where
+      pub no-close : (z ≡ 3 → ⊥) → Suffix.Bad ≡ suffixOf (fromNumber s i)
+      unfolding fromNumber suffixOf want
+      no-close r = sym (rw (misses s (i + 1) x 3 e h, sees s (i + 1) x 15 e g, misses s (i + 1 + 1) y 3 f k, sees s (i + 1 + 1) y 20 f j, misses s (i + 1 + 1 + 1) z 3 q r))
+
+      pub both : z ≡ 3 → Suffix.Post (RepMinMax n m) (i + 1 + 1 + 1 + 1) ≡ suffixOf (fromNumber s i)
+      unfolding fromNumber suffixOf want
+      both r =
+          ap (λ (l : ℕ). Suffix.Post (RepMinMax l m) (i + 1 + 1 + 1 + 1)) en
+          ∙ ap (λ (l : ℕ). Suffix.Post (RepMinMax (number s i) l) (i + 1 + 1 + 1 + 1)) em
+          ∙ sym (rw (misses s (i + 1) x 3 e h, sees s (i + 1) x 15 e g, misses s (i + 1 + 1) y 3 f k, sees s (i + 1 + 1) y 20 f j, sees s (i + 1 + 1 + 1) z 3 q r))
+
+module _ (s : List ℕ) (i x : ℕ) (e : x ≡ kind s i) where
+  pub comma-none : (x ≡ 15 → ⊥) → Suffix.Bad ≡ suffixOf (fromComma s i)
+  unfolding fromComma suffixOf want
+  comma-none h = sym (rw (misses s i x 15 e h))
+
+  module _ (h : x ≡ 15) (y : ℕ) (f : y ≡ kind s (i + 1)) where
+    pub comma-number : (y ≡ 20 → ⊥) → Suffix.Bad ≡ suffixOf (fromComma s i)
+    unfolding fromComma suffixOf want
+    comma-number g = sym (rw (sees s i x 15 e h, misses s (i + 1) y 20 f g))
+
+    module _ (g : y ≡ 20) (n z : ℕ) (en : n ≡ number s (i + 1)) (q : z ≡ kind s (i + 1 + 1)) where
+      pub comma-close : (z ≡ 3 → ⊥) → Suffix.Bad ≡ suffixOf (fromComma s i)
+      unfolding fromComma suffixOf want
+      comma-close r = sym (rw (sees s i x 15 e h, sees s (i + 1) y 20 f g, misses s (i + 1 + 1) z 3 q r))
+
+      pub comma-most : z ≡ 3 → Suffix.Post (RepMax n) (i + 1 + 1 + 1) ≡ suffixOf (fromComma s i)
+      unfolding fromComma suffixOf want
+      comma-most r = ap (λ (l : ℕ). Suffix.Post (RepMax l) (i + 1 + 1 + 1)) en ∙ sym (rw (sees s i x 15 e h, sees s (i + 1) y 20 f g, sees s (i + 1 + 1) z 3 q r))
+
+module _ (s : List ℕ) (i x : ℕ) (e : x ≡ kind s i) where
+  pub suffix-opt : x ≡ 12 → Suffix.Post Opt (i + 1) ≡ suffixOf (postfixAt s i)
+  unfolding postfixAt suffixOf
+  suffix-opt h = sym (rw (sees s i x 12 e h))
+
+  module _ (h₁ : x ≡ 12 → ⊥) where
+    pub suffix-rep : x ≡ 13 → Suffix.Post Rep (i + 1) ≡ suffixOf (postfixAt s i)
+    unfolding postfixAt suffixOf
+    suffix-rep h = sym (rw (misses s i x 12 e h₁, sees s i x 13 e h))
+
+    module _ (h₂ : x ≡ 13 → ⊥) where
+      pub suffix-once : x ≡ 14 → Suffix.Post RepOnce (i + 1) ≡ suffixOf (postfixAt s i)
+      unfolding postfixAt suffixOf
+      suffix-once h = sym (rw (misses s i x 12 e h₁, misses s i x 13 e h₂, sees s i x 14 e h))
+
+      module _ (h₃ : x ≡ 14 → ⊥) where
+        pub suffix-none : (x ≡ 2 → ⊥) → Suffix.Nothing ≡ suffixOf (postfixAt s i)
+        unfolding postfixAt suffixOf
+        suffix-none h = sym (rw (misses s i x 12 e h₁, misses s i x 13 e h₂, misses s i x 14 e h₃, misses s i x 2 e h))
+
+        module _ (h : x ≡ 2) (y : ℕ) (f : y ≡ kind s (i + 1)) (r : Suffix) where
+          pub suffix-number : y ≡ 20 → r ≡ suffixOf (fromNumber s (i + 1)) → r ≡ suffixOf (postfixAt s i)
+          unfolding postfixAt
+          suffix-number g q = q ∙ sym (rw (misses s i x 12 e h₁, misses s i x 13 e h₂, misses s i x 14 e h₃, sees s i x 2 e h, sees s (i + 1) y 20 f g))
+
+          pub suffix-comma : (y ≡ 20 → ⊥) → r ≡ suffixOf (fromComma s (i + 1)) → r ≡ suffixOf (postfixAt s i)
+          unfolding postfixAt
+          suffix-comma g q = q ∙ sym (rw (misses s i x 12 e h₁, misses s i x 13 e h₂, misses s i x 14 e h₃, sees s i x 2 e h, misses s (i + 1) y 20 f g))

@@ -1,0 +1,63 @@
+use native.Mathlib.Omega.{arith}
+use Rattle.reader.proofs.Leaves.{string-inside, string-good, string-room, string-fits, string-few, string-built, opening-small}
+use borrow.Author.Needs.{needs}
+use Rattle.reader.proofs.inner.leaves.put_literal.Statement.{statement}
+use Rattle.reader.proofs.inner.leaves.put_literal.Tie as tie
+use Rattle.reader.proofs.inner.records.put_string.Reads as put-string-reads
+use Rattle.reader.proofs.inner.records.put_text.Reads as put-text-reads
+use Rattle.reader.proofs.inner.values.opening_of.Reads as opening-of-reads
+use Rattle.structure.proofs.inner.tokens.end_at.Reads as end-at-reads
+use Rattle.structure.proofs.inner.tokens.start_at.Reads as start-at-reads
+
+start-at-requires : tie.Need-start-at-requires
+start-at-requires c κs = search needs
+
+end-at-requires : tie.Need-end-at-requires
+end-at-requires c κs = search needs
+
+opening-of-requires : tie.Need-opening-of-requires
+opening-of-requires c κs = search needs
+
+add-put-string : tie.Need-add-put-string
+add-put-string c = let p = string-inside _ _ _ _ _ _ _ _ (c .before .before .before .before .before .before .before .before .before .before .pre .0 .short) (c .before .before .before .before .before .before .before .before .before .before .pre .1 .0) (c .before .before .before .before .before .before .before .before .before .before .pre .1 .1 .0) (c .before .before .before .before .before .before .before .before .before .before .pre .1 .1 .1) _ _ _ (c .before .before .before .start-at .ensures) (c .before .before .end-at .ensures) (c .before .opening-of .ensures) in let q = opening-small _ _ _ (c .before .opening-of .ensures) in omega arith
+
+sub-put-string : tie.Need-sub-put-string
+sub-put-string c = let p = string-inside _ _ _ _ _ _ _ _ (c .before .before .before .before .before .before .before .before .before .before .pre .0 .short) (c .before .before .before .before .before .before .before .before .before .before .pre .1 .0) (c .before .before .before .before .before .before .before .before .before .before .pre .1 .1 .0) (c .before .before .before .before .before .before .before .before .before .before .pre .1 .1 .1) _ _ _ (c .before .before .before .start-at .ensures) (c .before .before .end-at .ensures) (c .before .opening-of .ensures) in omega arith
+
+put-string-requires : tie.Need-put-string-requires
+put-string-requires c κs = (string-inside _ _ _ _ _ _ _ _ (c .before .before .before .before .before .before .before .before .before .before .pre .0 .short) (c .before .before .before .before .before .before .before .before .before .before .pre .1 .0) (c .before .before .before .before .before .before .before .before .before .before .pre .1 .1 .0) (c .before .before .before .before .before .before .before .before .before .before .pre .1 .1 .1) _ _ _ (c .before .before .before .start-at .ensures) (c .before .before .end-at .ensures) (c .before .opening-of .ensures) .2, (string-good _ _ _ _ _ _ _ _ (c .before .before .before .before .before .before .before .before .before .before .pre .0 .short) (c .before .before .before .before .before .before .before .before .before .before .pre .1 .0) (c .before .before .before .before .before .before .before .before .before .before .pre .1 .1 .0) (c .before .before .before .before .before .before .before .before .before .before .pre .1 .1 .1) _ _ _ (c .before .before .before .start-at .ensures) (c .before .before .end-at .ensures) (c .before .opening-of .ensures), string-room _ _ _ _ _ _ _ _ (c .before .before .before .before .before .before .before .before .before .before .pre .0 .short) (c .before .before .before .before .before .before .before .before .before .before .pre .1 .0) (c .before .before .before .before .before .before .before .before .before .before .pre .1 .1 .0) (c .before .before .before .before .before .before .before .before .before .before .pre .1 .1 .1) _ _ _ (c .before .before .before .start-at .ensures) (c .before .before .end-at .ensures) (c .before .opening-of .ensures)))
+
+sub-put-text : tie.Need-sub-put-text
+sub-put-text c = string-fits _ _ _ _ _ _ _ _ (c .before .before .before .before .before .before .before .before .before .before .before .before .before .before .pre .0 .short) (c .before .before .before .before .before .before .before .before .before .before .before .before .before .before .pre .1 .0) (c .before .before .before .before .before .before .before .before .before .before .before .before .before .before .pre .1 .1 .0) (c .before .before .before .before .before .before .before .before .before .before .before .before .before .before .pre .1 .1 .1) _ _ _ (c .before .before .before .before .before .before .before .start-at .ensures) (c .before .before .before .before .before .before .end-at .ensures) (c .before .before .before .before .before .opening-of .ensures) _ _ (c .before .before .before .put-string .ensures) .0
+
+put-text-requires : tie.Need-put-text-requires
+put-text-requires c κs = string-fits _ _ _ _ _ _ _ _ (c .before .before .before .before .before .before .before .before .before .before .before .before .before .before .pre .0 .short) (c .before .before .before .before .before .before .before .before .before .before .before .before .before .before .pre .1 .0) (c .before .before .before .before .before .before .before .before .before .before .before .before .before .before .pre .1 .1 .0) (c .before .before .before .before .before .before .before .before .before .before .before .before .before .before .pre .1 .1 .1) _ _ _ (c .before .before .before .before .before .before .before .start-at .ensures) (c .before .before .before .before .before .before .end-at .ensures) (c .before .before .before .before .before .opening-of .ensures) _ _ (c .before .before .before .put-string .ensures) .1
+
+add-t19 : tie.Need-add-t19
+add-t19 c = let p = string-few _ _ _ _ _ _ _ _ (c .before .before .before .before .before .before .before .before .before .before .before .before .before .before .before .before .before .pre .0 .short) (c .before .before .before .before .before .before .before .before .before .before .before .before .before .before .before .before .before .pre .1 .0) (c .before .before .before .before .before .before .before .before .before .before .before .before .before .before .before .before .before .pre .1 .1 .0) (c .before .before .before .before .before .before .before .before .before .before .before .before .before .before .before .before .before .pre .1 .1 .1) _ _ _ (c .before .before .before .before .before .before .before .before .before .before .start-at .ensures) (c .before .before .before .before .before .before .before .before .before .end-at .ensures) (c .before .before .before .before .before .before .before .before .opening-of .ensures) _ _ (c .before .before .before .before .before .before .put-string .ensures) in omega arith
+
+same-length : tie.Need-same-length
+same-length c = search needs
+
+same-length-2 : tie.Need-same-length-2
+same-length-2 c = search needs
+
+returns : tie.Need-returns
+returns c = string-built _ _ _ _ _ _ _ _ (c .before .before .before .before .before .before .before .before .before .before .before .before .before .before .before .before .before .pre .0 .short) (c .before .before .before .before .before .before .before .before .before .before .before .before .before .before .before .before .before .pre .1 .0) (c .before .before .before .before .before .before .before .before .before .before .before .before .before .before .before .before .before .pre .1 .1 .0) (c .before .before .before .before .before .before .before .before .before .before .before .before .before .before .before .before .before .pre .1 .1 .1) _ _ _ (c .before .before .before .before .before .before .before .before .before .before .start-at .ensures) (c .before .before .before .before .before .before .before .before .before .end-at .ensures) (c .before .before .before .before .before .before .before .before .opening-of .ensures) _ _ (c .before .before .before .before .before .before .put-string .ensures) _ (c .before .before .put-text .ensures)
+
+pub put-literal-spec : {M : Type 1} → statement M
+put-literal-spec =
+    tie.close
+    (tie.spec
+    start-at-requires
+    end-at-requires
+    opening-of-requires
+    add-put-string
+    sub-put-string
+    put-string-requires
+    sub-put-text
+    put-text-requires
+    add-t19
+    same-length
+    same-length-2
+    returns)

@@ -1,0 +1,84 @@
+use borrow.Author.Needs.{needs}
+use lib.ListN.{length}
+use Prim.Native.Nat.{_-_}
+use native.Mathlib.Omega.{arith}
+use Rattle.structure.specs.Tokens.{toks}
+use Rattle.reader.proofs.Loops.{PostsInv, posts-start, post-past, post-over, posts-more, posts-done, posts-bad}
+use Rattle.reader.proofs.inner.loops.put_postfixes.Statement.{statement}
+use Rattle.reader.proofs.inner.loops.put_postfixes.Tie as tie
+use Rattle.reader.proofs.inner.records.put_unary.Reads as put-unary-reads
+use Rattle.reader.proofs.inner.values.suffix_at.Reads as suffix-at-reads
+use Rattle.structure.proofs.inner.tokens.end_at.Reads as end-at-reads
+
+abbrev Inv-loop : tie.InvT-loop
+Inv-loop text kinds starts ends nodes₀ at used from to i₀ u₀ z₀ nodes i u z = PostsInv text nodes₀ at used from to nodes i u z
+
+abbrev μ-loop : tie.MeasureT-loop
+μ-loop text kinds starts ends nodes₀ at used from to i₀ u₀ z₀ nodes i u z = length (toks text) - i
+
+loop-holds : tie.Need-loop-holds Inv-loop μ-loop
+loop-holds c = posts-start _ _ _ _ _ _ (c .before .before .before .before .before .pre .1 .stop)
+
+suffix-at-requires : tie.Need-suffix-at-requires Inv-loop μ-loop
+suffix-at-requires c κs = c .before .before .before .before .before .before .pre .0
+
+enum-known-suffix : tie.Need-enum-known-suffix Inv-loop μ-loop
+enum-known-suffix c = search needs
+
+sub-end-at : tie.Need-sub-end-at Inv-loop μ-loop
+sub-end-at c = let p = post-past _ _ _ _ _ _ (c .before .before .before .before .before .before .before .before .before .before .pre .0 .short) (c .before .before .before .before .before .before .before .before .before .before .pre .1) _ _ _ _ (c .before .before .before .before .loop .inv) _ (c .before .before .before .suffix-at .ensures) _ _ (c .before .suffix .given .1) in omega arith
+
+end-at-requires : tie.Need-end-at-requires Inv-loop μ-loop
+end-at-requires c κs = c .before .before .before .before .before .before .before .before .before .before .pre .0
+
+put-unary-requires : tie.Need-put-unary-requires Inv-loop μ-loop
+put-unary-requires c κs = post-over _ _ _ _ _ _ (c .before .before .before .before .before .before .before .before .before .before .before .before .pre .0 .short) (c .before .before .before .before .before .before .before .before .before .before .before .before .pre .1) _ _ _ _ (c .before .before .before .before .before .before .loop .inv) _ (c .before .before .before .before .before .suffix-at .ensures) _ _ (c .before .before .before .suffix .given .1) _ (c .before .end-at .ensures)
+
+add-u : tie.Need-add-u Inv-loop μ-loop
+add-u c = let o = post-over _ _ _ _ _ _ (c .before .before .before .before .before .before .before .before .before .before .before .before .before .before .before .pre .0 .short) (c .before .before .before .before .before .before .before .before .before .before .before .before .before .before .before .pre .1) _ _ _ _ (c .before .before .before .before .before .before .before .before .before .loop .inv) _ (c .before .before .before .before .before .before .before .before .suffix-at .ensures) _ _ (c .before .before .before .before .before .before .suffix .given .1) _ (c .before .before .before .before .end-at .ensures) in let f = o .few in omega arith
+
+loop-less : tie.Need-loop-less Inv-loop μ-loop
+loop-less c = let p = post-past _ _ _ _ _ _ (c .before .before .before .before .before .before .before .before .before .before .before .before .before .before .before .pre .0 .short) (c .before .before .before .before .before .before .before .before .before .before .before .before .before .before .before .pre .1) _ _ _ _ (c .before .before .before .before .before .before .before .before .before .loop .inv) _ (c .before .before .before .before .before .before .before .before .suffix-at .ensures) _ _ (c .before .before .before .before .before .before .suffix .given .1) in omega arith
+
+loop-again : tie.Need-loop-again Inv-loop μ-loop
+loop-again c = posts-more _ _ _ _ _ _ (c .before .before .before .before .before .before .before .before .before .before .before .before .before .before .before .pre .0 .short) (c .before .before .before .before .before .before .before .before .before .before .before .before .before .before .before .pre .1) _ _ _ _ (c .before .before .before .before .before .before .before .before .before .loop .inv) _ (c .before .before .before .before .before .before .before .before .suffix-at .ensures) _ _ (c .before .before .before .before .before .before .suffix .given .1) _ _ (c .before .before .before .before .end-at .ensures) (c .before .before .put-unary .ensures)
+
+enum-told : tie.Need-enum-told Inv-loop μ-loop
+enum-told c = search needs
+
+same-length : tie.Need-same-length Inv-loop μ-loop
+same-length c = (c .before .before .before .loop .inv) .long
+
+returns : tie.Need-returns Inv-loop μ-loop
+returns c = posts-bad _ _ _ _ _ _ (c .before .before .before .before .before .before .before .before .before .pre .0 .short) (c .before .before .before .before .before .before .before .before .before .pre .1) _ _ _ _ (c .before .before .before .loop .inv) _ (c .before .before .suffix-at .ensures) (c .enum-told .given .1)
+
+enum-told-2 : tie.Need-enum-told-2 Inv-loop μ-loop
+enum-told-2 c = search needs
+
+same-length-2 : tie.Need-same-length-2 Inv-loop μ-loop
+same-length-2 c = (c .before .before .before .loop .inv) .long
+
+returns-2 : tie.Need-returns-2 Inv-loop μ-loop
+returns-2 c = posts-done _ _ _ _ _ _ (c .before .before .before .before .before .before .before .before .before .pre .0 .short) (c .before .before .before .before .before .before .before .before .before .pre .1) _ _ _ _ (c .before .before .before .loop .inv) _ (c .before .before .suffix-at .ensures) (c .enum-told2 .given .1)
+
+pub put-postfixes-spec : {M : Type 1} → statement M
+put-postfixes-spec =
+    tie.close
+    (tie.spec
+    Inv-loop
+    μ-loop
+    loop-holds
+    suffix-at-requires
+    enum-known-suffix
+    sub-end-at
+    end-at-requires
+    put-unary-requires
+    add-u
+    loop-less
+    loop-again
+    enum-told
+    same-length
+    returns
+    enum-told-2
+    same-length-2
+    returns-2)

@@ -1,0 +1,75 @@
+use native.Mathlib.Omega.{arith}
+use Rattle.reader.proofs.Orders.{not-many}
+use Rattle.reader.proofs.Terms.{no-tag, tag-inside, plain-tag, tag-bytes, tagged-tag}
+use borrow.Author.Needs.{needs}
+use Rattle.reader.proofs.inner.terms.get_node_tag.Statement.{statement}
+use Rattle.reader.proofs.inner.terms.get_node_tag.Tie as tie
+use Rattle.reader.proofs.inner.records.put_bytes.Reads as put-bytes-reads
+use Rattle.structure.proofs.inner.tokens.end_at.Reads as end-at-reads
+use Rattle.structure.proofs.inner.tokens.kind_at.Reads as kind-at-reads
+use Rattle.structure.proofs.inner.tokens.start_at.Reads as start-at-reads
+
+kind-at-requires : tie.Need-kind-at-requires
+kind-at-requires c κs = search needs
+
+returns : tie.Need-returns
+returns c = no-tag _ _ _ _ _ (c .before .kind-at .ensures) (c .before .before .before .before .before .before .before .args .level) (c .if1 .taken)
+
+enum-told : tie.Need-enum-told
+enum-told c = search needs
+
+start-at-requires : tie.Need-start-at-requires
+start-at-requires c κs = search needs
+
+add-a : tie.Need-add-a
+add-a c = let t = tag-inside (c .before .before .before .before .before .before .before .before .before .before .args .text .now) (c .before .before .before .before .before .before .before .before .before .before .args .store .now) (c .before .before .before .before .before .before .before .before .before .before .args .at) (c .before .before .before .before .before .before .before .before .before .before .args .free) _ (c .before .before .before .before .kind-at .ensures) (c .before .before .before .if1 .left) in let h = c .before .before .before .before .before .before .before .before .before .before .pre .0 .short in let e = c .start-at .ensures in omega arith
+
+end-at-requires : tie.Need-end-at-requires
+end-at-requires c κs = search needs
+
+put-bytes-requires : tie.Need-put-bytes-requires
+put-bytes-requires c κs = tag-bytes _ _ _ _ _ (c .before .before .before .before .before .before .kind-at .ensures) (c .before .before .before .before .before .if1 .left) _ _ (c .before .before .start-at .ensures) (c .before .end-at .ensures) (c .before .before .before .enum-told .given .1) (c .before .before .before .before .before .before .before .before .before .before .before .before .pre .1)
+
+add-t15 : tie.Need-add-t15
+add-t15 c = let t = tag-inside (c .before .before .before .before .before .before .before .before .before .before .before .before .before .before .before .args .text .now) (c .before .before .before .before .before .before .before .before .before .before .before .before .before .before .before .args .store .now) (c .before .before .before .before .before .before .before .before .before .before .before .before .before .before .before .args .at) (c .before .before .before .before .before .before .before .before .before .before .before .before .before .before .before .args .free) _ (c .before .before .before .before .before .before .before .before .before .kind-at .ensures) (c .before .before .before .before .before .before .before .before .if1 .left) in let n = not-many _ _ _ _ (c .before .before .before .before .before .before .before .before .before .before .before .before .before .before .before .pre .0) in omega arith
+
+add-t18 : tie.Need-add-t18
+add-t18 c = let t = tag-inside (c .before .before .before .before .before .before .before .before .before .before .before .before .before .before .before .args .text .now) (c .before .before .before .before .before .before .before .before .before .before .before .before .before .before .before .args .store .now) (c .before .before .before .before .before .before .before .before .before .before .before .before .before .before .before .args .at) (c .before .before .before .before .before .before .before .before .before .before .before .before .before .before .before .args .free) _ (c .before .before .before .before .before .before .before .before .before .kind-at .ensures) (c .before .before .before .before .before .before .before .before .if1 .left) in let n = not-many _ _ _ _ (c .before .before .before .before .before .before .before .before .before .before .before .before .before .before .before .pre .0) in omega arith
+
+enum-told-2 : tie.Need-enum-told-2
+enum-told-2 c = search needs
+
+add-t19 : tie.Need-add-t19
+add-t19 c = let t = tag-inside (c .before .before .before .before .before .before .before .before .before .args .text .now) (c .before .before .before .before .before .before .before .before .before .args .store .now) (c .before .before .before .before .before .before .before .before .before .args .at) (c .before .before .before .before .before .before .before .before .before .args .free) _ (c .before .before .before .kind-at .ensures) (c .before .before .if1 .left) in let n = not-many _ _ _ _ (c .before .before .before .before .before .before .before .before .before .pre .0) in omega arith
+
+add-t20 : tie.Need-add-t20
+add-t20 c = let t = tag-inside (c .before .before .before .before .before .before .before .before .before .args .text .now) (c .before .before .before .before .before .before .before .before .before .args .store .now) (c .before .before .before .before .before .before .before .before .before .args .at) (c .before .before .before .before .before .before .before .before .before .args .free) _ (c .before .before .before .kind-at .ensures) (c .before .before .if1 .left) in let n = not-many _ _ _ _ (c .before .before .before .before .before .before .before .before .before .pre .0) in omega arith
+
+same-length : tie.Need-same-length
+same-length c = search needs
+
+returns-2 : tie.Need-returns-2
+returns-2 c = tagged-tag _ _ _ _ _ (c .before .before .before .before .before .before .before .before .before .kind-at .ensures) (c .before .before .before .before .before .before .before .before .if1 .left) _ _ (c .before .before .before .before .before .start-at .ensures) (c .before .before .before .before .end-at .ensures) (c .before .before .before .before .before .before .enum-told .given .1) _ _ (c .before .before .put-bytes .ensures)
+
+returns-3 : tie.Need-returns-3
+returns-3 c = plain-tag _ _ _ _ _ (c .before .before .before .kind-at .ensures) (c .before .before .if1 .left) (c .enum-told2 .given .1)
+
+pub get-node-tag-spec : {M : Type 1} → statement M
+get-node-tag-spec =
+    tie.close
+    (tie.spec
+    kind-at-requires
+    returns
+    enum-told
+    start-at-requires
+    add-a
+    end-at-requires
+    put-bytes-requires
+    add-t15
+    add-t18
+    enum-told-2
+    add-t19
+    add-t20
+    same-length
+    returns-2
+    returns-3)

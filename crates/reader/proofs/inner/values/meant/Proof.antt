@@ -1,0 +1,47 @@
+use Rattle.reader.proofs.Worths.{meant-escape, meant-raw, meant-broken}
+use borrow.Author.Needs.{needs}
+use Rattle.reader.proofs.inner.values.meant.Statement.{statement}
+use Rattle.reader.proofs.inner.values.meant.Tie as tie
+use Rattle.literal.proofs.escape_at.Reads as escape-at-reads
+use Rattle.text.proofs.char_at.Reads as char-at-reads
+
+escape-at-requires : tie.Need-escape-at-requires
+escape-at-requires c κs = search needs
+
+enum-known-escape : tie.Need-enum-known-escape
+enum-known-escape c = search needs
+
+enum-told : tie.Need-enum-told
+enum-told c = search needs
+
+char-at-requires : tie.Need-char-at-requires
+char-at-requires c κs = search needs
+
+enum-known-sequence : tie.Need-enum-known-sequence
+enum-known-sequence c = search needs
+
+enum-told-2 : tie.Need-enum-told-2
+enum-told-2 c = search needs
+
+returns : tie.Need-returns
+returns c = meant-escape _ (c .before .before .before .escape-at .ensures) (c .before .escape .given .1)
+
+returns-2 : tie.Need-returns-2
+returns-2 c = meant-raw _ (c .before .before .before .before .before .before .escape-at .ensures) (c .before .before .before .before .enum-told .given .1) (c .before .before .before .char-at .ensures) (c .before .sequence .given .1)
+
+returns-3 : tie.Need-returns-3
+returns-3 c = meant-broken _ (c .before .before .before .before .before .escape-at .ensures) (c .before .before .before .enum-told .given .1) (c .before .before .char-at .ensures) (c .enum-told2 .given .1)
+
+pub meant-spec : {M : Type 1} → statement M
+meant-spec =
+    tie.close
+    (tie.spec
+    escape-at-requires
+    enum-known-escape
+    enum-told
+    char-at-requires
+    enum-known-sequence
+    enum-told-2
+    returns
+    returns-2
+    returns-3)

@@ -1,0 +1,122 @@
+-- What the reader answers, and what it leaves in the lent buffers.
+use Prim.Native.Nat.{ℕ, _/_, min}
+use mathlib.Core.Bool.{Bool, true, false}
+use mathlib.Core.List.{List, [], _∷_}
+use lib.Dec.{leb, ltb}
+use lib.ListN.{length}
+use Rattle.text.specs.Choice.{choose}
+use Rattle.text.specs.Splice.{fronted}
+use Rattle.text.specs.Utf8.{firstBad}
+use Rattle.text.specs.declared.Check.{Check}
+use Rattle.text.specs.declared.Check.the-variants as Check
+use Rattle.token.specs.Lists.{tokensOf}
+use Rattle.table.specs.Tree.{Span, Rule, counts, rulesStored}
+use Rattle.table.specs.Record.{nodesIn, rulesIn}
+use Rattle.table.specs.Flat.{nodesOf, recordsOf}
+use Rattle.table.specs.Check.{maxNodes, maxRules}
+use Rattle.structure.specs.declared.Level.{Level}
+use Rattle.structure.specs.declared.Fault.{Fault}
+use Rattle.structure.specs.declared.Fault.the-variants as Fault
+use Rattle.reader.specs.declared.Reading.{Reading}
+use Rattle.reader.specs.declared.Reading.the-variants as Reading
+use Rattle.structure.specs.declared.Refusal.{Refusal}
+use Rattle.structure.specs.declared.Refusal.the-variants as Refusal
+use Rattle.structure.specs.Values.{faults}
+use Rattle.structure.specs.Structure.{Ruled, rules, unruled, grammar}
+
+-- room is the lower of what is lent and the limit; lent records are whole ones
+abbrev pub roomForNodes : List ℕ → ℕ
+roomForNodes ns = min (nodesIn ns) maxNodes
+
+abbrev pub roomForRules : List ℕ → ℕ
+roomForRules rs = min (rulesIn rs) maxRules
+
+-- 12, 10, 11; else the counts used
+unfoldable pub roomFor : List (Rule Span) → ℕ → ℕ → ℕ → Reading
+roomFor us n r b =
+    choose (leb (length us) r)
+    (λ u. choose (leb (counts us) n)
+    (λ u. choose (leb (length (rulesStored us)) b) (λ u. Reading.Read (counts us) (length us) (length (rulesStored us))) (λ u. Reading.StoreRoom)) (λ u. Reading.NodesRoom))
+    (λ u. Reading.RulesRoom)
+
+abbrev pub faulty : Fault → (Unit {0} → Reading) → Reading
+faulty Fault.Sound f = f tt
+faulty (Fault.Over p) f = Reading.Over p
+faulty (Fault.Zero p) f = Reading.Zero p
+faulty (Fault.PeekRange p) f = Reading.PeekRange p
+faulty (Fault.NotScalar p) f = Reading.NotScalar p
+faulty (Fault.NotPlain p) f = Reading.NotPlain p
+
+abbrev pub checkedBy : Check → (ℕ → Reading) → (Unit {0} → Reading) → Reading
+checkedBy (Check.Bad p) f g = f p
+checkedBy Check.Good f g = g tt
+
+-- structure's two refusals: 4 and 9
+abbrev pub unreadable : Refusal → Reading
+unreadable (Refusal.NotAllowed p) = Reading.NotAllowed p
+unreadable (Refusal.TooDeep p) = Reading.TooDeep p
+
+abbrev pub ruledBy : Ruled → (List (Rule Span) → Reading) → Reading
+ruledBy (rules us) f = f us
+ruledBy (unruled r) f = unreadable r
+
+-- each phase covers the whole text first: 1; 2; 3; 4 and 9; 5, 6, 7, 8 and 13; 12, 10, 11
+unfoldable pub readOf : Level → List ℕ → ℕ → ℕ → ℕ → Reading
+readOf level s n r b =
+    choose (leb (length s) 65536)
+    (λ u. checkedBy (firstBad s) Reading.NotUtf8
+    (λ u. checkedBy (tokensOf s .fault) Reading.NoToken
+    (λ u. ruledBy (grammar level s) (λ us. faulty (faults level s) (λ u. roomFor us n r b)))))
+    (λ u. Reading.TooLong)
+
+abbrev pub ruledOf : Ruled → List (Rule Span)
+ruledOf (rules us) = us
+ruledOf (unruled r) = []
+
+-- the rules of a text that is read
+abbrev pub rulesOf : Level → List ℕ → List (Rule Span)
+rulesOf level s = ruledOf (grammar level s)
+
+-- a success changes only the used part, a refusal nothing
+unfoldable pub leftIn : Reading → List ℕ → List ℕ → List ℕ
+leftIn (Reading.Read n r b) x o = fronted x o
+leftIn Reading.TooLong x o = o
+leftIn (Reading.NotUtf8 p) x o = o
+leftIn (Reading.NoToken p) x o = o
+leftIn (Reading.NotAllowed p) x o = o
+leftIn (Reading.TooDeep p) x o = o
+leftIn (Reading.Over p) x o = o
+leftIn (Reading.Zero p) x o = o
+leftIn (Reading.PeekRange p) x o = o
+leftIn (Reading.NotScalar p) x o = o
+leftIn (Reading.NotPlain p) x o = o
+leftIn Reading.RulesRoom x o = o
+leftIn Reading.NodesRoom x o = o
+leftIn Reading.StoreRoom x o = o
+
+-- an answer in the paper's numbers: number, place, and the records and bytes used
+pub record Numbered : Type 0 where
+  pub number : ℕ
+  pub place : ℕ
+  pub nodes : ℕ
+  pub rules : ℕ
+  pub store : ℕ
+
+abbrev pub refusal : ℕ → ℕ → Numbered
+refusal n p = record { number = n; place = p; nodes = 0; rules = 0; store = 0 }
+
+unfoldable pub numbered : Reading → Numbered
+numbered (Reading.Read n r b) = record { number = 0; place = 0; nodes = n; rules = r; store = b }
+numbered Reading.TooLong = refusal 1 0
+numbered (Reading.NotUtf8 p) = refusal 2 p
+numbered (Reading.NoToken p) = refusal 3 p
+numbered (Reading.NotAllowed p) = refusal 4 p
+numbered (Reading.TooDeep p) = refusal 9 p
+numbered (Reading.Over p) = refusal 5 p
+numbered (Reading.Zero p) = refusal 6 p
+numbered (Reading.PeekRange p) = refusal 7 p
+numbered (Reading.NotScalar p) = refusal 8 p
+numbered (Reading.NotPlain p) = refusal 13 p
+numbered Reading.RulesRoom = refusal 12 0
+numbered Reading.NodesRoom = refusal 10 0
+numbered Reading.StoreRoom = refusal 11 0

@@ -1,0 +1,7 @@
+// The building pass. A text that is good in structure and values is read again and written as
+// records.
+pub mod leaves;
+pub mod loops;
+pub mod records;
+pub mod terms;
+pub mod values;

@@ -1,0 +1,212 @@
+// What tokens are worth, from the bytes of the text.
+use crate::Suffix;
+use literal::Escape;
+use structure::inner::tokens::end_at;
+use structure::inner::tokens::kind_at;
+use structure::inner::tokens::start_at;
+use table::Unary;
+use text::Decimal;
+use text::Sequence;
+ghost use mathlib.Core.Path.{_≡_};
+ghost use mathlib.Core.Bool.{true};
+ghost use Rattle.literal.specs.Escapes.{escapeOf};
+ghost use Rattle.structure.specs.Answers.{Lent};
+ghost use Rattle.structure.specs.Tokens.{is, spells};
+ghost use Rattle.structure.specs.Values.{worth, negated, number, isInteger, integer, opening, charBy, character};
+ghost use Rattle.structure.specs.Structure.{postfixAt, fromNumber, fromComma};
+ghost use Rattle.reader.specs.Build.{suffixOf};
+
+fn worth_of(d: Decimal) -> u32
+    ensures { λ r. ⌜ r ≡ worth d ⌝ }
+{
+    match d {
+        Decimal::Is(n) => n,
+        Decimal::Over => 0,
+        Decimal::NotDigits => 0,
+    }
+}
+
+// The two's complement of a number.
+fn negate(n: u32) -> u32
+    ensures { λ r. ⌜ r ≡ negated n ⌝ }
+{
+    if n == 0 {
+        return 0;
+    }
+    4294967295 - (n - 1)
+}
+
+// The token is the word spelled so.
+pub fn is_spelled(
+    p: &[u8],
+    text: &[u8],
+    kinds: &[u8],
+    starts: &[u32],
+    ends: &[u32],
+    at: usize,
+) -> bool
+    requires { ⌜ Lent (now text) (now kinds) (now starts) (now ends) ⌝ }
+    ensures { λ r. ⌜ r ≡ spells (now (p .entry)) (now (text .entry)) at ⌝ }
+{
+    if kind_at(text, kinds, starts, ends, at) != 18 {
+        return false;
+    }
+    let a = start_at(text, kinds, starts, ends, at);
+    let z = end_at(text, kinds, starts, ends, at);
+    if z - a != p.len() {
+        return false;
+    }
+    text::inner::words::begins_at(p, &text[a..z], 0)
+}
+
+// A repeat number.
+pub fn number_at(text: &[u8], kinds: &[u8], starts: &[u32], ends: &[u32], at: usize) -> u32
+    requires { ⌜ Lent (now text) (now kinds) (now starts) (now ends) ⌝ }
+    ensures { λ r. ⌜ r ≡ number (now (text .entry)) at ⌝ }
+{
+    let a = start_at(text, kinds, starts, ends, at);
+    let z = end_at(text, kinds, starts, ends, at);
+    worth_of(text::decimal_of(&text[a..z], 4294967295))
+}
+
+pub fn is_integer(text: &[u8], kinds: &[u8], starts: &[u32], ends: &[u32], at: usize) -> bool
+    requires { ⌜ Lent (now text) (now kinds) (now starts) (now ends) ⌝ }
+    ensures { λ r. ⌜ r ≡ isInteger (now (text .entry)) at ⌝ }
+{
+    let kind = kind_at(text, kinds, starts, ends, at);
+    if kind == 20 {
+        return true;
+    }
+    kind == 21
+}
+
+// A number of a PEEK slice, in two's complement.
+pub fn integer_at(text: &[u8], kinds: &[u8], starts: &[u32], ends: &[u32], at: usize) -> u32
+    requires { ⌜ Lent (now text) (now kinds) (now starts) (now ends) ⌝ }
+    ensures { λ r. ⌜ r ≡ integer (now (text .entry)) at ⌝ }
+{
+    let a = start_at(text, kinds, starts, ends, at);
+    let z = end_at(text, kinds, starts, ends, at);
+    if kind_at(text, kinds, starts, ends, at) == 21 {
+        let b = a + 1;
+        return negate(worth_of(text::decimal_of(&text[b..z], 2147483648)));
+    }
+    worth_of(text::decimal_of(&text[a..z], 2147483647))
+}
+
+// How many bytes open a literal.
+pub fn opening_of(text: &[u8], kinds: &[u8], starts: &[u32], ends: &[u32], at: usize) -> usize
+    requires { ⌜ Lent (now text) (now kinds) (now starts) (now ends) ⌝ }
+    ensures { λ r. ⌜ r ≡ opening (now (text .entry)) at ⌝ }
+{
+    if kind_at(text, kinds, starts, ends, at) == 24 {
+        return 2;
+    }
+    1
+}
+
+// The character that the inside of a literal means.
+fn meant(s: &[u8]) -> u32
+    ensures { λ r. ⌜ r ≡ charBy (escapeOf (now (s .entry))) (now (s .entry)) ⌝ }
+{
+    let escape = literal::escape_at(s, 0);
+    match escape {
+        Escape::Means(c, _) => c,
+        Escape::Plain => {
+            let sequence = text::char_at(s, 0);
+            match sequence {
+                Sequence::Is(c, _) => c,
+                Sequence::Broken => 0,
+            }
+        }
+    }
+}
+
+// The character that a character literal means.
+pub fn character_at(text: &[u8], kinds: &[u8], starts: &[u32], ends: &[u32], at: usize) -> u32
+    requires { ⌜ Lent (now text) (now kinds) (now starts) (now ends) ⌝ }
+    requires { ⌜ is (now text) at 25 ≡ true ⌝ }
+    ensures { λ r. ⌜ r ≡ character (now (text .entry)) at ⌝ }
+{
+    let a = start_at(text, kinds, starts, ends, at) + 1;
+    let z = end_at(text, kinds, starts, ends, at) - 1;
+    if z < a {
+        return 0;
+    }
+    meant(&text[a..z])
+}
+
+// `{n}`, `{n,}`, `{n, m}`, from past the `{` on.
+fn from_number(text: &[u8], kinds: &[u8], starts: &[u32], ends: &[u32], at: usize) -> Suffix
+    requires { ⌜ Lent (now text) (now kinds) (now starts) (now ends) ⌝ }
+    requires { ⌜ is (now text) at 20 ≡ true ⌝ }
+    ensures { λ r. ⌜ r ≡ suffixOf (fromNumber (now (text .entry)) at) ⌝ }
+{
+    let n = number_at(text, kinds, starts, ends, at);
+    let kind = kind_at(text, kinds, starts, ends, at + 1);
+    if kind == 3 {
+        return Suffix::Post(Unary::RepExact(n), at + 2);
+    }
+    if kind != 15 {
+        return Suffix::Bad;
+    }
+    let j = at + 1 + 1;
+    let next = kind_at(text, kinds, starts, ends, j);
+    if next == 3 {
+        return Suffix::Post(Unary::RepMin(n), j + 1);
+    }
+    if next != 20 {
+        return Suffix::Bad;
+    }
+    let m = number_at(text, kinds, starts, ends, j);
+    let k = j + 1;
+    if kind_at(text, kinds, starts, ends, k) != 3 {
+        return Suffix::Bad;
+    }
+    Suffix::Post(Unary::RepMinMax(n, m), k + 1)
+}
+
+// `{,n}`, from the comma on.
+fn from_comma(text: &[u8], kinds: &[u8], starts: &[u32], ends: &[u32], at: usize) -> Suffix
+    requires { ⌜ Lent (now text) (now kinds) (now starts) (now ends) ⌝ }
+    ensures { λ r. ⌜ r ≡ suffixOf (fromComma (now (text .entry)) at) ⌝ }
+{
+    if kind_at(text, kinds, starts, ends, at) != 15 {
+        return Suffix::Bad;
+    }
+    let j = at + 1;
+    if kind_at(text, kinds, starts, ends, j) != 20 {
+        return Suffix::Bad;
+    }
+    let n = number_at(text, kinds, starts, ends, j);
+    let k = j + 1;
+    if kind_at(text, kinds, starts, ends, k) != 3 {
+        return Suffix::Bad;
+    }
+    Suffix::Post(Unary::RepMax(n), k + 1)
+}
+
+// The postfix at a token.
+pub fn suffix_at(text: &[u8], kinds: &[u8], starts: &[u32], ends: &[u32], at: usize) -> Suffix
+    requires { ⌜ Lent (now text) (now kinds) (now starts) (now ends) ⌝ }
+    ensures { λ r. ⌜ r ≡ suffixOf (postfixAt (now (text .entry)) at) ⌝ }
+{
+    let kind = kind_at(text, kinds, starts, ends, at);
+    if kind == 12 {
+        return Suffix::Post(Unary::Opt, at + 1);
+    }
+    if kind == 13 {
+        return Suffix::Post(Unary::Rep, at + 1);
+    }
+    if kind == 14 {
+        return Suffix::Post(Unary::RepOnce, at + 1);
+    }
+    if kind != 2 {
+        return Suffix::Nothing;
+    }
+    let i = at + 1;
+    if kind_at(text, kinds, starts, ends, i) == 20 {
+        return from_number(text, kinds, starts, ends, i);
+    }
+    from_comma(text, kinds, starts, ends, i)
+}
