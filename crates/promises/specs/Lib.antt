@@ -1,0 +1,3 @@
+-- The promises: the definitions that the theorems of this crate cite.
+pub mod Pieces
+pub mod Round

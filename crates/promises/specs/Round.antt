@@ -1,0 +1,113 @@
+-- The way back: what the premises of printing and reading back say.
+use Prim.Native.Nat.{ℕ, zero, suc, _+_, _≤_, max}
+use mathlib.Core.Path.{_≡_}
+use mathlib.Core.Bool.{Bool, true, false, not}
+use mathlib.Core.List.{List, [], _∷_, _++_, map}
+use lib.Dec.{leb, eqb}
+use lib.ListN.{length}
+use Rattle.text.specs.Choice.{choose, and, or}
+use Rattle.table.specs.declared.Unary.{Unary}
+use Rattle.table.specs.declared.Unary.the-variants.{PosPred, NegPred, Opt, Rep, RepOnce, RepExact, RepMin, RepMax, RepMinMax, Push}
+use Rattle.table.specs.declared.Sort.{Sort}
+use Rattle.table.specs.declared.Sort.the-variants.{Str, Insens, Ident, PushLiteral}
+use Rattle.table.specs.declared.End.{End}
+use Rattle.table.specs.declared.End.the-variants.{Open, At}
+use Rattle.table.specs.Tree.{Atom, text, range, peekSlice, Wrap, plain, nodeTag, Tree, leaf, one, two, Rule, Nowhere}
+use Rattle.table.specs.Regroup.{regroupRules, untaggedRules}
+use Rattle.printer.specs.declared.Place.{Place}
+use Rattle.printer.specs.declared.Place.the-variants.{Alone, LeftOf, RightOf}
+use Rattle.printer.specs.declared.Form.the-variants.{Joined}
+use Rattle.printer.specs.Printing.{brackets, atomForm, wrapForm, under}
+use Rattle.structure.specs.declared.Level.{Level}
+use Rattle.structure.specs.declared.Level.the-variants.{Tagged, Plain}
+
+-- ---- numbers that a table of 32 bits holds, and that the reader takes: no zero exact count or maximum
+
+abbrev pub small : ℕ → Bool
+small n = leb n 4294967295
+
+abbrev pub positive : ℕ → Bool
+positive n = and (small n) (not (eqb n 0))
+
+abbrev pub unaryCounts : Unary → Bool
+unaryCounts PosPred = true
+unaryCounts NegPred = true
+unaryCounts Opt = true
+unaryCounts Rep = true
+unaryCounts RepOnce = true
+unaryCounts (RepExact n) = positive n
+unaryCounts (RepMin n) = small n
+unaryCounts (RepMax n) = positive n
+unaryCounts (RepMinMax n m) = and (small n) (positive m)
+unaryCounts Push = true
+
+abbrev pub wrapCounts : Wrap → Bool
+wrapCounts (plain u) = unaryCounts u
+wrapCounts (nodeTag b) = true
+
+abbrev pub endCounts : End → Bool
+endCounts Open = true
+endCounts (At n) = small n
+
+abbrev pub atomCounts : Atom → Bool
+atomCounts (text k b) = true
+atomCounts (range x y) = true
+atomCounts (peekSlice x e) = and (small x) (endCounts e)
+
+unfoldable pub counted : {P : Type 0} → Tree P → Bool
+counted (leaf s a) = atomCounts a
+counted (one s o t) = and (wrapCounts o) (counted t)
+counted (two s j a b) = and (counted a) (counted b)
+
+unfoldable pub countedRules : {P : Type 0} → List (Rule P) → Bool
+countedRules [] = true
+countedRules (r ∷ rs) = and (counted (r .tree)) (countedRules rs)
+
+-- ---- how many brackets are open at once in printed text, those of Range, tags, PUSH and PUSH_LITERAL too
+
+abbrev pub one? : Bool → ℕ
+one? true = 1
+one? false = 0
+
+abbrev pub sortDepth : Sort → ℕ
+sortDepth Str = 0
+sortDepth Insens = 0
+sortDepth Ident = 0
+sortDepth PushLiteral = 1
+
+abbrev pub atomDepth : Atom → ℕ
+atomDepth (text k b) = sortDepth k
+atomDepth (range x y) = 0
+atomDepth (peekSlice x e) = 0
+
+abbrev pub unaryDepth : Unary → ℕ
+unaryDepth PosPred = 0
+unaryDepth NegPred = 0
+unaryDepth Opt = 0
+unaryDepth Rep = 0
+unaryDepth RepOnce = 0
+unaryDepth (RepExact n) = 0
+unaryDepth (RepMin n) = 0
+unaryDepth (RepMax n) = 0
+unaryDepth (RepMinMax n m) = 0
+unaryDepth Push = 1
+
+abbrev pub wrapDepth : Wrap → ℕ
+wrapDepth (plain u) = unaryDepth u
+wrapDepth (nodeTag b) = 0
+
+unfoldable pub depth : {P : Type 0} → Place → Tree P → ℕ
+depth w (leaf s a) = one? (brackets w (atomForm a)) + atomDepth a
+depth w (one s o t) = one? (brackets w (wrapForm o)) + (wrapDepth o + depth (under (wrapForm o)) t)
+depth w (two s j a b) = one? (brackets w (Joined j)) + max (depth (LeftOf j) a) (depth (RightOf j) b)
+
+unfoldable pub depths : {P : Type 0} → List (Rule P) → ℕ
+depths [] = 0
+depths (r ∷ rs) = max (depth Alone (r .tree)) (depths rs)
+
+-- ---- what comes back
+
+-- the rules regrouped once; plain then drops their tags
+abbrev pub seen : Level → List (Rule Nowhere) → List (Rule Nowhere)
+seen Tagged us = regroupRules us
+seen Plain us = untaggedRules (regroupRules us)
