@@ -1,0 +1,2 @@
+-- The promises: theorems.
+pub mod Twelve
