@@ -1,2 +1,3 @@
--- The promises: theorems.
+-- The promises: theorems over the definitions of all layers.
 pub mod Twelve
+pub mod Unique
