@@ -111,10 +111,9 @@ module _ (level : Level) (s ns rs st : List ℕ) {x y : Reading}
     (f : y ≡ readOf level s (roomForNodes ns) (roomForRules rs) (length st)) where
   pub read : {n₁ r₁ s₁ n₂ r₂ s₂ : List ℕ} → Left level s ns rs st x n₁ r₁ s₁ → Left level s ns rs st y n₂ r₂ s₂
       → (x ≡ y) × (n₁ ≡ n₂) × (r₁ ≡ r₂) × (s₁ ≡ s₂)
-  read h k =
-      (
-        one e f,
-        kept e f (λ (r : Reading). leftIn r (nodesOf (rulesOf level s)) ns) (h .nodes) (k .nodes),
-        kept e f (λ (r : Reading). leftIn r (recordsOf (rulesOf level s)) rs) (h .rules) (k .rules),
-        kept e f (λ (r : Reading). leftIn r (rulesStored (rulesOf level s)) st) (h .store) (k .store),
-      )
+  read h k = (
+    one e f,
+    kept e f (λ (r : Reading). leftIn r (nodesOf (rulesOf level s)) ns) (h .nodes) (k .nodes),
+    kept e f (λ (r : Reading). leftIn r (recordsOf (rulesOf level s)) rs) (h .rules) (k .rules),
+    kept e f (λ (r : Reading). leftIn r (rulesStored (rulesOf level s)) st) (h .store) (k .store),
+  )
