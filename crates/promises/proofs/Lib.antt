@@ -1,0 +1,3 @@
+-- The promises' laws: from printed text back to what was printed.
+pub mod Values
+pub mod Leaves
