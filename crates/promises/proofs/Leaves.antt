@@ -98,6 +98,19 @@ module _ (s : List ℕ) where
       ∙ posts-is (ap (λ (x : ℕ). RepMinMax x (number s (at + 1 + 1 + 1))) (number-is s (at + 1) m (small-le m (d .0)) (h .2 .1))
       ∙ ap (RepMinMax m) (number-is s (at + 1 + 1 + 1) l (positive-le l (d .1)) (h .2 .2 .2 .1))) (h .2 .2 .2 .2 .2)
 
+  -- it is no slice of PEEK
+  pub posted-first : (u : Unary) → unaryForm u ≡ Postfix → (at n : ℕ) → Stand s at (unaryAfter u) n → is s at 4 ≡ false
+  posted-first PosPred f at n h = let z : _≡_ {A = ℕ} 0 1 = cc in absurd (omega arith)
+  posted-first NegPred f at n h = let z : _≡_ {A = ℕ} 0 1 = cc in absurd (omega arith)
+  posted-first Push f at n h = let z : _≡_ {A = ℕ} 0 1 = cc in absurd (omega arith)
+  posted-first Opt f at n h = no s at 12 4 (h .0) refl
+  posted-first Rep f at n h = no s at 13 4 (h .0) refl
+  posted-first RepOnce f at n h = no s at 14 4 (h .0) refl
+  posted-first (RepExact m) f at n h = no s at 2 4 (h .0) refl
+  posted-first (RepMin m) f at n h = no s at 2 4 (h .0) refl
+  posted-first (RepMax m) f at n h = no s at 2 4 (h .0) refl
+  posted-first (RepMinMax m l) f at n h = no s at 2 4 (h .0) refl
+
   -- no postfix begins here, and nothing that goes on after PEEK
   abbrev pub Ends : ℕ → Type 0
   Ends n = among (2 ∷ 4 ∷ 12 ∷ 13 ∷ 14 ∷ []) (kind s n) ≡ false
