@@ -150,8 +150,18 @@ module _ (level : Level) (s : List ℕ) where
   unfolding finished
   unsigned o at n t a b e = signed-law level s o at ∙ choose-false (is s at 8) _ _ a ∙ choose-false (is s at 9) _ _ b ∙ next-good _ _ e
 
+  -- the postfixes after a node
+  posts-by : (t : Tree Span) (n : ℕ) (p : Postfix) → postfixAt s n ≡ p → Run level s (posts t n) ≡ postsBy p (λ v m. Run level s (posts (after (end s (m - 1)) v t) m)) (λ u. got t n)
+  posts-by t n p e = posts-law level s t n ∙ ap (λ (q : Postfix). postsBy q (λ v m. Run level s (posts (after (end s (m - 1)) v t) m)) (λ u. got t n)) e
+
   no-posts : (t : Tree Span) (n : ℕ) → Ends s n → Run level s (posts t n) ≡ got t n
-  no-posts t n e = posts-law level s t n ∙ ap (λ (p : Postfix). postsBy p (λ v m. Run level s (posts (after (end s (m - 1)) v t) m)) (λ u. got t n)) (unposted s n e)
+  no-posts t n e = posts-by t n noPost (unposted s n e)
+
+  posts-on : (t : Tree Span) (u : Unary) (m n : ℕ) → postfixAt s m ≡ post u n → Run level s (posts t m) ≡ Run level s (posts (after (end s (n - 1)) u t) n)
+  posts-on t u m n e = posts-by t m (post u n) e
+
+  finish-by : (at : ℕ) {m n : Parsed} → m ≡ n → next m (λ v m. got (finished s at v) m) ≡ next n (λ v m. got (finished s at v) m)
+  finish-by at e = ap (λ (x : Parsed). next x (λ v m. got (finished s at v) m)) e
 
   -- a node with nothing more after it
   ends-held : (o at n : ℕ) (e : Tree Nowhere) → Held o at n e → Ends s n → Reads (Run level s (signed o at)) e n
@@ -332,11 +342,7 @@ module _ (level : Level) (s : List ℕ) where
           let r = g .node-of o at (i .0) (i .1) (omega arith) (posted-first s u f (i .0) n (i .2)) in
           record {
             tree = after (end s (n - 1)) u (r .tree);
-            goes =
-                r .goes
-                ∙ ap (λ (m : Parsed). next m (λ v m. got (finished s at v) m))
-                (posts-law level s (r .tree) (i .0)
-                ∙ ap (λ (q : Postfix). postsBy q (λ v m. Run level s (posts (after (end s (m - 1)) v (r .tree)) m)) (λ z. got (r .tree) (i .0))) (posted s u f c (i .0) n (i .2)));
+            goes = r .goes ∙ finish-by at (posts-on (r .tree) u (i .0) n (posted s u f c (i .0) n (i .2)));
             same = one-same (r .tree) (r .same);
           }
 
@@ -372,3 +378,127 @@ module _ (level : Level) (s : List ℕ) where
           let z = depth-bare Alone e b in
           expr-at e signed-pred (o + 1) (at + 1) m 7 (stand-as s (sym (pieces-bare Alone e b)) (at + 1) m h) (omega arith) k refl refl refl))
           signed-pred
+
+  pos-law : (o at : ℕ) → kind s at ≡ 8 → Run level s (signed o at) ≡ next (Run level s (signed o (at + 1))) (λ t n. got (before (start s at) (plain PosPred) t) n)
+  pos-law o at k = signed-law level s o at ∙ choose-true (is s at 8) _ _ (yes s at 8 k)
+
+  neg-law : (o at : ℕ) → kind s at ≡ 9 → Run level s (signed o at) ≡ next (Run level s (signed o (at + 1))) (λ t n. got (before (start s at) (plain NegPred) t) n)
+  neg-law o at k = signed-law level s o at ∙ choose-false (is s at 8) _ _ (no s at 9 8 k refl) ∙ choose-true (is s at 9) _ _ (yes s at 9 k)
+
+  module _ (p : Nowhere) (t : Tree Nowhere) (g : Good t) where
+    node-push : NodeOf (one p (plain Push) t)
+    unfolding pieces enclosed depth brackets begins before aside
+    node-push o at n h d l =
+        let e = one p (plain Push) t in
+        let y = depth-bare Operand e refl in
+        let a : Stand s at (bare e) n = stand-as s (pieces-bare Operand e refl) at n h in
+        let i = cut s (pieces Alone t) (closes ∷ []) (at + 1 + 1) n (a .2 .2) in
+        let r = expr-at t (g .signed-of) (o + 1) (at + 1 + 1) (i .0) 7 (i .1) (omega arith) (i .2 .0) refl refl refl in
+        record {
+          tree = before (start s at) (plain Push) (r .tree);
+          goes =
+              unsigned o at n _ (no s at 18 8 (a .0) refl) (no s at 18 9 (a .0) refl)
+              (node-law level s o at ∙ choose-false (is s at 6) _ _ (no s at 18 6 (a .0) refl) ∙ choose-true (spells push s at) _ _ (spells-by s at (a .0) push (a .1) push)
+              ∙ want-true refused s (at + 1) 6 _ (yes s (at + 1) 6 (a .2 .0)) ∙ opened-false o s (at + 1) _ (lt-leb 1024 o (omega arith)) ∙ next-good _ _ (r .reads)
+              ∙ want-true refused s (i .0) 7 _ (yes s (i .0) 7 (i .2 .0)) ∙ gots refl (i .2 .2));
+          same = one-same p Push t g (r .tree) (r .same);
+        }
+
+    -- a tag in its brackets
+    good-tag : (b : List ℕ) → Good (one p (nodeTag b) t)
+    unfolding brackets
+    good-tag b =
+        let e = one p (nodeTag b) t in
+        let f : NodeOf e = node-closed e refl
+        (λ o at d m h k.
+        let i = at + 1 in
+        let j = stand-at (i + 1 + 1) (pieces Prefixed t) (cut s (pieces Prefixed t) [] (i + 1 + 1) m (h .2 .2) .1) (cut s (pieces Prefixed t) [] (i + 1 + 1) m (h .2 .2) .2) in
+        let r = signed-at t (g .signed-of) (o + 1) (i + 1 + 1) m Prefixed (even-prefixed (formOf t)) j (omega arith) (ends-at m 7 k refl) in
+        alone-expr (o + 1) i m 7 (regroup e) k refl refl (record {
+          tree = inTag level (start s i) (label s i) (r .tree);
+          reads =
+              term-law level s (o + 1) i ∙ choose-true (is s i 19) _ _ (yes s i 19 (h .0)) ∙ want-true refused s (i + 1) 1 _ (yes s (i + 1) 1 (h .2 .0)) ∙ next-good _ _ (r .reads);
+          same =
+              sight-tag level (start s i) (label s i) b (r .tree) (regroup t) (label-is s i b (h .1)) (r .same) ∙ ap (sight level) (sym (regroup-one p (nodeTag b) t));
+        })) in
+        good-by e (λ q. (refl, refl)) f (from-node e refl f)
+
+    good-post : (u : Unary) → unaryForm u ≡ Form.Postfix → unaryCounts u ≡ true → Good (one p (plain u) t)
+    good-post u f c = good-even p u t g false (post-even p u t g f c) (node-post p u t g f c)
+
+    good-unary : (u : Unary) → unaryCounts u ≡ true → Good (one p (plain u) t)
+    unfolding brackets
+    good-unary PosPred c = good-pred p PosPred t g 8 (38 ∷ []) refl refl (omega arith) pos-law
+    good-unary NegPred c = good-pred p NegPred t g 9 (33 ∷ []) refl refl (omega arith) neg-law
+    good-unary Push c = good-even p Push t g false (λ w. refl) node-push
+    good-unary Opt c = good-post Opt refl c
+    good-unary Rep c = good-post Rep refl c
+    good-unary RepOnce c = good-post RepOnce refl c
+    good-unary (RepExact n) c = good-post (RepExact n) refl c
+    good-unary (RepMin n) c = good-post (RepMin n) refl c
+    good-unary (RepMax n) c = good-post (RepMax n) refl c
+    good-unary (RepMinMax n m) c = good-post (RepMinMax n m) refl c
+
+  -- ---- two children
+
+  module _ (p : Nowhere) (q : Join) (x y : Tree Nowhere) (gx : Good x) (gy : Good y) where
+    -- the links of a chain, from x on; f is what follows x
+    links-from : (o at n : ℕ) (f : Tree Span → ℕ → Parsed) (acc : Tree Span → Tree Span) (acc₀ : Tree Nowhere)
+        → ((t : Tree Span) (m : ℕ) → kind s m ≡ joinKind q → f t m ≡ next (Run level s (term o (m + 1))) (onto o q (acc t)))
+        → ((t : Tree Span) → aside t ≡ sight level (regroup x) → aside (acc t) ≡ sight level acc₀)
+        → Stand s at (bare (two p q x y)) n → o + bareDepth (two p q x y) ≤ 1024 → kind s n ≡ 7
+        → Reads (next (Run level s (term o at)) f) (joined q acc₀ (links q y)) n
+    links-from o at n f acc acc₀ hf ha h d k =
+        let c = cut s (pieces (LeftOf q) x) (separator q ++ pieces (RightOf q) y) at n h in
+        let r = term-at x (gx .signed-of) o at (c .0) (LeftOf q) (even-left q (formOf x)) (c .1) (omega arith) (ends-join q (c .0) (c .2 .0)) in
+        let l = gy .chain-of q o (c .0 + 1) n (acc (r .tree)) acc₀ (ha (r .tree) (r .same)) (c .2 .2) (omega arith) k in
+        record { tree = l .tree; reads = next-good _ _ (r .reads) ∙ hf (r .tree) (c .0) (c .2 .0) ∙ l .reads; same = l .same }
+
+    node-two : NodeOf (two p q x y)
+    unfolding brackets
+    node-two = node-closed (two p q x y) refl
+        (λ o at d m h k.
+        let r = links-from (o + 1) (at + 1) m (λ t i. Run level s (chain (o + 1) none t i)) (λ t. t) (regroup x) (λ t i. chain-starts (o + 1) q t i) (λ t e. e) h (omega arith) k in
+        record { tree = r .tree; reads = expr-law level s (o + 1) (at + 1) ∙ r .reads; same = r .same ∙ ap (sight level) (sym (regroup-two p q x y)) })
+
+    -- a right child of the same operator goes on its chain
+    more-links : brackets (RightOf q) (Form.Joined q) ≡ false → (o at n : ℕ) (acc : Tree Span) (acc₀ : Tree Nowhere) → aside acc ≡ sight level acc₀
+        → Stand s at (pieces (RightOf q) (two p q x y)) n → o + depth (RightOf q) (two p q x y) ≤ 1024 → kind s n ≡ 7
+        → Reads (next (Run level s (term o at)) (onto o q acc)) (joined q acc₀ (links q (two p q x y))) n
+    unfolding joined
+    more-links b o at n acc acc₀ w h d k =
+        let e = two p q x y in
+        let z = depth-bare (RightOf q) e b in
+        let r = links-from o at n (onto o q acc) (join q acc) (two tt q acc₀ (regroup x)) (λ t m. onto-more o q acc t m) (λ t v. join-sight q acc t acc₀ (regroup x) w v)
+        (stand-as s (pieces-bare (RightOf q) e b) at n h) (omega arith) k in
+        record { tree = r .tree; reads = r .reads; same = r .same ∙ ap (λ l. sight level (joined q acc₀ l)) (sym (links-same p q x y)) }
+
+  module _ (p : Nowhere) (x y : Tree Nowhere) (gx : Good x) (gy : Good y) where
+    signed-two : (j : Join) → SignedOf (two p j x y)
+    unfolding brackets
+    signed-two j = from-node (two p j x y) refl (node-two p j x y gx gy)
+
+    chain-two : (j : Join) → ChainOf (two p j x y)
+    unfolding brackets
+    chain-two Seq Seq = more-links p Seq x y gx gy refl
+    chain-two Seq Choice = last-link (two p Seq x y) (signed-two Seq) Choice refl refl
+    chain-two Choice Seq = last-link (two p Choice x y) (signed-two Choice) Seq refl refl
+    chain-two Choice Choice = more-links p Choice x y gx gy refl
+
+  -- ---- every tree
+
+  every : (e : Tree Nowhere) → fine e ≡ true → counted e ≡ true → Good e
+  unfolding fine counted
+  every (leaf p a) f c = good-leaf p a f c
+  every (one p (plain u) t) f c = let d = and-true (unaryCounts u) (counted t) c in good-unary p t (every t f (d .1)) u (d .0)
+  every (one p (nodeTag b) t) f c = good-tag p t (every t (and-true (fineWrap (nodeTag b)) (fine t) f .1) c) b
+  every (two p j x y) f c =
+      let a = and-true (fine x) (fine y) f in
+      let b = and-true (counted x) (counted y) c in
+      let gx = every x (a .0) (b .0) in
+      let gy = every y (a .1) (b .1) in
+      record { node-of = node-two p j x y gx gy; signed-of = signed-two p x y gx gy j; chain-of = chain-two p x y gx gy j }
+
+  -- a printed tree before `}` is the expression regrouped
+  pub tree-of : (e : Tree Nowhere) → fine e ≡ true → counted e ≡ true → depth Alone e ≤ 1024 → (at n : ℕ) → Stand s at (pieces Alone e) n → kind s n ≡ 3 → Reads (Run level s (expr 0 at)) (regroup e) n
+  tree-of e f c d at n h k = expr-at e (every e f c .signed-of) 0 at n 3 h (omega arith) k refl refl refl
