@@ -88,6 +88,14 @@ module _ (level : Level) (s : List ℕ) where
     pub reads : m ≡ got tree n
     pub same : aside tree ≡ sight level e
 
+  reads-by : {m m′ : Parsed} {e : Tree Nowhere} {n : ℕ} → m ≡ m′ → Reads m′ e n → Reads m e n
+  reads-by h r = record { tree = r .tree; reads = h ∙ r .reads; same = r .same }
+
+  -- a reading, and another after it
+  reads-next : {m : Parsed} {e : Tree Nowhere} {i n : ℕ} (f : Tree Span → ℕ → Parsed) (e′ : Tree Nowhere) → Reads m e i
+      → ((t : Tree Span) → aside t ≡ sight level e → Reads (f t i) e′ n) → Reads (next m f) e′ n
+  reads-next f e′ r g = reads-by (next-good _ _ (r .reads)) (g (r .tree) (r .same))
+
   -- what a term does after its node t, which ends at n
   abbrev finish : ℕ → Tree Span → ℕ → Parsed
   finish at t n = next (Run level s (posts t n)) (λ v m. got (finished s at v) m)
@@ -172,16 +180,13 @@ module _ (level : Level) (s : List ℕ) where
   }
 
   untagged-term : (o at n : ℕ) (e : Tree Nowhere) → is s at 19 ≡ false → Reads (Run level s (signed o at)) e n → Reads (Run level s (term o at)) e n
-  untagged-term o at n e h r = record { tree = r .tree; reads = term-law level s o at ∙ choose-false (is s at 19) _ _ h ∙ r .reads; same = r .same }
+  untagged-term o at n e h r = reads-by (term-law level s o at ∙ choose-false (is s at 19) _ _ h) r
 
   -- a term alone is an expression
   alone-expr : (o at n k : ℕ) (e : Tree Nowhere) → kind s n ≡ k → eqb k 10 ≡ false → eqb k 11 ≡ false → Reads (Run level s (term o at)) e n → Reads (Run level s (expr o at)) e n
   unfolding closed
-  alone-expr o at n k e h f g r = record {
-    tree = r .tree;
-    reads = expr-law level s o at ∙ next-good _ _ (r .reads) ∙ chain-ends o none (r .tree) n k h f g;
-    same = r .same;
-  }
+  alone-expr o at n k e h f g r =
+      reads-by (expr-law level s o at) (reads-next _ e r (λ t v. record { tree = t; reads = chain-ends o none t n k h f g; same = v }))
 
   ends-at : (n k : ℕ) → kind s n ≡ k → among (2 ∷ 4 ∷ 12 ∷ 13 ∷ 14 ∷ []) k ≡ false → Ends s n
   ends-at n k e h = ap (among (2 ∷ 4 ∷ 12 ∷ 13 ∷ 14 ∷ [])) e ∙ h
@@ -238,12 +243,12 @@ module _ (level : Level) (s : List ℕ) where
       → Reads (next (Run level s (term o at)) (onto o q acc)) (joined q acc₀ (links q e)) n
   unfolding joined
   last-link e f q j b o at n acc acc₀ w h d k =
-      let r = term-at e f o at n (RightOf q) b h d (ends-at n 7 k refl) in
-      record {
-        tree = join q acc (r .tree);
-        reads = next-good _ _ (r .reads) ∙ onto-ends o q acc (r .tree) n k;
-        same = join-sight q acc (r .tree) acc₀ (regroup e) w (r .same) ∙ ap (λ l. sight level (joined q acc₀ l)) (sym (links-last q e j));
-      }
+      reads-next (onto o q acc) (joined q acc₀ (links q e)) (term-at e f o at n (RightOf q) b h d (ends-at n 7 k refl))
+      (λ t v. record {
+        tree = join q acc t;
+        reads = onto-ends o q acc t n k;
+        same = join-sight q acc t acc₀ (regroup e) w v ∙ ap (λ l. sight level (joined q acc₀ l)) (sym (links-last q e j));
+      })
 
   good-by : (e : Tree Nowhere) → ((q : Join) → (isJoin q e ≡ false) × (brackets (RightOf q) (formOf e) ≡ brackets Alone (formOf e))) → NodeOf e → SignedOf e → Good e
   good-by e b f g = record { node-of = f; signed-of = g; chain-of = λ q. last-link e g q (b q .0) (b q .1) }
@@ -331,20 +336,22 @@ module _ (level : Level) (s : List ℕ) where
       unfolding brackets
       post-even w = ap (brackets w) f
 
-      node-post : NodeOf (one p (plain u) t)
+      post-held : (o at m n : ℕ) → Held o at m (regroup t) → postfixAt s m ≡ post u n → Held o at n (regroup (one p (plain u) t))
       unfolding after aside
+      post-held o at m n r e = record {
+        tree = after (end s (n - 1)) u (r .tree);
+        goes = r .goes ∙ finish-by at (posts-on (r .tree) u m n e);
+        same = one-same (r .tree) (r .same);
+      }
+
+      node-post : NodeOf (one p (plain u) t)
       node-post o at n h d l =
           let e = one p (plain u) t in
           let x = posted-bare p u t f in
           let y = depth-bare Operand e (post-even Operand) in
           let v = x .1 in
           let i = cut s (pieces Operand t) (unaryAfter u) at n (stand-as s (pieces-bare Operand e (post-even Operand) ∙ x .0) at n h) in
-          let r = g .node-of o at (i .0) (i .1) (omega arith) (posted-first s u f (i .0) n (i .2)) in
-          record {
-            tree = after (end s (n - 1)) u (r .tree);
-            goes = r .goes ∙ finish-by at (posts-on (r .tree) u (i .0) n (posted s u f c (i .0) n (i .2)));
-            same = one-same (r .tree) (r .same);
-          }
+          post-held o at (i .0) n (g .node-of o at (i .0) (i .1) (omega arith) (posted-first s u f (i .0) n (i .2))) (posted s u f c (i .0) n (i .2))
 
     -- a predicate: its token is of the kind k
     module _ (k : ℕ) (w : List ℕ) (f : unaryForm u ≡ Form.Prefix) (x : bare (one p (plain u) t) ≡ tok k w ∷ (pieces Prefixed t ++ [])) (y : bareDepth (one p (plain u) t) ≡ depth Prefixed t)
@@ -450,9 +457,8 @@ module _ (level : Level) (s : List ℕ) where
         → Reads (next (Run level s (term o at)) f) (joined q acc₀ (links q y)) n
     links-from o at n f acc acc₀ hf ha h d k =
         let c = cut s (pieces (LeftOf q) x) (separator q ++ pieces (RightOf q) y) at n h in
-        let r = term-at x (gx .signed-of) o at (c .0) (LeftOf q) (even-left q (formOf x)) (c .1) (omega arith) (ends-join q (c .0) (c .2 .0)) in
-        let l = gy .chain-of q o (c .0 + 1) n (acc (r .tree)) acc₀ (ha (r .tree) (r .same)) (c .2 .2) (omega arith) k in
-        record { tree = l .tree; reads = next-good _ _ (r .reads) ∙ hf (r .tree) (c .0) (c .2 .0) ∙ l .reads; same = l .same }
+        reads-next f (joined q acc₀ (links q y)) (term-at x (gx .signed-of) o at (c .0) (LeftOf q) (even-left q (formOf x)) (c .1) (omega arith) (ends-join q (c .0) (c .2 .0)))
+        (λ t v. reads-by (hf t (c .0) (c .2 .0)) (gy .chain-of q o (c .0 + 1) n (acc t) acc₀ (ha t v) (c .2 .2) (omega arith) k))
 
     node-two : NodeOf (two p q x y)
     unfolding brackets
