@@ -3,3 +3,4 @@ pub mod Values
 pub mod Leaves
 pub mod Shapes
 pub mod Tree
+pub mod Rules
