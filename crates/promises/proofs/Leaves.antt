@@ -1,12 +1,12 @@
 -- The tokens of a printed postfix and of a printed leaf: what is read there.
 use Prim.Native.Nat.{ℕ, _+_, _≤_}
-use mathlib.Core.Path.{_≡_, refl, sym, ap, _∙_}
+use mathlib.Core.Path.{_≡_, refl, ap, _∙_}
 use mathlib.Core.Bool.{Bool, true, false, not}
 use mathlib.Core.List.{List, [], _∷_, _++_}
 use native.Mathlib.Omega.{arith}
-use lib.Dec.{leb, eqb}
+use lib.Dec.{eqb}
 use borrow.Author.Tests.{leb-true, lt-leb}
-use Rattle.text.specs.Choice.{choose, and, or, among}
+use Rattle.text.specs.Choice.{choose, or, among}
 use Rattle.text.specs.Words.{begins, isWord, wordOf, push}
 use Rattle.text.specs.Utf8.{scalar}
 use Rattle.text.specs.declared.Word.{Word}
@@ -20,13 +20,12 @@ use Rattle.table.specs.Tree.{Span, Atom, text, range, peekSlice, Tree, leaf, as
 use Rattle.table.specs.Check.{isUtf8, isName, fineAtom}
 use Rattle.table.proofs.Branches.{and-true}
 use Rattle.table.proofs.Texts.{name-is}
-use Rattle.printer.specs.declared.Form.{Form}
 use Rattle.printer.specs.declared.Form.the-variants.{Postfix}
 use Rattle.printer.specs.Printing.{unaryForm}
 use Rattle.structure.specs.Tokens.{kind, start, is, word, across, same, spells, peek, pushLiteral}
 use Rattle.structure.specs.Values.{number, isInteger, integer, string, character}
 use Rattle.structure.specs.declared.Refusal.the-variants.{NotAllowed}
-use Rattle.structure.specs.Structure.{Parsed, got, refused, opened, Postfix as Post, post, notPost, noPost, fromNumber, fromComma, postfixAt, sliceTo, slice, pushed, ranged, slices, leafAt}
+use Rattle.structure.specs.Structure.{got, refused, post, notPost, noPost, fromNumber, fromComma, postfixAt, sliceTo, slice, pushed, ranged, slices, leafAt}
 use Rattle.structure.proofs.Steps.{choose-true, choose-false, and-first, and-second, and-both, or-neither, spells-kind, want-true, opened-false}
 use Rattle.promises.specs.Pieces.{tok, endPieces, atomPieces, unaryAfter, Stand}
 use Rattle.promises.specs.Round.{small, positive, unaryCounts, endCounts, atomCounts, atomDepth}
@@ -64,7 +63,6 @@ module _ (s : List ℕ) where
 
   from-number : (at : ℕ) → kind s at ≡ 2 → kind s (at + 1) ≡ 20 → postfixAt s at ≡ fromNumber s (at + 1)
   from-number at k j = opens at k ∙ choose-true (is s (at + 1) 20) _ _ (yes s (at + 1) 20 j)
-
 
   pub posted : (u : Unary) → unaryForm u ≡ Postfix → unaryCounts u ≡ true → (at n : ℕ) → Stand s at (unaryAfter u) n → postfixAt s at ≡ post u n
   unfolding postfixAt fromNumber fromComma
@@ -243,7 +241,7 @@ module _ (s : List ℕ) where
       across s at i,
       Open,
       choose-false (isInteger s i) _ _ (or-neither (is s i 20) (is s i 21) (no s i 5 20 (h .0) refl) (no s i 5 21 (h .0) refl))
-      ∙ want-true refused s i 5 _ (yes s i 5 (h .0)) ∙ gots refl (h .2),
+          ∙ want-true refused s i 5 _ (yes s i 5 (h .0)) ∙ gots refl (h .2),
       refl,
     )
     slice-end x i (At m) c h =

@@ -1,13 +1,13 @@
 -- The tokens of printed rules read back to the rules regrouped, at either level.
-use Prim.Native.Nat.{ℕ, zero, suc, _+_, _≤_, _<_, max}
-use mathlib.Core.Path.{_≡_, refl, sym, ap, _∙_}
-use mathlib.Core.Bool.{Bool, true, false, not}
+use Prim.Native.Nat.{ℕ, zero, suc, _+_, _≤_, _<_}
+use mathlib.Core.Path.{_≡_, refl, ap, _∙_}
+use mathlib.Core.Bool.{true, false, not}
 use mathlib.Core.List.{List, [], _∷_, _++_, map}
 use native.Mathlib.Omega.{arith}
 use lib.Dec.{leb, eqb}
 use lib.ListN.{length}
 use borrow.Author.Tests.{leb-true, le-leb, lt-leb}
-use Rattle.text.specs.Choice.{choose, and}
+use Rattle.text.specs.Choice.{choose}
 use Rattle.text.specs.Words.{begins, push}
 use Rattle.table.specs.Tree.{Span, Tree, Rule, Nowhere, aside, ruleBy, asideRule}
 use Rattle.table.specs.Check.{fine, fineRule, fineRules}
@@ -18,7 +18,7 @@ use Rattle.printer.specs.declared.Place.the-variants.{Alone}
 use Rattle.structure.specs.declared.Level.{Level}
 use Rattle.structure.specs.declared.Level.the-variants.{Tagged, Plain}
 use Rattle.structure.specs.Tokens.{toks, kind, is, word, across, spells}
-use Rattle.structure.specs.Structure.{Parsed, got, expr, Run, isName, silent, markAt, pastMark, pastBar, Ruled, rules, unruled, withRule, Ruling, ruling, noRule, ruleOf, ruleAt, rulesIn, docsIn, docs, grammar}
+use Rattle.structure.specs.Structure.{Parsed, got, expr, Run, isName, silent, markAt, pastMark, pastBar, Ruled, rules, withRule, Ruling, ruling, noRule, ruleOf, ruleAt, rulesIn, docsIn, docs, grammar}
 use Rattle.structure.proofs.Steps.{choose-true, choose-false, inside-is, spells-kind, want-true}
 use Rattle.structure.proofs.Rules.{rule-then}
 use Rattle.promises.specs.Pieces.{Piece, gap, equals, lbrace, rbrace, space, pieces, markPieces, rulePieces, rulesPieces, Stand}
@@ -26,7 +26,7 @@ use Rattle.promises.specs.Round.{counted, countedRules, depth, depths, s
 use Rattle.promises.proofs.Values.{yes, no, spells-by}
 use Rattle.promises.proofs.Leaves.{name-unpushed}
 use Rattle.promises.proofs.Shapes.{cut, onward, begins-tree}
-use Rattle.promises.proofs.Tree.{sight, Reads, tree-of}
+use Rattle.promises.proofs.Tree.{sight, tree-of}
 
 -- what a level sees of a rule
 abbrev seenRule : Level → Rule Nowhere → Rule Nowhere

@@ -1,20 +1,19 @@
 -- The descent on the tokens of a printed tree comes to the tree regrouped, at either level.
-use Prim.Native.Nat.{ℕ, _+_, _-_, _≤_, _<_, max}
+use Prim.Native.Nat.{ℕ, _+_, _-_, _≤_, _<_}
 use mathlib.Core.Path.{_≡_, refl, sym, ap, _∙_, subst}
 use mathlib.Core.Bool.{Bool, true, false}
 use mathlib.Core.Option.{Option, none, some}
 use mathlib.Core.List.{List, [], _∷_, _++_}
 use native.Mathlib.Omega.{arith}
-use lib.Dec.{leb, eqb}
+use lib.Dec.{eqb}
 use borrow.Author.Tests.{lt-leb}
-use Rattle.text.specs.Choice.{choose, and, among}
+use Rattle.text.specs.Choice.{choose, among}
 use Rattle.text.specs.Words.{begins, push}
 use Rattle.table.specs.declared.Join.{Join}
 use Rattle.table.specs.declared.Join.the-variants.{Seq, Choice}
 use Rattle.table.specs.declared.Unary.{Unary}
 use Rattle.table.specs.declared.Unary.the-variants.{PosPred, NegPred, Opt, Rep, RepOnce, RepExact, RepMin, RepMax, RepMinMax, Push}
-use Rattle.table.specs.declared.Sort.{Sort}
-use Rattle.table.specs.Tree.{Span, Atom, text, range, peekSlice, Wrap, plain, nodeTag, Tree, leaf, one, two, Nowhere, aside, placeOf, placed}
+use Rattle.table.specs.Tree.{Span, Atom, text, range, peekSlice, plain, nodeTag, Tree, leaf, one, two, Nowhere, aside, placeOf, placed}
 use Rattle.table.specs.Check.{fineAtom, fineWrap, fine}
 use Rattle.table.specs.Regroup.{isJoin, joined, regroup, links, untagged}
 use Rattle.table.proofs.Branches.{and-true}
@@ -23,19 +22,19 @@ use Rattle.printer.specs.declared.Place.{Place}
 use Rattle.printer.specs.declared.Place.the-variants.{Alone, Prefixed, Operand, LeftOf, RightOf}
 use Rattle.printer.specs.declared.Form.{Form}
 use Rattle.printer.specs.declared.Form.the-variants as Form
-use Rattle.printer.specs.Printing.{brackets, atomForm, unaryForm, wrapForm, under, joinByte}
+use Rattle.printer.specs.Printing.{brackets, atomForm, unaryForm}
 use Rattle.structure.specs.declared.Level.{Level}
 use Rattle.structure.specs.declared.Level.the-variants.{Tagged, Plain}
 use Rattle.structure.specs.Tokens.{kind, start, end, is, label, spells}
-use Rattle.structure.specs.Structure.{Parsed, got, refused, next, join, closed, endsAt, startsAt, before, after, inTag, Postfix, post, noPost, postfixAt, leafAt, postsBy, expr, term, signed, node, chain, posts, Run}
+use Rattle.structure.specs.Structure.{Parsed, got, refused, next, join, closed, endsAt, startsAt, before, after, inTag, Postfix, post, noPost, postfixAt, postsBy, expr, term, signed, node, chain, posts, Run}
 use Rattle.structure.proofs.Steps.{choose-true, choose-false, next-good, want-true, opened-false}
 use Rattle.structure.proofs.Grammar.{expr-law, chain-law, term-law, signed-law, node-law, posts-law}
 use Rattle.structure.proofs.Cycle.{finished}
-use Rattle.promises.specs.Pieces.{Piece, gap, tok, opens, closes, equals, space, enclosed, atomPieces, unaryAfter, joinKind, separator, pieces, Stand}
-use Rattle.promises.specs.Round.{unaryCounts, wrapCounts, atomCounts, counted, one?, atomDepth, unaryDepth, wrapDepth, depth}
+use Rattle.promises.specs.Pieces.{Piece, tok, opens, closes, enclosed, atomPieces, unaryAfter, joinKind, separator, pieces, Stand}
+use Rattle.promises.specs.Round.{unaryCounts, atomCounts, counted, atomDepth, depth}
 use Rattle.promises.proofs.Values.{yes, no, spells-by, label-is}
-use Rattle.promises.proofs.Leaves.{posted, posted-first, Ends, unposted, unsliced, Leafed, leaf-of}
-use Rattle.promises.proofs.Shapes.{formOf, bare, bareDepth, pieces-bare, pieces-closed, depth-bare, depth-closed, pieces-same, depth-same, posted-bare, cut, stand-as, Closed, begins-atom, begins-tree}
+use Rattle.promises.proofs.Leaves.{posted, posted-first, Ends, unposted, unsliced, leaf-of}
+use Rattle.promises.proofs.Shapes.{formOf, bare, bareDepth, pieces-bare, pieces-closed, depth-bare, depth-closed, pieces-same, depth-same, posted-bare, cut, stand-as, begins-atom, begins-tree}
 use Rattle.promises.proofs.Shapes as Shapes
 
 -- ---- what a level sees of a tree

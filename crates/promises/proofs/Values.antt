@@ -1,5 +1,5 @@
 -- What the tokens of printed values are worth: words, tags, numbers, strings, characters.
-use Prim.Native.Nat.{ℕ, zero, suc, _+_, _-_, _≤_, _<_}
+use Prim.Native.Nat.{ℕ, zero, suc, _+_, _-_, _≤_}
 use mathlib.Core.Path.{_≡_, refl, sym, ap, _∙_}
 use mathlib.Core.Bool.{Bool, true, false}
 use mathlib.Core.List.{List, [], _∷_, _++_, append-assoc, append-nil}
@@ -137,9 +137,10 @@ module _ (s : List ℕ) (i n : ℕ) (h : n ≤ 4294967295) where
   unfolding integer
   integer-by true l k e =
       let f = no s i 20 21 k refl in
-      let j = ltb-true n 0x8000_0000 l in
-      (ap (λ (b : Bool). or b (is s i 21)) (yes s i 20 k),
-        choose-false (is s i 21) _ _ f ∙ ap worth (choose-false (is s i 21) _ _ f ∙ ap (decimalOf 2147483647) e ∙ decimal-back 2147483647 n (omega arith)))
+      let j = ltb-true n 0x8000_0000 l in (
+        ap (λ (b : Bool). or b (is s i 21)) (yes s i 20 k),
+        choose-false (is s i 21) _ _ f ∙ ap worth (choose-false (is s i 21) _ _ f ∙ ap (decimalOf 2147483647) e ∙ decimal-back 2147483647 n (omega arith)),
+      )
   integer-by false l k e =
       let m : ℕ = 0x1_0000_0000 - n in
       let f = yes s i 21 k in
