@@ -1,4 +1,9 @@
 -- The promises: theorems over the definitions of all layers.
+pub mod Values
+pub mod Leaves
+pub mod Shapes
+pub mod Tree
+pub mod Rules
 pub mod Twelve
 pub mod Unique
 pub mod Wrong
