@@ -1,5 +1,6 @@
 -- The promises: theorems over the definitions of all layers.
 pub mod Values
+pub mod Narrow
 pub mod Leaves
 pub mod Shapes
 pub mod Tree

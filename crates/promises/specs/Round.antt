@@ -4,7 +4,7 @@ use mathlib.Core.Path.{_≡_}
 use mathlib.Core.Bool.{Bool, true, false, not}
 use mathlib.Core.List.{List, [], _∷_, _++_, map}
 use lib.Dec.{leb, eqb}
-use lib.ListN.{length}
+use lib.ListN.{length, getD}
 use Rattle.text.specs.Choice.{choose, and, or}
 use Rattle.table.specs.declared.Unary.{Unary}
 use Rattle.table.specs.declared.Unary.the-variants.{PosPred, NegPred, Opt, Rep, RepOnce, RepExact, RepMin, RepMax, RepMinMax, Push}
@@ -21,13 +21,48 @@ use Rattle.printer.specs.Printing.{brackets, atomForm, wrapForm, under}
 use Rattle.structure.specs.declared.Level.{Level}
 use Rattle.structure.specs.declared.Level.the-variants.{Tagged, Plain}
 
--- ---- numbers that a table of 32 bits holds, and that the reader takes: no zero exact count or maximum
+-- ---- numbers
 
+-- a number of 32 bits
 abbrev pub small : ℕ → Bool
 small n = leb n 4294967295
 
+abbrev pub isZero : ℕ → Bool
+isZero n = eqb n 0
+
+-- no zero exact count or zero maximum
+abbrev pub unaryNonzero : Unary → Bool
+unaryNonzero PosPred = true
+unaryNonzero NegPred = true
+unaryNonzero Opt = true
+unaryNonzero Rep = true
+unaryNonzero RepOnce = true
+unaryNonzero (RepExact n) = not (isZero n)
+unaryNonzero (RepMin n) = true
+unaryNonzero (RepMax n) = not (isZero n)
+unaryNonzero (RepMinMax n m) = not (isZero m)
+unaryNonzero Push = true
+
+abbrev pub wrapNonzero : Wrap → Bool
+wrapNonzero (plain u) = unaryNonzero u
+wrapNonzero (nodeTag b) = true
+
+unfoldable pub nonzero : {P : Type 0} → Tree P → Bool
+nonzero (leaf s a) = true
+nonzero (one s o t) = and (wrapNonzero o) (nonzero t)
+nonzero (two s j a b) = and (nonzero a) (nonzero b)
+
+unfoldable pub nonzeroRules : {P : Type 0} → List (Rule P) → Bool
+nonzeroRules [] = true
+nonzeroRules (r ∷ rs) = and (nonzero (r .tree)) (nonzeroRules rs)
+
+-- every number of a table is of 32 bits
+pub record Narrow (ns : List ℕ) : Type 0 where
+  pub at : (k : ℕ) → getD ns k 0 ≤ 4294967295
+
+-- no zeros, and each number is of 32 bits
 abbrev pub positive : ℕ → Bool
-positive n = and (small n) (not (eqb n 0))
+positive n = and (small n) (not (isZero n))
 
 abbrev pub unaryCounts : Unary → Bool
 unaryCounts PosPred = true
