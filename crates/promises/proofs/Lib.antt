@@ -4,3 +4,4 @@ pub mod Leaves
 pub mod Shapes
 pub mod Tree
 pub mod Rules
+pub mod Spread
