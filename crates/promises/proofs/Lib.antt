@@ -5,6 +5,9 @@ pub mod Leaves
 pub mod Shapes
 pub mod Tree
 pub mod Rules
+pub mod Spread
+pub mod Asides
+pub mod Round
 pub mod Twelve
 pub mod Unique
 pub mod Wrong

@@ -12,7 +12,14 @@ use Rattle.table.specs.declared.Sort.{Sort}
 use Rattle.table.specs.declared.Sort.the-variants.{Str, Insens, Ident, PushLiteral}
 use Rattle.table.specs.declared.End.{End}
 use Rattle.table.specs.declared.End.the-variants.{Open, At}
-use Rattle.table.specs.Tree.{Atom, text, range, peekSlice, Wrap, plain, nodeTag, Tree, leaf, one, two, Rule, Nowhere}
+use Rattle.table.specs.Tree.{Atom, text, range, peekSlice, Wrap, plain, nodeTag, Tree, leaf, one, two, Rule, Nowhere, asideRule, counts, rulesStored}
+use Rattle.table.specs.Record.{rulesIn, rulesOf}
+use Rattle.table.specs.Check.{maxNodes, maxRules, tables}
+use Rattle.table.specs.declared.TableCheck.the-variants as Table
+use Rattle.printer.specs.Answers.{tableText}
+use Rattle.reader.specs.declared.Reading.the-variants as Reading
+use Rattle.reader.specs.Read as Read
+use Rattle.reader.specs.Read.{readOf}
 use Rattle.table.specs.Regroup.{regroupRules, untaggedRules}
 use Rattle.printer.specs.declared.Place.{Place}
 use Rattle.printer.specs.declared.Place.the-variants.{Alone, LeftOf, RightOf}
@@ -140,9 +147,48 @@ unfoldable pub depths : {P : Type 0} → List (Rule P) → ℕ
 depths [] = 0
 depths (r ∷ rs) = max (depth Alone (r .tree)) (depths rs)
 
+-- ---- PUSH_LITERAL, which plain refuses
+
+abbrev pub isPushing : Atom → Bool
+isPushing (text Str b) = false
+isPushing (text Insens b) = false
+isPushing (text Ident b) = false
+isPushing (text PushLiteral b) = true
+isPushing (range x y) = false
+isPushing (peekSlice x e) = false
+
+-- some leaf of a tree is one, and some leaf of rules
+unfoldable pub pushing : {P : Type 0} → Tree P → Bool
+pushing (leaf s a) = isPushing a
+pushing (one s o t) = pushing t
+pushing (two s j a b) = or (pushing a) (pushing b)
+
+unfoldable pub holdsPushLiteral : {P : Type 0} → List (Rule P) → Bool
+holdsPushLiteral [] = false
+holdsPushLiteral (r ∷ rs) = or (pushing (r .tree)) (holdsPushLiteral rs)
+
 -- ---- what comes back
 
 -- the rules regrouped once; plain then drops their tags
 abbrev pub seen : Level → List (Rule Nowhere) → List (Rule Nowhere)
 seen Tagged us = regroupRules us
 seen Plain us = untaggedRules (regroupRules us)
+
+-- tables that the printer accepts, holding a rule, no zero exact count or maximum, whose printed text is within the
+-- reader's limits
+pub record Printable (ns rs st : List ℕ) : Type 0 where
+  pub good : tables ns rs st ≡ Table.Good
+  pub narrow : Narrow ns
+  pub some : 1 ≤ rulesIn rs
+  pub nonzeros : nonzeroRules (rulesOf ns rs st) ≡ true
+  pub short : length (tableText ns rs st) ≤ 65536
+  pub shallow : depths (rulesOf ns rs st) ≤ 1024
+
+-- a text is read as these rules, spans aside, given room for them and no more; the limits leave room, and so does a
+-- store as long as the text
+pub record ReadAs (level : Level) (s : List ℕ) (us : List (Rule Nowhere)) : Type 0 where
+  pub rules : map asideRule (Read.rulesOf level s) ≡ us
+  pub answer : (n r b : ℕ) → counts us ≤ n → length us ≤ r → length (rulesStored us) ≤ b → readOf level s n r b ≡ Reading.Read (counts us) (length us) (length (rulesStored us))
+  pub few-nodes : counts us ≤ maxNodes
+  pub few-rules : length us ≤ maxRules
+  pub short : length (rulesStored us) ≤ length s
