@@ -1,2 +1,8 @@
 -- The theorems, and the laws on the way to them.
 pub mod Spelled
+pub mod Parts
+pub mod Shapes
+pub mod Laid
+pub mod Lays
+pub mod Pushes
+pub mod Text

@@ -3,9 +3,9 @@ use Prim.Native.Nat.{ℕ, suc, _+_}
 use mathlib.Core.Path.{_≡_}
 use mathlib.Core.Bool.{Bool, true, false}
 use mathlib.Core.List.{List, [], _∷_, _++_}
-use lib.Dec.{ltb}
-use lib.ListN.{getD}
-use Rattle.text.specs.Choice.{choose}
+use lib.Dec.{ltb, eqb}
+use lib.ListN.{length, getD}
+use Rattle.text.specs.Choice.{choose, and}
 use Rattle.text.specs.Digits.{decimal}
 use Rattle.text.specs.Words.{push}
 use Rattle.literal.specs.Literals.{literal}
@@ -22,7 +22,7 @@ use Rattle.printer.specs.declared.Place.{Place}
 use Rattle.printer.specs.declared.Place.the-variants.{Alone, LeftOf, RightOf}
 use Rattle.printer.specs.declared.Form.the-variants.{Joined}
 use Rattle.printer.specs.Printing.{brackets, character, signed, atomForm, wrapForm, under, joinByte, markText}
-use Rattle.structure.specs.Tokens.{kind, word, peek, pushLiteral}
+use Rattle.structure.specs.Tokens.{kind, word, same, peek, pushLiteral}
 
 -- a blank byte, or a token with its kind and its bytes
 pub data Piece : Type 0 where
@@ -162,3 +162,17 @@ abbrev pub Stand : List ℕ → ℕ → List Piece → ℕ → Type 0
 Stand s i [] n = i ≡ n
 Stand s i (gap b ∷ ps) n = Stand s i ps n
 Stand s i (tok k w ∷ ps) n = (kind s i ≡ k) × (word s i ≡ w) × Stand s (i + 1) ps n
+
+-- the word PUSH_LITERAL
+abbrev pub isPushLiteral : Piece → Bool
+isPushLiteral (gap b) = false
+isPushLiteral (tok k w) = and (eqb k 18) (same pushLiteral w)
+
+abbrev pub width : Piece → ℕ
+width (gap b) = 1
+width (tok k w) = length w
+
+-- how many bytes stand before the first such word
+unfoldable pub firstPushLiteral : List Piece → ℕ
+firstPushLiteral [] = 0
+firstPushLiteral (p ∷ ps) = choose (isPushLiteral p) (λ u. 0) (λ u. width p + firstPushLiteral ps)

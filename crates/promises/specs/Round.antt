@@ -105,6 +105,26 @@ unfoldable pub depths : {P : Type 0} → List (Rule P) → ℕ
 depths [] = 0
 depths (r ∷ rs) = max (depth Alone (r .tree)) (depths rs)
 
+-- ---- PUSH_LITERAL, which plain refuses
+
+abbrev pub isPushing : Atom → Bool
+isPushing (text Str b) = false
+isPushing (text Insens b) = false
+isPushing (text Ident b) = false
+isPushing (text PushLiteral b) = true
+isPushing (range x y) = false
+isPushing (peekSlice x e) = false
+
+-- some leaf of a tree is one, and some leaf of rules
+unfoldable pub pushing : {P : Type 0} → Tree P → Bool
+pushing (leaf s a) = isPushing a
+pushing (one s o t) = pushing t
+pushing (two s j a b) = or (pushing a) (pushing b)
+
+unfoldable pub holdsPushLiteral : {P : Type 0} → List (Rule P) → Bool
+holdsPushLiteral [] = false
+holdsPushLiteral (r ∷ rs) = or (pushing (r .tree)) (holdsPushLiteral rs)
+
 -- ---- what comes back
 
 -- the rules regrouped once; plain then drops their tags
