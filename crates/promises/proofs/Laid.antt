@@ -25,7 +25,7 @@ use Rattle.structure.specs.Tokens.{toks, tokenOf, kind, start, end, part, word}
 use Rattle.structure.specs.Values.{faultAt, orFault, faultsFrom, faults}
 use Rattle.structure.proofs.Arrays.{word-is}
 use Rattle.promises.specs.Pieces.{Piece, gap, tok, spelled, Stand, isPushLiteral, width, firstPushLiteral}
-use Rattle.promises.proofs.Shapes.{Shape, takes, over-shape, pushFault, fault-shape}
+use Rattle.promises.proofs.Tokens.{Shape, takes, over-shape, pushFault, fault-shape}
 
 -- the kind of the first token
 abbrev pub kindNext : List Piece → ℕ

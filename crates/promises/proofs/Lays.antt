@@ -32,8 +32,8 @@ use Rattle.printer.specs.declared.Form.the-variants.{Joined}
 use Rattle.printer.specs.Printing.{brackets, signed, atomForm, wrapForm, under}
 use Rattle.promises.specs.Pieces.{Piece, gap, tok, spelled, equals, lbrace, rbrace, opens, closes, comma, space, dots, number, signedKind, integer, endPieces, opening, closing, enclosed, sortPieces, atomPieces, unaryBefore, unaryAfter, before, after, separator, pieces, markPieces, rulePieces, rulesPieces}
 use Rattle.promises.specs.Round.{small, positive, unaryCounts, wrapCounts, endCounts, atomCounts, counted, countedRules}
-use Rattle.promises.proofs.Shapes.{Edge, Shape, name, pushes, pushesLiteral, tag, count, index, minus, string, insens, char}
-use Rattle.promises.proofs.Shapes as Shapes
+use Rattle.promises.proofs.Tokens.{Edge, Shape, name, pushes, pushesLiteral, tag, count, index, minus, string, insens, char}
+use Rattle.promises.proofs.Tokens as Tokens
 use Rattle.promises.proofs.Laid.{kindNext, Laid}
 
 -- ---- pieces before others
@@ -71,7 +71,7 @@ shut-then x y a h g ps k b = rw (append-assoc x y ps) (a (y ++ ps) (h ps k) (g p
 
 -- a one-byte token
 sign : {b n k c : ℕ} {ys : List ℕ} → classOf c ≡ 4 → oneKind c ≡ k → leb k 17 ≡ true → ltb c 128 ≡ true → Shape b k (c ∷ []) n ys
-sign {k = k} {c = c} h e l a = Shapes.one h e (leb-true k 17 l) (ltb-true c 128 a)
+sign {k = k} {c = c} h e l a = Tokens.one h e (leb-true k 17 l) (ltb-true c 128 a)
 
 spaced : (b : ℕ) (ps : List Piece) → Laid b ps → Laid b (space ∷ ps)
 unfolding classOf
@@ -130,10 +130,10 @@ loose-end (At n) c ps h = (shape-integer 22 n _ _ (inr refl) c refl, (sign refl 
 safe-atom : (a : Atom) → fineAtom a ≡ true → atomCounts a ≡ true → Safe (atomPieces a)
 unfolding spelled classOf oneKind isName wordOf isWord begins all
 safe-atom (text k t) f c ps h e b = safe-sort k t f ps h e b
-safe-atom (range x y) f c ps h e b = let g = and-true (scalar x) (scalar y) f in (char x refl (g .0), (Shapes.dots, (char y refl (g .1), h 25)))
+safe-atom (range x y) f c ps h e b = let g = and-true (scalar x) (scalar y) f in (char x refl (g .0), (Tokens.dots, (char y refl (g .1), h 25)))
 safe-atom (peekSlice x y) f c ps h e b =
     let g = and-true (small x) (endCounts y) c in
-    (name refl refl, (sign refl refl refl refl, (shape-integer 4 x _ _ (inl refl) (g .0) refl, (Shapes.dots, loose-end y (g .1) ps h))))
+    (name refl refl, (sign refl refl refl refl, (shape-integer 4 x _ _ (inl refl) (g .0) refl, (Tokens.dots, loose-end y (g .1) ps h))))
 
 -- ---- what stands over one child, and between two
 

@@ -24,7 +24,7 @@ use Rattle.printer.specs.Printing.{brackets, signed, atomForm, wrapForm, under}
 use Rattle.structure.specs.Tokens.{same, pushLiteral}
 use Rattle.promises.specs.Pieces.{Piece, gap, tok, lbrace, rbrace, closes, space, signedKind, enclosed, atomPieces, before, after, separator, pieces, markPieces, rulePieces, rulesPieces, isPushLiteral}
 use Rattle.promises.specs.Round.{isPushing, pushing, holdsPushLiteral}
-use Rattle.promises.proofs.Shapes.{name-is}
+use Rattle.promises.proofs.Tokens.{name-is}
 use Rattle.promises.proofs.Laid.{pushesIn}
 
 or-false : (b : Bool) → or b false ≡ b
