@@ -54,6 +54,9 @@ positive-le n e = small-le n (and-true (small n) (not (eqb n 0)) e .0)
 posts-is : {u v : Unary} {m n : ℕ} → u ≡ v → m ≡ n → post u m ≡ post v n
 posts-is {u} {v} {m} {n} p q = ap (post u) q ∙ ap (λ (x : Unary). post x n) p
 
+pub gots : {t u : Tree Span} {m n : ℕ} → t ≡ u → m ≡ n → got t m ≡ got u n
+gots {t} {u} {m} {n} p q = ap (got t) q ∙ ap (λ (x : Tree Span). got x n) p
+
 module _ (s : List ℕ) where
   opens : (at : ℕ) → kind s at ≡ 2 → postfixAt s at ≡ choose (is s (at + 1) 20) (λ u. fromNumber s (at + 1)) (λ u. fromComma s (at + 1))
   unfolding postfixAt
@@ -132,9 +135,6 @@ module _ (s : List ℕ) where
   unsliced n e = or-both (eqb (kind s n) 4) _ (or-both (eqb (kind s n) 2) _ e .1) .0
 
   -- ---- leaves
-
-  gots : {t u : Tree Span} {m n : ℕ} → t ≡ u → m ≡ n → got t m ≡ got u n
-  gots {t} {u} {m} {n} p q = ap (got t) q ∙ ap (λ (x : Tree Span). got x n) p
 
   -- a leaf that is read from an index to another
   pub record Leafed (o at n : ℕ) (a : Atom) : Type 0 where

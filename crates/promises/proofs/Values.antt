@@ -7,7 +7,7 @@ use native.Mathlib.Omega.{arith}
 use lib.Dec.{eqb, ltb}
 use lib.ListN.{length, take, drop, length-append, take-append-drop}
 use lib.Seq.{take-at, drop-at, drop-drop}
-use borrow.Author.Tests.{eq-eqb, ltb-true, ltb-false}
+use borrow.Author.Tests.{ltb-true, ltb-false}
 use Rattle.text.specs.Choice.{choose, and, or}
 use Rattle.text.specs.Words.{begins}
 use Rattle.text.specs.Digits.{decimal, decimalOf}
@@ -24,14 +24,13 @@ use Rattle.table.proofs.Texts.{utf8-is}
 use Rattle.printer.specs.Printing as Printing
 use Rattle.structure.specs.Tokens.{kind, start, end, is, part, within, word, label, same, spells}
 use Rattle.structure.specs.Values.{worth, number, negated, isInteger, integerOf, integer, opening, inside, string, rawChar, charBy, character}
-use Rattle.structure.proofs.Steps.{choose-true, choose-false}
+use Rattle.structure.proofs.Steps.{choose-true, choose-false, and-second, sees}
 use Rattle.structure.proofs.Arrays.{low, part-length}
 use Rattle.promises.specs.Pieces.{signedKind}
 
 -- a token of a kind, and of no other
 pub yes : (s : List ℕ) (i k : ℕ) → kind s i ≡ k → is s i k ≡ true
-unfolding is
-yes s i k e = eq-eqb (kind s i) k e
+yes s i k e = sees s i (kind s i) k refl e
 
 pub no : (s : List ℕ) (i k j : ℕ) → kind s i ≡ k → eqb k j ≡ false → is s i j ≡ false
 unfolding is
@@ -49,10 +48,6 @@ begins-more (p ∷ ps) q (x ∷ xs) e = go (eqb x p) (λ f. begins-more ps q xs 
     go true g f = g f
     go false g f = refl
 
-and-last : (b c : Bool) → c ≡ false → and b c ≡ false
-and-last true c e = e
-and-last false c e = refl
-
 module _ (s : List ℕ) (i : ℕ) (k : kind s i ≡ 18) (w : List ℕ) (e : word s i ≡ w) where
   -- a word against a spelling
   pub spells-by : (p : List ℕ) → spells p s i ≡ same p w
@@ -61,7 +56,7 @@ module _ (s : List ℕ) (i : ℕ) (k : kind s i ≡ 18) (w : List ℕ) (e : word
 
   -- what doesn't begin p is spelled neither p nor with more
   pub spells-none : (p q : List ℕ) → begins p w ≡ false → spells (p ++ q) s i ≡ false
-  spells-none p q h = spells-by (p ++ q) ∙ and-last (eqb (length w) (length (p ++ q))) (begins (p ++ q) w) (begins-more p q w h)
+  spells-none p q h = spells-by (p ++ q) ∙ and-second (eqb (length w) (length (p ++ q))) (begins (p ++ q) w) (begins-more p q w h)
 
 -- ---- a part of a token
 
