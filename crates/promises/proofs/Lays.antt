@@ -1,6 +1,6 @@
 -- Printed pieces are tokens and blanks where they stand.
-use Prim.Native.Nat.{ℕ, zero, suc, _+_, _-_, _≤_, _<_}
-use mathlib.Core.Path.{_≡_, refl, sym, ap, _∙_}
+use Prim.Native.Nat.{ℕ, zero, suc, _-_}
+use mathlib.Core.Path.{_≡_, refl}
 use mathlib.Core.Bool.{Bool, true, false, not}
 use mathlib.Core.List.{List, [], _∷_, _++_, append-assoc, append-nil}
 use mathlib.Core.Logic.{_⊎_, inl, inr}
@@ -10,31 +10,30 @@ use borrow.Author.Tests.{leb-true, ltb-true, ltb-false, eqb-false, not-true}
 use Rattle.text.specs.Choice.{choose, and, all}
 use Rattle.text.specs.Classes.{classOf}
 use Rattle.text.specs.Words.{isWord, begins, wordOf}
-use Rattle.text.specs.Utf8.{scalar, firstBad}
+use Rattle.text.specs.Utf8.{scalar}
 use Rattle.text.specs.Digits.{decimal}
-use Rattle.text.specs.declared.Check.{Check}
-use Rattle.text.specs.declared.Check.the-variants.{Good, Bad}
 use Rattle.token.specs.Tokens.{oneKind}
 use Rattle.table.specs.declared.Join.{Join}
 use Rattle.table.specs.declared.Join.the-variants.{Seq, Choice}
-use Rattle.table.specs.declared.Unary.{Unary}
 use Rattle.table.specs.declared.Unary.the-variants.{PosPred, NegPred, Opt, Rep, RepOnce, RepExact, RepMin, RepMax, RepMinMax, Push}
 use Rattle.table.specs.declared.Sort.{Sort}
 use Rattle.table.specs.declared.Sort.the-variants.{Str, Insens, Ident, PushLiteral}
 use Rattle.table.specs.declared.End.{End}
 use Rattle.table.specs.declared.End.the-variants.{Open, At}
 use Rattle.table.specs.Tree.{Atom, text, range, peekSlice, Wrap, plain, nodeTag, Tree, leaf, one, two, Rule}
-use Rattle.table.specs.Check.{isGood, isUtf8, isName, isLabel, fineText, fineAtom, fineWrap, fine, fineRule, fineRules}
+use Rattle.table.specs.Check.{isName, fineText, fineAtom, fineWrap, fine, fineRule, fineRules}
 use Rattle.table.proofs.Branches.{and-true}
+use Rattle.table.proofs.Texts.{utf8-is}
 use Rattle.printer.specs.declared.Place.{Place}
 use Rattle.printer.specs.declared.Place.the-variants.{Alone, LeftOf, RightOf}
 use Rattle.printer.specs.declared.Form.the-variants.{Joined}
 use Rattle.printer.specs.Printing.{brackets, signed, atomForm, wrapForm, under}
-use Rattle.promises.specs.Pieces.{Piece, gap, tok, spelled, equals, lbrace, rbrace, opens, closes, comma, space, dots, number, signedKind, integer, endPieces, opening, closing, enclosed, sortPieces, atomPieces, unaryBefore, unaryAfter, before, after, separator, pieces, markPieces, rulePieces, rulesPieces}
-use Rattle.promises.specs.Round.{small, positive, unaryCounts, wrapCounts, endCounts, atomCounts, counted, countedRules}
+use Rattle.promises.specs.Pieces.{Piece, gap, tok, spelled, equals, lbrace, rbrace, closes, space, dots, number, signedKind, endPieces, enclosed, sortPieces, atomPieces, before, after, separator, pieces, markPieces, rulePieces, rulesPieces}
+use Rattle.promises.specs.Round.{small, positive, wrapCounts, endCounts, atomCounts, counted, countedRules}
+use Rattle.promises.proofs.Leaves.{small-le}
 use Rattle.promises.proofs.Tokens.{Edge, Shape, name, pushes, pushesLiteral, tag, count, index, minus, string, insens, char}
 use Rattle.promises.proofs.Tokens as Tokens
-use Rattle.promises.proofs.Laid.{kindNext, Laid}
+use Rattle.promises.proofs.Laid.{Laid}
 
 -- ---- pieces before others
 
@@ -77,18 +76,15 @@ spaced : (b : ℕ) (ps : List Piece) → Laid b ps → Laid b (space ∷ ps)
 unfolding classOf
 spaced b ps h = (refl, omega arith, h)
 
-small-is : (n : ℕ) → small n ≡ true → n ≤ 4294967295
-small-is n e = leb-true n 4294967295 e
-
 -- a repeat's number: one but 0, or any before another token than `}`
 module _ {b m : ℕ} {ys : List ℕ} (n : ℕ) (p : eqb b 4 ≡ false) (q : eqb b 22 ≡ false) (e : Edge ys) where
   shape-positive : positive n ≡ true → Shape b 20 (decimal n) m ys
   shape-positive c =
       let g = and-true (small n) (not (eqb n 0)) c in
-      count n refl (eqb-false b 4 p) (eqb-false b 22 q) (small-is n (g .0)) (λ z _. eqb-false n 0 (not-true (eqb n 0) (g .1)) z) e
+      count n refl (eqb-false b 4 p) (eqb-false b 22 q) (small-le n (g .0)) (λ z _. eqb-false n 0 (not-true (eqb n 0) (g .1)) z) e
 
   shape-small : small n ≡ true → eqb m 3 ≡ false → Shape b 20 (decimal n) m ys
-  shape-small c k = count n refl (eqb-false b 4 p) (eqb-false b 22 q) (small-is n c) (λ _ z. eqb-false m 3 k z) e
+  shape-small c k = count n refl (eqb-false b 4 p) (eqb-false b 22 q) (small-le n c) (λ _ z. eqb-false m 3 k z) e
 
 -- a slice's number
 shape-integer : (b n m : ℕ) (ys : List ℕ) → (b ≡ 4) ⊎ (b ≡ 22) → small n ≡ true → Edge ys → Shape b (signedKind n) (signed n) m ys
@@ -97,7 +93,7 @@ shape-integer b n m ys w h e = go (ltb n 0x8000_0000) refl
   where
     go : (t : Bool) → ltb n 0x8000_0000 ≡ t → Shape b (choose t (λ u. 20) (λ u. 21)) (choose t (λ u. decimal n) (λ u. 45 ∷ decimal (0x1_0000_0000 - n))) m ys
     go true q = index n refl w (omega (arith, ltb-true n 0x8000_0000 q)) e
-    go false q = minus (0x1_0000_0000 - n) refl (omega (arith, small-is n h)) (omega (arith, ltb-false n 0x8000_0000 q)) e
+    go false q = minus (0x1_0000_0000 - n) refl (omega (arith, small-le n h)) (omega (arith, ltb-false n 0x8000_0000 q)) e
 
 safe-enclosed : (b : Bool) (x : List Piece) → Safe x → Safe (enclosed b x)
 unfolding enclosed spelled classOf oneKind
@@ -106,14 +102,6 @@ safe-enclosed true x a ps h e b =
 safe-enclosed false x a ps h e b = rw (append-nil x) (a ps h e b)
 
 -- ---- leaves
-
-utf8-is : (t : List ℕ) → isUtf8 t ≡ true → firstBad t ≡ Good
-unfolding isUtf8
-utf8-is t e = go (firstBad t) e
-  where
-    go : (r : Check) → isGood r ≡ true → r ≡ Good
-    go Good e = refl
-    go (Bad i) e = let z : _≡_ {A = ℕ} 0 1 = cc in absurd (omega arith)
 
 safe-sort : (k : Sort) (t : List ℕ) → fineText k t ≡ true → Safe (sortPieces k t)
 unfolding spelled classOf oneKind
@@ -162,9 +150,13 @@ loose-after (plain (RepExact n)) c ps h b = (sign refl refl refl refl, (shape-po
 loose-after (plain (RepMin n)) c ps h b = (sign refl refl refl refl, (shape-small n refl refl refl c refl, (sign refl refl refl refl, (sign refl refl refl refl, h 3))))
 loose-after (plain (RepMax n)) c ps h b = (sign refl refl refl refl, (sign refl refl refl refl, (shape-positive n refl refl refl c, (sign refl refl refl refl, h 3))))
 loose-after (plain (RepMinMax n m)) c ps h b =
-    let d = and-true (small n) (positive m) c in
-    (sign refl refl refl refl, (shape-small n refl refl refl (d .0) refl,
-    (sign refl refl refl refl, spaced 15 (number m ∷ rbrace ∷ ps) (shape-positive m refl refl refl (d .1), (sign refl refl refl refl, h 3)))))
+    let d = and-true (small n) (positive m) c in (
+      sign refl refl refl refl,
+      (
+        shape-small n refl refl refl (d .0) refl,
+        (sign refl refl refl refl, spaced 15 (number m ∷ rbrace ∷ ps) (shape-positive m refl refl refl (d .1), (sign refl refl refl refl, h 3))),
+      ),
+    )
 loose-after (plain Push) c ps h b = (sign refl refl refl refl, h 7)
 loose-after (nodeTag t) c ps h b = h b
 
@@ -254,10 +246,14 @@ module _ {P : Type 0} where
       let g = and-true (isName (r .name)) (and (leb (r .mark) 4) (fine (r .tree))) f in
       let d = and-true (leb (r .mark) 4) (fine (r .tree)) (g .1) in
       let x : List Piece = pieces Alone (r .tree) in
-      let m : List Piece = markPieces (r .mark) in
-      (name (g .0) refl, spaced 18 (equals ∷ space ∷ ((m ++ body x) ++ ps))
-      (sign refl refl refl refl, spaced 1 ((m ++ body x) ++ ps)
-      (shut-then m (body x) (safe-mark (r .mark) (d .0)) (loose-body x (safe-tree Alone (r .tree) (d .1) c)) (shut-body x) ps h 1)))
+      let m : List Piece = markPieces (r .mark) in (
+        name (g .0) refl,
+        spaced 18 (equals ∷ space ∷ ((m ++ body x) ++ ps)) (
+          sign refl refl refl refl,
+          spaced 1 ((m ++ body x) ++ ps)
+              (shut-then m (body x) (safe-mark (r .mark) (d .0)) (loose-body x (safe-tree Alone (r .tree) (d .1) c)) (shut-body x) ps h 1),
+        ),
+      )
 
   -- printed rules are laid
   pub held-rules : (us : List (Rule P)) → fineRules us ≡ true → countedRules us ≡ true → Held (rulesPieces us)

@@ -1,9 +1,8 @@
 -- PUSH_LITERAL stands among the pieces if a leaf is one, and only then.
 use Prim.Native.Nat.{ℕ, zero, suc}
-use mathlib.Core.Path.{_≡_, refl, sym, ap, _∙_}
+use mathlib.Core.Path.{_≡_, refl, ap, _∙_}
 use mathlib.Core.Bool.{Bool, true, false}
 use mathlib.Core.List.{List, [], _∷_, _++_}
-use native.Mathlib.Omega.{arith}
 use lib.Dec.{leb, ltb, eqb}
 use lib.ListN.{length}
 use Rattle.text.specs.Choice.{choose, and, or}
@@ -11,7 +10,6 @@ use Rattle.text.specs.Words.{begins, push}
 use Rattle.table.specs.declared.Join.{Join}
 use Rattle.table.specs.declared.Join.the-variants.{Seq, Choice}
 use Rattle.table.specs.declared.Unary.the-variants.{PosPred, NegPred, Opt, Rep, RepOnce, RepExact, RepMin, RepMax, RepMinMax, Push}
-use Rattle.table.specs.declared.Sort.{Sort}
 use Rattle.table.specs.declared.Sort.the-variants.{Str, Insens, Ident, PushLiteral}
 use Rattle.table.specs.declared.End.the-variants.{Open, At}
 use Rattle.table.specs.Tree.{Atom, text, range, peekSlice, Wrap, plain, nodeTag, Tree, leaf, one, two, Rule}
@@ -21,10 +19,10 @@ use Rattle.printer.specs.declared.Place.{Place}
 use Rattle.printer.specs.declared.Place.the-variants.{Alone, LeftOf, RightOf}
 use Rattle.printer.specs.declared.Form.the-variants.{Joined}
 use Rattle.printer.specs.Printing.{brackets, signed, atomForm, wrapForm, under}
-use Rattle.structure.specs.Tokens.{same, pushLiteral}
+use Rattle.structure.specs.Tokens.{pushLiteral}
 use Rattle.promises.specs.Pieces.{Piece, gap, tok, lbrace, rbrace, closes, space, signedKind, enclosed, atomPieces, before, after, separator, pieces, markPieces, rulePieces, rulesPieces, isPushLiteral}
 use Rattle.promises.specs.Round.{isPushing, pushing, holdsPushLiteral}
-use Rattle.promises.proofs.Tokens.{name-is}
+use Rattle.promises.proofs.Values.{begins-more, name-parts}
 use Rattle.promises.proofs.Laid.{pushesIn}
 
 or-false : (b : Bool) → or b false ≡ b
@@ -50,20 +48,10 @@ pushes-enclosed false x = pushes-append x [] ∙ or-false (pushesIn x)
 
 -- ---- names
 
-and-less : (b p q : Bool) → (p ≡ false → q ≡ false) → and b p ≡ false → and b q ≡ false
-and-less true p q h e = h e
-and-less false p q h e = refl
-
-begins-front : (p q xs : List ℕ) → begins p xs ≡ false → begins (p ++ q) xs ≡ false
-unfolding begins
-begins-front [] q xs e = let z : _≡_ {A = ℕ} 0 1 = cc in absurd (omega arith)
-begins-front (c ∷ p) q [] e = refl
-begins-front (c ∷ p) q (x ∷ xs) e = and-less (eqb x c) (begins p xs) (begins (p ++ q) xs) (begins-front p q xs) e
-
 -- no name is PUSH_LITERAL
 name-other : (w : List ℕ) → isName w ≡ true → isPushLiteral (tok 18 w) ≡ false
 name-other w h =
-    and-second (eqb (length w) 12) (begins pushLiteral w) (begins-front push (95 ∷ 76 ∷ 73 ∷ 84 ∷ 69 ∷ 82 ∷ 65 ∷ 76 ∷ []) w (name-is w h .1))
+    and-second (eqb (length w) 12) (begins pushLiteral w) (begins-more push (95 ∷ 76 ∷ 73 ∷ 84 ∷ 69 ∷ 82 ∷ 65 ∷ 76 ∷ []) w (name-parts w h .1))
 
 integer-other : (n : ℕ) (w : List ℕ) → isPushLiteral (tok (signedKind n) w) ≡ false
 integer-other n w = go (ltb n 0x8000_0000)
@@ -145,7 +133,7 @@ module _ {P : Type 0} where
       let x : List Piece = pieces Alone (r .tree) in
       let m : List Piece = markPieces (r .mark) in
       let e : pushesIn (x ++ (space ∷ rbrace ∷ gap 10 ∷ [])) ≡ pushing (r .tree) =
-            pushes-append x (space ∷ rbrace ∷ gap 10 ∷ []) ∙ or-false (pushesIn x) ∙ pushes-tree Alone (r .tree) (and-true (leb (r .mark) 4) (fine (r .tree)) (g .1) .1) in
+      pushes-append x (space ∷ rbrace ∷ gap 10 ∷ []) ∙ or-false (pushesIn x) ∙ pushes-tree Alone (r .tree) (and-true (leb (r .mark) 4) (fine (r .tree)) (g .1) .1) in
       rw (name-other (r .name) (g .0), pushes-append m (lbrace ∷ space ∷ (x ++ (space ∷ rbrace ∷ gap 10 ∷ []))), pushes-mark (r .mark)) e
 
   pub pushes-rules : (us : List (Rule P)) → fineRules us ≡ true → pushesIn (rulesPieces us) ≡ holdsPushLiteral us

@@ -5,7 +5,6 @@ use mathlib.Core.Bool.{Bool, true, false}
 use mathlib.Core.List.{List, [], _∷_, _++_, append-assoc, append-nil}
 use Rattle.literal.specs.Literals.{literal}
 use Rattle.table.specs.declared.Join.{Join}
-use Rattle.table.specs.declared.Unary.{Unary}
 use Rattle.table.specs.declared.Unary.the-variants.{PosPred, NegPred, Opt, Rep, RepOnce, RepExact, RepMin, RepMax, RepMinMax, Push}
 use Rattle.table.specs.declared.Sort.{Sort}
 use Rattle.table.specs.declared.Sort.the-variants.{Str, Insens, Ident, PushLiteral}
@@ -15,7 +14,7 @@ use Rattle.printer.specs.declared.Place.{Place}
 use Rattle.printer.specs.declared.Place.the-variants.{Alone, LeftOf, RightOf}
 use Rattle.printer.specs.declared.Form.the-variants.{Joined}
 use Rattle.printer.specs.Printing as Text
-use Rattle.promises.specs.Pieces.{Piece, gap, tok, spelled, opening, closing, enclosed, sortPieces, atomPieces, unaryBefore, unaryAfter, before, after, separator, pieces, markPieces, rulePieces, rulesPieces}
+use Rattle.promises.specs.Pieces.{Piece, gap, tok, spelled, opening, closing, enclosed, sortPieces, atomPieces, before, after, separator, pieces, markPieces, rulePieces, rulesPieces}
 
 pub spelled-append : (ps qs : List Piece) → spelled (ps ++ qs) ≡ spelled ps ++ spelled qs
 unfolding spelled

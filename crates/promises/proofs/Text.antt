@@ -1,6 +1,5 @@
 -- The text half of the way back: from the bytes of a printed text to its tokens and their values.
-use Prim.Native.Nat.{ℕ, _+_}
-use mathlib.Core.Path.{_≡_, refl, sym, ap, _∙_}
+use mathlib.Core.Path.{_≡_, sym, ap, _∙_}
 use mathlib.Core.Bool.{Bool, true, false}
 use mathlib.Core.List.{List}
 use native.Mathlib.Nat.{zero-add}
@@ -13,7 +12,6 @@ use Rattle.table.specs.Tree.{Rule}
 use Rattle.table.specs.Check.{fineRules}
 use Rattle.printer.specs.Printing.{printedRules}
 use Rattle.structure.specs.declared.Level.the-variants.{Tagged, Plain}
-use Rattle.structure.specs.declared.Fault.{Fault}
 use Rattle.structure.specs.declared.Fault.the-variants.{Sound, NotPlain}
 use Rattle.structure.specs.Tokens.{toks}
 use Rattle.structure.specs.Values.{faults}

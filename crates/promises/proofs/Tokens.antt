@@ -8,12 +8,11 @@ use native.Mathlib.Omega.{arith}
 use lib.Dec.{eqb}
 use lib.ListN.{length, length-append}
 use borrow.Author.Tests.{ne-eqb, eqb-true}
-use Rattle.text.specs.Choice.{choose, and, or, among, within, all}
+use Rattle.text.specs.Choice.{choose, or, among, within, all}
 use Rattle.text.specs.Classes.{blanks, letter, digit, ones, openers, classOf}
-use Rattle.text.specs.Words.{startsWord, inWord, isWord, begins, push, wordOf}
+use Rattle.text.specs.Words.{startsWord, inWord, isWord, begins, push}
 use Rattle.text.specs.Utf8.{scalar, encoded, seqLook, firstBad}
 use Rattle.text.specs.Digits.{decimal, decimalOf}
-use Rattle.text.specs.declared.Word.the-variants as Word
 use Rattle.text.specs.declared.Check.the-variants.{Good}
 use Rattle.text.specs.declared.Value.the-variants.{Number}
 use Rattle.text.specs.declared.Decimal.the-variants as Decimal
@@ -30,7 +29,7 @@ use Rattle.token.specs.Blanks.{first, inDigits}
 use Rattle.token.specs.Tokens.{oneKind, tokenOf}
 use Rattle.token.specs.declared.Token.the-variants.{Found}
 use Rattle.token.proofs.Printed.{one-piece, word-piece, tag-piece, push-piece, push-literal-piece, decimal-digits, decimal-piece, negative-piece, dots-piece, string-piece, insens-piece, char-piece}
-use Rattle.table.specs.Check.{mayName, mayTag, isName, isLabel}
+use Rattle.table.specs.Check.{isName, isLabel}
 use Rattle.table.proofs.Branches.{and-true, choose-false}
 use Rattle.printer.specs.Printing.{character}
 use Rattle.printer.proofs.Displays.{character-literal}
@@ -41,13 +40,14 @@ use Rattle.structure.specs.declared.Fault.the-variants.{Sound, NotPlain}
 use Rattle.structure.specs.Tokens.{kind, start, is, word, spells, pushLiteral}
 use Rattle.structure.specs.Tokens as Tokens
 use Rattle.structure.specs.Values as Values
-use Rattle.structure.specs.Values.{integerOf, inside, peekFault, repeatFault, literalFault, wordFault, numberFault, faultAt}
+use Rattle.structure.specs.Values.{integerOf, inside, peekFault, repeatFault, literalFault, wordFault, faultAt}
 use Rattle.structure.proofs.Steps.{sees, misses}
 use Rattle.structure.proofs.Steps as Steps
 use Rattle.structure.proofs.Arrays.{opens-one, opens-two}
 use Rattle.structure.proofs.Faults.{peek-fits, repeat-some, repeat-least, number-after-bracket, number-after-dots, number-repeats, value-word, value-number, value-minus, value-string, value-insens, value-character, value-none}
 use Rattle.promises.specs.Pieces.{tok, isPushLiteral}
-use Rattle.promises.proofs.Parts.{within-middle}
+use Rattle.promises.proofs.Values.{name-parts, label-word}
+use Rattle.promises.proofs.Values as Parts
 
 -- no letter, `_` or digit stands first
 abbrev pub Edge : List ℕ → Type 0
@@ -70,25 +70,6 @@ pub data Shape : ℕ → ℕ → List ℕ → ℕ → List ℕ → Type 0 where
 
 no : {A : Type 0} → false ≡ true → A
 no e = let z : _≡_ {A = ℕ} 0 1 = cc in absurd (omega arith)
-
--- ---- words
-
-name-by : (p q : Bool) → mayName (choose p (λ u. choose q (λ u. Word.Push) (λ u. Word.Name)) (λ u. Word.Neither)) ≡ true → (p ≡ true) × (q ≡ false)
-name-by true true e = no e
-name-by true false e = (refl, refl)
-name-by false q e = no e
-
-pub name-is : (w : List ℕ) → isName w ≡ true → (isWord w ≡ true) × (begins push w ≡ false)
-unfolding isName wordOf
-name-is w e = name-by (isWord w) (begins push w) e
-
-label-by : (p q : Bool) → mayTag (choose p (λ u. choose q (λ u. Word.Push) (λ u. Word.Name)) (λ u. Word.Neither)) ≡ true → p ≡ true
-label-by true q e = refl
-label-by false q e = no e
-
-pub label-is : (w : List ℕ) → isLabel w ≡ true → isWord w ≡ true
-unfolding isLabel wordOf
-label-is w e = label-by (isWord w) (begins push w) e
 
 edge-digits : (ys : List ℕ) → Edge ys → first inDigits ys ≡ false
 edge-digits [] e = refl
@@ -121,10 +102,10 @@ takes-character c ys h =
 
 pub takes : {b k n : ℕ} {w ys : List ℕ} → Shape b k w n ys → tokenOf (w ++ ys) ≡ Found k 0 (length w)
 takes {ys = ys} (one {c = c} h e l a) = one-piece c ys h ∙ ap (λ (k : ℕ). Found k 0 1) e
-takes {w = w} {ys = ys} (name h e) = let g = name-is w h in takes-name w ys (g .0) (g .1) e
+takes {w = w} {ys = ys} (name h e) = let g = name-parts w h in takes-name w ys (g .0) (g .1) e
 takes {ys = ys} (pushes q e) = rw q (push-piece ys e)
 takes {ys = ys} (pushesLiteral q e) = rw q (push-literal-piece ys e)
-takes {ys = ys} (tag {w = w} h e) = takes-tag w ys (label-is w h) e
+takes {ys = ys} (tag {w = w} h e) = takes-tag w ys (label-word w h) e
 takes {ys = ys} (count m q b c l z e) = rw q (decimal-piece m ys (edge-digits ys e))
 takes {ys = ys} (index m q b l e) = rw q (decimal-piece m ys (edge-digits ys e))
 takes {ys = ys} (minus m q h l e) =
@@ -198,12 +179,12 @@ encoded-good c h = over-good seqLook (encoded c) (over-char c h)
 pub over-shape : {b k n : ℕ} {w ys : List ℕ} → Shape b k w n ys → Over seqLook w
 unfolding simpleOf
 over-shape (one {c = c} h e l a) = over-ascii (c ∷ []) (a, tt)
-over-shape {w = w} (name h e) = over-ascii w (spelled-ascii w (name-is w h .0))
+over-shape {w = w} (name h e) = over-ascii w (spelled-ascii w (name-parts w h .0))
 over-shape (pushes q e) = rw q (over-ascii push (omega arith, (omega arith, (omega arith, (omega arith, tt)))))
 over-shape (pushesLiteral q e) =
     rw q (over-ascii pushLiteral
     (omega arith, (omega arith, (omega arith, (omega arith, (omega arith, (omega arith, (omega arith, (omega arith, (omega arith, (omega arith, (omega arith, (omega arith, tt)))))))))))))
-over-shape (tag {w = w} h e) = over-ascii (35 ∷ w) (omega arith, spelled-ascii w (label-is w h))
+over-shape (tag {w = w} h e) = over-ascii (35 ∷ w) (omega arith, spelled-ascii w (label-word w h))
 over-shape (count m q b c l z e) = rw q (decimal-over m)
 over-shape (index m q b l e) = rw q (decimal-over m)
 over-shape (minus m q h l e) = rw q (over-append seqLook (45 ∷ []) (decimal m) (over-ascii (45 ∷ []) (omega arith, tt)) (decimal-over m))
@@ -242,7 +223,7 @@ module _ (s : List ℕ) (i : ℕ) where
 
   negative-fits : (m : ℕ) → kind s i ≡ 21 → word s i ≡ 45 ∷ decimal m → m ≤ 2147483648 → Sound ≡ peekFault s i (integerOf s i)
   negative-fits m k e l =
-      let d : Tokens.within s i 1 0 ≡ decimal m = within-middle s i (45 ∷ []) (decimal m) [] (e ∙ ap (λ (x : List ℕ). 45 ∷ x) (sym (append-nil (decimal m)))) in
+      let d : Tokens.within s i 1 0 ≡ decimal m = Parts.within-is s i 1 0 (45 ∷ []) (decimal m) [] (e ∙ ap (λ (x : List ℕ). 45 ∷ x) (sym (append-nil (decimal m)))) refl refl in
       fits m (Steps.choose-true (is s i 21) _ _ (sees s i 21 21 (sym k) refl) ∙ ap (decimalOf 2147483648) d ∙ decimal-back 2147483648 m l)
 
   -- the inside of a literal that was printed has no bad escape
@@ -253,12 +234,12 @@ module _ (s : List ℕ) (i : ℕ) where
     sound-literal : 1 ≡ Values.opening s i → word s i ≡ literal q t → Sound ≡ literalFault s i (badEscape (inside s i))
     unfolding literal
     sound-literal o e =
-        sound-inside (Literal.inside q t) (ap (λ (n : ℕ). Tokens.within s i n 1) (sym o) ∙ within-middle s i (q ∷ []) (Literal.inside q t) (q ∷ []) e) (inside-scalars q h t g)
+        sound-inside (Literal.inside q t) (Parts.within-is s i (Values.opening s i) 1 (q ∷ []) (Literal.inside q t) (q ∷ []) e o refl) (inside-scalars q h t g)
 
     sound-insens : 2 ≡ Values.opening s i → word s i ≡ 94 ∷ literal q t → Sound ≡ literalFault s i (badEscape (inside s i))
     unfolding literal
     sound-insens o e =
-        sound-inside (Literal.inside q t) (ap (λ (n : ℕ). Tokens.within s i n 1) (sym o) ∙ within-middle s i (94 ∷ q ∷ []) (Literal.inside q t) (q ∷ []) e) (inside-scalars q h t g)
+        sound-inside (Literal.inside q t) (Parts.within-is s i (Values.opening s i) 1 (94 ∷ q ∷ []) (Literal.inside q t) (q ∷ []) e o refl) (inside-scalars q h t g)
 
 pub fault-shape : (level : Level) (s : List ℕ) (i : ℕ) {b k n : ℕ} {w ys : List ℕ} → Shape b k w n ys → kind s i ≡ k → word s i ≡ w → kind s (i + 1) ≡ n
     → faultAt level s b i ≡ pushFault level (isPushLiteral (tok k w)) (start s i)
