@@ -11,3 +11,4 @@ pub mod Shapes
 pub mod Tree
 pub mod Rules
 pub mod Spread
+pub mod Sample
