@@ -36,13 +36,8 @@ use Rattle.promises.specs.Round.{countedRules, depths, holdsPushLiteral,
 use Rattle.promises.proofs.Narrow.{tables-counted}
 use Rattle.promises.proofs.Rules.{Back, reads}
 use Rattle.promises.proofs.Spread.{seen-length, seen-counts, seen-stored}
+use Rattle.promises.proofs.Text.{printed-lexed, printed-stands, printed-utf8, printed-sound, printed-plain-sound, printed-not-plain}
 use Rattle.promises.proofs.Asides.{counted-asides, depths-asides, pushing-asides}
-
--- what lexing a printed text gives
-pub record Lexed (us : List (Rule Nowhere)) : Type 0 where
-  pub utf8 : firstBad (printedRules us) ≡ Good
-  pub all : tokensOf (printedRules us) .fault ≡ Good
-  pub stands : Stand (printedRules us) 0 (rulesPieces us) (length (toks (printedRules us)))
 
 -- ---- the reader's phases, one after another
 
@@ -63,7 +58,7 @@ module _ (ns rs st : List ℕ) (p : Printable ns rs st) where
   valid = tables-valid ns rs st (p .good)
 
   -- the rules printed, spans aside
-  abbrev printedOnes : List (Rule Nowhere)
+  abbrev pub printedOnes : List (Rule Nowhere)
   printedOnes = map asideRule (rulesOf ns rs st)
 
   is-fine : fineRules printedOnes ≡ true
@@ -76,44 +71,47 @@ module _ (ns rs st : List ℕ) (p : Printable ns rs st) where
   unfolding tableText
   is-text = printed-rules (rulesOf ns rs st)
 
-  module _ (lies : Lexed printedOnes) where
-    found : (level : Level) → Back level (printedRules printedOnes) (grammar level (printedRules printedOnes)) printedOnes
-    found level =
-        let l = length-map (rulesOf ns rs st) asideRule in
-        let m = rules-many ns rs st in
-        reads level (printedRules printedOnes) printedOnes (length (toks (printedRules printedOnes))) is-fine is-counted (omega (arith, depths-asides (rulesOf ns rs st), p .shallow))
-        (omega (arith, p .some)) (lies .stands) refl
+  found : (level : Level) → Back level (printedRules printedOnes) (grammar level (printedRules printedOnes)) printedOnes
+  found level =
+      let l = length-map (rulesOf ns rs st) asideRule in
+      let m = rules-many ns rs st in
+      reads level (printedRules printedOnes) printedOnes (length (toks (printedRules printedOnes))) is-fine is-counted (omega (arith, depths-asides (rulesOf ns rs st), p .shallow))
+      (omega (arith, p .some)) (printed-stands printedOnes is-fine is-counted) refl
 
-    -- what is read at a level, if values are sound there
-    read-as : (level : Level) → faults level (printedRules printedOnes) ≡ Fault.Sound → ReadAs level (printedRules printedOnes) (seen level printedOnes)
-    read-as level e =
-        let s = printedRules printedOnes in
-        let l = length-map (rulesOf ns rs st) asideRule in
-        let m = rules-many ns rs st in
-        let v = valid in
-        let b = found level in
-        let us = b .found in
-        let g : map asideRule (ruledOf (grammar level s)) ≡ seen level printedOnes = ap (λ x. map asideRule (ruledOf x)) (b .goes) ∙ b .same in
-        let c₁ = sym (rules-counts aside items-aside us) ∙ ap counts (b .same) in
-        let c₂ = sym (length-map us asideRule) ∙ ap length (b .same) in
-        let c₃ = ap length (sym (rules-store aside items-aside us)) ∙ ap (λ (xs : List (Rule Nowhere)). length (rulesStored xs)) (b .same) in
-        record {
-          rules = g;
-          answer = λ n r k x y z. past-values level s us (omega (arith, p .short, ap length is-text)) (lies .utf8) (lies .all) (b .goes) e n r k (omega arith) (omega arith) (omega arith) ∙ rw (c₁, c₂, c₃);
-          few-nodes = omega (arith, seen-counts level printedOnes, rules-counts aside items-aside (rulesOf ns rs st), valid-counts v, v .few-nodes);
-          few-rules = omega (arith, seen-length level printedOnes, v .few-rules);
-          short = seen-stored level printedOnes is-fine;
-        }
+  -- what is read at a level, if values are sound there
+  read-as : (level : Level) → faults level (printedRules printedOnes) ≡ Fault.Sound → ReadAs level (printedRules printedOnes) (seen level printedOnes)
+  read-as level e =
+      let s = printedRules printedOnes in
+      let l = length-map (rulesOf ns rs st) asideRule in
+      let m = rules-many ns rs st in
+      let v = valid in
+      let b = found level in
+      let us = b .found in
+      let g : map asideRule (ruledOf (grammar level s)) ≡ seen level printedOnes = ap (λ x. map asideRule (ruledOf x)) (b .goes) ∙ b .same in
+      let c₁ = sym (rules-counts aside items-aside us) ∙ ap counts (b .same) in
+      let c₂ = sym (length-map us asideRule) ∙ ap length (b .same) in
+      let c₃ = ap length (sym (rules-store aside items-aside us)) ∙ ap (λ (xs : List (Rule Nowhere)). length (rulesStored xs)) (b .same) in
+      record {
+        rules = g;
+        answer = λ n r k x y z. past-values level s us (omega (arith, p .short, ap length is-text)) (printed-utf8 printedOnes is-fine is-counted) (printed-lexed printedOnes is-fine is-counted) (b .goes) e n r k (omega arith) (omega arith) (omega arith) ∙ rw (c₁, c₂, c₃);
+        few-nodes = omega (arith, seen-counts level printedOnes, rules-counts aside items-aside (rulesOf ns rs st), valid-counts v, v .few-nodes);
+        few-rules = omega (arith, seen-length level printedOnes, v .few-rules);
+        short = seen-stored level printedOnes is-fine;
+      }
 
-    -- the tagged reader returns the same rules, spans aside, each chain regrouped once to the left
-    tagged : faults Tagged (printedRules printedOnes) ≡ Fault.Sound → ReadAs Tagged (tableText ns rs st) (regroupRules printedOnes)
-    tagged e = rw (sym is-text) (read-as Tagged e)
+  -- the tagged reader returns the same rules, spans aside, each chain regrouped once to the left
+  pub tagged : ReadAs Tagged (tableText ns rs st) (regroupRules printedOnes)
+  tagged = rw (sym is-text) (read-as Tagged (printed-sound printedOnes is-fine is-counted))
 
-    plain : faults Plain (printedRules printedOnes) ≡ Fault.Sound → ReadAs Plain (tableText ns rs st) (untaggedRules (regroupRules printedOnes))
-    plain e = rw (sym is-text) (read-as Plain e)
+  -- the plain reader refuses a PUSH_LITERAL at its first word, whatever room is lent
+  pub plain-refused : holdsPushLiteral (rulesOf ns rs st) ≡ true → (n r b : ℕ) → readOf Plain (tableText ns rs st) n r b ≡ Reading.NotPlain (firstPushLiteral (rulesPieces printedOnes))
+  plain-refused h n r b =
+      let s = printedRules printedOnes in
+      let f = found Plain in
+      ap (λ x. readOf Plain x n r b) (sym is-text)
+      ∙ past-structure Plain s (f .found) (omega (arith, p .short, ap length is-text)) (printed-utf8 printedOnes is-fine is-counted) (printed-lexed printedOnes is-fine is-counted) (f .goes)
+      (Fault.NotPlain (firstPushLiteral (rulesPieces printedOnes))) (printed-not-plain printedOnes is-fine is-counted (pushing-asides (rulesOf ns rs st) ∙ h)) n r b
 
-    plain-not : (k : ℕ) → faults Plain (printedRules printedOnes) ≡ Fault.NotPlain k → (n r b : ℕ) → readOf Plain (tableText ns rs st) n r b ≡ Reading.NotPlain k
-    plain-not k e n r b =
-        let s = printedRules printedOnes in
-        let b′ = found Plain in
-        ap (λ x. readOf Plain x n r b) (sym is-text) ∙ past-structure Plain s (b′ .found) (omega (arith, p .short, ap length is-text)) (lies .utf8) (lies .all) (b′ .goes) (Fault.NotPlain k) e n r b
+  -- and else returns that regrouped tree with every tag removed
+  pub plain : holdsPushLiteral (rulesOf ns rs st) ≡ false → ReadAs Plain (tableText ns rs st) (untaggedRules (regroupRules printedOnes))
+  plain h = rw (sym is-text) (read-as Plain (printed-plain-sound printedOnes is-fine is-counted (pushing-asides (rulesOf ns rs st) ∙ h)))

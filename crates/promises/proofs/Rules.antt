@@ -23,8 +23,7 @@ use Rattle.structure.proofs.Steps.{choose-true, choose-false, inside-is, spells
 use Rattle.structure.proofs.Rules.{rule-then}
 use Rattle.promises.specs.Pieces.{Piece, gap, equals, lbrace, rbrace, space, pieces, markPieces, rulePieces, rulesPieces, Stand}
 use Rattle.promises.specs.Round.{counted, countedRules, depth, depths, seen}
-use Rattle.promises.proofs.Values.{yes, no, spells-by}
-use Rattle.promises.proofs.Leaves.{name-unpushed}
+use Rattle.promises.proofs.Values.{yes, no, name-parts, spells-by}
 use Rattle.promises.proofs.Shapes.{cut, onward, begins-tree}
 use Rattle.promises.proofs.Tree.{sight, tree-of}
 
@@ -82,7 +81,7 @@ module _ (s : List ℕ) where
   marked (suc (suc (suc (suc (suc m))))) at n f h k = absurd (omega (arith, leb-true (suc (suc (suc (suc (suc m))))) 4 f))
 
   named : (at : ℕ) (b : List ℕ) → kind s at ≡ 18 → word s at ≡ b → Check.isName b ≡ true → isName s at ≡ true
-  named at b k e f = and-both (is s at 18) (not (begins push (word s at))) (yes s at 18 k) (ap not (ap (begins push) e ∙ name-unpushed b f))
+  named at b k e f = and-both (is s at 18) (not (begins push (word s at))) (yes s at 18 k) (ap not (ap (begins push) e ∙ name-parts b f .1))
 
 module _ (level : Level) (s : List ℕ) where
   -- ---- a rule

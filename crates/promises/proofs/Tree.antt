@@ -33,7 +33,7 @@ use Rattle.structure.proofs.Cycle.{finished}
 use Rattle.promises.specs.Pieces.{Piece, tok, opens, closes, enclosed, atomPieces, unaryAfter, joinKind, separator, pieces, Stand}
 use Rattle.promises.specs.Round.{unaryCounts, atomCounts, counted, atomDepth, depth}
 use Rattle.promises.proofs.Values.{yes, no, spells-by, label-is}
-use Rattle.promises.proofs.Leaves.{posted, posted-first, Ends, unposted, unsliced, leaf-of}
+use Rattle.promises.proofs.Leaves.{gots, posted, posted-first, Ends, unposted, unsliced, leaf-of}
 use Rattle.promises.proofs.Shapes.{formOf, bare, bareDepth, pieces-bare, pieces-closed, depth-bare, depth-closed, pieces-same, depth-same, posted-bare, cut, stand-as, begins-atom, begins-tree}
 use Rattle.promises.proofs.Shapes as Shapes
 
@@ -76,9 +76,6 @@ aside-finished s at t = go (is s at 6)
     go : (b : Bool) → aside (choose b (λ u. placed (record { start = start s at; stop = placeOf t .stop }) t) (λ u. t)) ≡ aside t
     go true = aside-placed _ t
     go false = refl
-
-gots : {t u : Tree Span} {m n : ℕ} → t ≡ u → m ≡ n → got t m ≡ got u n
-gots {t} {u} {m} {n} p q = ap (got t) q ∙ ap (λ (x : Tree Span). got x n) p
 
 module _ (level : Level) (s : List ℕ) where
   -- a reading that ends at n with the tree e

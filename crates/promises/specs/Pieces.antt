@@ -1,5 +1,5 @@
 -- Printed text as pieces: its tokens, each with its kind, and the blanks between them.
-use Prim.Native.Nat.{ℕ, suc, _+_}
+use Prim.Native.Nat.{ℕ, _+_}
 use mathlib.Core.Path.{_≡_}
 use mathlib.Core.Bool.{Bool, true, false}
 use mathlib.Core.List.{List, [], _∷_, _++_}
@@ -21,7 +21,7 @@ use Rattle.table.specs.Tree.{Atom, text, range, peekSlice, Wrap, plain, nodeTag
 use Rattle.printer.specs.declared.Place.{Place}
 use Rattle.printer.specs.declared.Place.the-variants.{Alone, LeftOf, RightOf}
 use Rattle.printer.specs.declared.Form.the-variants.{Joined}
-use Rattle.printer.specs.Printing.{brackets, character, signed, atomForm, wrapForm, under, joinByte, markText}
+use Rattle.printer.specs.Printing.{brackets, character, signed, atomForm, wrapForm, under, joinByte}
 use Rattle.structure.specs.Tokens.{kind, word, same, peek, pushLiteral}
 
 -- a blank byte, or a token with its kind and its bytes

@@ -1,11 +1,11 @@
 -- The way back: what the premises of printing and reading back say.
-use Prim.Native.Nat.{ℕ, zero, suc, _+_, _≤_, max}
+use Prim.Native.Nat.{ℕ, _+_, _≤_, max}
 use mathlib.Core.Path.{_≡_}
 use mathlib.Core.Bool.{Bool, true, false, not}
-use mathlib.Core.List.{List, [], _∷_, _++_, map}
+use mathlib.Core.List.{List, [], _∷_, map}
 use lib.Dec.{leb, eqb}
 use lib.ListN.{length, getD}
-use Rattle.text.specs.Choice.{choose, and, or}
+use Rattle.text.specs.Choice.{and, or}
 use Rattle.table.specs.declared.Unary.{Unary}
 use Rattle.table.specs.declared.Unary.the-variants.{PosPred, NegPred, Opt, Rep, RepOnce, RepExact, RepMin, RepMax, RepMinMax, Push}
 use Rattle.table.specs.declared.Sort.{Sort}

@@ -193,9 +193,33 @@ number-by : (w ys : List ℕ) → 1 ≤ length w → all inDigits w ≡ true →
 number-by [] ys h g n = absurd (omega arith)
 number-by (x ∷ w) ys h g n = number-piece x w ys g n
 
+pub decimal-digits : (n : ℕ) → all inDigits (decimal n) ≡ true
+decimal-digits n = digits-all (suc n) n (omega arith)
+
 -- a number in decimal
 pub decimal-piece : (n : ℕ) (ys : List ℕ) → first inDigits ys ≡ false → tokenOf (decimal n ++ ys) ≡ Found 20 0 (length (decimal n))
-decimal-piece n ys e = number-by (decimal n) ys (decimal-nonempty n) (digits-all (suc n) n (omega arith)) e
+decimal-piece n ys e = number-by (decimal n) ys (decimal-nonempty n) (decimal-digits n) e
+
+first-append : (f : ℕ → Bool) (w ys : List ℕ) → 1 ≤ length w → first f (w ++ ys) ≡ first f w
+first-append f [] ys h = absurd (omega arith)
+first-append f (x ∷ w) ys h = refl
+
+-- a number's first digit is 0 only for 0
+no-zero : (k n : ℕ) → n < k → 1 ≤ n → first isZero (decimal n) ≡ false
+no-zero zero n h l = absurd (omega arith)
+no-zero (suc k) n h l =
+    ⊎-elim (λ m. rw (decimal-one n m) (ne-eqb (48 + n) 48 (λ z. omega arith)))
+    (λ m. rw (decimal-more n m) (first-append isZero (decimal (n / 10)) ((48 + n % 10) ∷ []) (decimal-nonempty (n / 10)) ∙ no-zero k (n / 10) (omega arith) (omega arith)))
+    (lt-or-ge n 10)
+
+minus-by : (w ys : List ℕ) → 1 ≤ length w → all inDigits w ≡ true → first isZero w ≡ false → first inDigits ys ≡ false → tokenOf (45 ∷ (w ++ ys)) ≡ Found 21 0 (length w + 1)
+minus-by [] ys h g z n = absurd (omega arith)
+minus-by (x ∷ w) ys h g z n = minus-piece x w ys g n z
+
+-- one but 0, behind `-`
+pub negative-piece : (n : ℕ) (ys : List ℕ) → 1 ≤ n → first inDigits ys ≡ false → tokenOf (45 ∷ (decimal n ++ ys)) ≡ Found 21 0 (length (decimal n) + 1)
+negative-piece n ys l e =
+    minus-by (decimal n) ys (decimal-nonempty n) (decimal-digits n) (no-zero (suc n) n (omega arith) l) e
 
 pub dots-piece : (ys : List ℕ) → tokenOf (46 ∷ 46 ∷ ys) ≡ Found 22 0 2
 unfolding openerBlank openerToken dotsToken classOf
