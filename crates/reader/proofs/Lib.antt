@@ -8,3 +8,4 @@ pub mod Loops
 pub mod Chains
 pub mod Terms
 pub mod Nodes
+pub mod Finishes

@@ -1,5 +1,6 @@
 // The building pass. A text that is good in structure and values is read again and written as
 // records.
+pub mod build;
 pub mod leaves;
 pub mod loops;
 pub mod records;
