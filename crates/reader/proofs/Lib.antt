@@ -7,5 +7,7 @@ pub mod Leaves
 pub mod Loops
 pub mod Chains
 pub mod Terms
+pub mod Rules
+pub mod Answers
 pub mod Nodes
 pub mod Finishes
