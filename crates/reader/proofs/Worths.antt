@@ -26,7 +26,8 @@ use Rattle.structure.proofs.Steps.{choose-true, choose-false, sees, misses, wan
 use Rattle.reader.specs.declared.Suffix.{Suffix}
 use Rattle.reader.specs.declared.Suffix.the-variants as Suffix
 use Rattle.reader.specs.Build.{suffixOf}
-use Rattle.reader.proofs.Orders.{low, spans, word-is, part-length, part-none}
+use Rattle.structure.proofs.Arrays.{low, word-is, part-length}
+use Rattle.reader.proofs.Parts.{part-none}
 
 pub negated-is : (n : ℕ) → (n ≡ 0 → ⊥) → 4294967295 - (n - 1) ≡ negated n
 negated-is zero h = absurd (h refl)

@@ -1,6 +1,6 @@
 use native.Mathlib.Omega.{arith}
 use mathlib.Core.Path.{sym, _∙_}
-use Rattle.reader.proofs.Orders.{not-many}
+use Rattle.structure.proofs.Arrays.{sizes}
 use Rattle.structure.proofs.Steps.{sees, misses, inside-is}
 use Rattle.reader.proofs.Leaves.{spelled-word, push-read, peek-read, peek-word, word-read, string-read, insens-read, ranged-read, room-same, built-same}
 use borrow.Author.Needs.{needs}
@@ -20,22 +20,22 @@ is-spelled-requires : tie.Need-is-spelled-requires
 is-spelled-requires c κs = search needs
 
 add-put-literal : tie.Need-add-put-literal
-add-put-literal c = let w = push-read _ _ _ (c .before .before .before .before .before .before .before .before .before .before .before .pre .1 .1) (sym (c .before .before .before .is-spelled .ensures) ∙ c .before .before .if1 .taken) .1 in let n = not-many _ _ _ _ (c .before .before .before .before .before .before .before .before .before .before .before .pre .0) in omega arith
+add-put-literal c = let w = push-read _ _ _ (c .before .before .before .before .before .before .before .before .before .before .before .pre .1 .1) (sym (c .before .before .before .is-spelled .ensures) ∙ c .before .before .if1 .taken) .1 in let n = sizes _ _ _ _ (c .before .before .before .before .before .before .before .before .before .before .before .pre .0) in omega arith
 
 add-put-literal-2 : tie.Need-add-put-literal-2
-add-put-literal-2 c = let w = push-read _ _ _ (c .before .before .before .before .before .before .before .before .before .before .before .pre .1 .1) (sym (c .before .before .before .is-spelled .ensures) ∙ c .before .before .if1 .taken) .1 in let n = not-many _ _ _ _ (c .before .before .before .before .before .before .before .before .before .before .before .pre .0) in omega arith
+add-put-literal-2 c = let w = push-read _ _ _ (c .before .before .before .before .before .before .before .before .before .before .before .pre .1 .1) (sym (c .before .before .before .is-spelled .ensures) ∙ c .before .before .if1 .taken) .1 in let n = sizes _ _ _ _ (c .before .before .before .before .before .before .before .before .before .before .before .pre .0) in omega arith
 
 add-put-literal-3 : tie.Need-add-put-literal-3
-add-put-literal-3 c = let w = push-read _ _ _ (c .before .before .before .before .before .before .before .before .before .before .before .pre .1 .1) (sym (c .before .before .before .is-spelled .ensures) ∙ c .before .before .if1 .taken) .1 in let n = not-many _ _ _ _ (c .before .before .before .before .before .before .before .before .before .before .before .pre .0) in omega arith
+add-put-literal-3 c = let w = push-read _ _ _ (c .before .before .before .before .before .before .before .before .before .before .before .pre .1 .1) (sym (c .before .before .before .is-spelled .ensures) ∙ c .before .before .if1 .taken) .1 in let n = sizes _ _ _ _ (c .before .before .before .before .before .before .before .before .before .before .before .pre .0) in omega arith
 
 add-put-literal-4 : tie.Need-add-put-literal-4
-add-put-literal-4 c = let w = push-read _ _ _ (c .before .before .before .before .before .before .before .before .before .before .before .pre .1 .1) (sym (c .before .before .before .is-spelled .ensures) ∙ c .before .before .if1 .taken) .1 in let n = not-many _ _ _ _ (c .before .before .before .before .before .before .before .before .before .before .before .pre .0) in omega arith
+add-put-literal-4 c = let w = push-read _ _ _ (c .before .before .before .before .before .before .before .before .before .before .before .pre .1 .1) (sym (c .before .before .before .is-spelled .ensures) ∙ c .before .before .if1 .taken) .1 in let n = sizes _ _ _ _ (c .before .before .before .before .before .before .before .before .before .before .before .pre .0) in omega arith
 
 add-put-literal-5 : tie.Need-add-put-literal-5
-add-put-literal-5 c = let w = push-read _ _ _ (c .before .before .before .before .before .before .before .before .before .before .before .pre .1 .1) (sym (c .before .before .before .is-spelled .ensures) ∙ c .before .before .if1 .taken) .1 in let n = not-many _ _ _ _ (c .before .before .before .before .before .before .before .before .before .before .before .pre .0) in omega arith
+add-put-literal-5 c = let w = push-read _ _ _ (c .before .before .before .before .before .before .before .before .before .before .before .pre .1 .1) (sym (c .before .before .before .is-spelled .ensures) ∙ c .before .before .if1 .taken) .1 in let n = sizes _ _ _ _ (c .before .before .before .before .before .before .before .before .before .before .before .pre .0) in omega arith
 
 add-put-literal-6 : tie.Need-add-put-literal-6
-add-put-literal-6 c = let w = push-read _ _ _ (c .before .before .before .before .before .before .before .before .before .before .before .pre .1 .1) (sym (c .before .before .before .is-spelled .ensures) ∙ c .before .before .if1 .taken) .1 in let n = not-many _ _ _ _ (c .before .before .before .before .before .before .before .before .before .before .before .pre .0) in omega arith
+add-put-literal-6 c = let w = push-read _ _ _ (c .before .before .before .before .before .before .before .before .before .before .before .pre .1 .1) (sym (c .before .before .before .is-spelled .ensures) ∙ c .before .before .if1 .taken) .1 in let n = sizes _ _ _ _ (c .before .before .before .before .before .before .before .before .before .before .before .pre .0) in omega arith
 
 put-literal-requires : tie.Need-put-literal-requires
 put-literal-requires c κs = ((c .before .before .before .before .before .before .before .before .before .before .before .pre .0), (push-read _ _ _ (c .before .before .before .before .before .before .before .before .before .before .before .pre .1 .1) (sym (c .before .before .before .is-spelled .ensures) ∙ c .before .before .if1 .taken) .1, ((c .before .before .before .before .before .before .before .before .before .before .before .pre .1 .0) .strings _ (push-read _ _ _ (c .before .before .before .before .before .before .before .before .before .before .before .pre .1 .1) (sym (c .before .before .before .is-spelled .ensures) ∙ c .before .before .if1 .taken) .0), room-same (push-read _ _ _ (c .before .before .before .before .before .before .before .before .before .before .before .pre .1 .1) (sym (c .before .before .before .is-spelled .ensures) ∙ c .before .before .if1 .taken) .2) (c .before .before .before .before .before .before .before .before .before .before .before .pre .1 .1))))
@@ -59,13 +59,13 @@ is-spelled-requires-2 : tie.Need-is-spelled-requires-2
 is-spelled-requires-2 c κs = search needs
 
 add-kind-at : tie.Need-add-kind-at
-add-kind-at c = let w = inside-is _ _ 18 (omega arith) (spelled-word _ _ _ (sym (c .before .is-spelled2 .ensures) ∙ c .if2 .taken)) in let n = not-many _ _ _ _ (c .before .before .before .before .before .before .before .before .before .before .before .before .before .pre .0) in omega arith
+add-kind-at c = let w = inside-is _ _ 18 (omega arith) (spelled-word _ _ _ (sym (c .before .is-spelled2 .ensures) ∙ c .if2 .taken)) in let n = sizes _ _ _ _ (c .before .before .before .before .before .before .before .before .before .before .before .before .before .pre .0) in omega arith
 
 kind-at-requires-2 : tie.Need-kind-at-requires-2
 kind-at-requires-2 c κs = search needs
 
 add-put-slice : tie.Need-add-put-slice
-add-put-slice c = let w = inside-is _ _ 18 (omega arith) (spelled-word _ _ _ (sym (c .before .before .before .before .before .is-spelled2 .ensures) ∙ c .before .before .before .before .if2 .taken)) in let n = not-many _ _ _ _ (c .before .before .before .before .before .before .before .before .before .before .before .before .before .before .before .before .before .pre .0) in omega arith
+add-put-slice c = let w = inside-is _ _ 18 (omega arith) (spelled-word _ _ _ (sym (c .before .before .before .before .before .is-spelled2 .ensures) ∙ c .before .before .before .before .if2 .taken)) in let n = sizes _ _ _ _ (c .before .before .before .before .before .before .before .before .before .before .before .before .before .before .before .before .before .pre .0) in omega arith
 
 put-slice-requires : tie.Need-put-slice-requires
 put-slice-requires c κs = ((c .before .before .before .before .before .before .before .before .before .before .before .before .before .before .before .before .before .pre .0), room-same (peek-read _ _ _ (c .before .before .before .before .before .before .before .before .before .before .before .before .before .before .before .before .before .pre .1 .1) (sym (c .before .before .before .before .before .before .before .before .before .is-spelled .ensures) ∙ c .before .before .before .before .before .before .before .before .if1 .left) (sym (c .before .before .before .before .before .is-spelled2 .ensures) ∙ c .before .before .before .before .if2 .taken) (sees _ _ _ 4 (c .before .before .before .kind-at2 .ensures) (c .before .before .if3 .taken))) (c .before .before .before .before .before .before .before .before .before .before .before .before .before .before .before .before .before .pre .1 .1))
@@ -104,7 +104,7 @@ returns-4 : tie.Need-returns-4
 returns-4 c = built-same (word-read _ _ _ (c .before .before .before .before .before .before .before .before .before .before .before .before .before .before .before .before .before .before .before .before .before .pre .1 .1) (sym (c .before .before .before .before .before .before .before .before .before .before .before .before .before .is-spelled .ensures) ∙ c .before .before .before .before .before .before .before .before .before .before .before .before .if1 .left) (sym (c .before .before .before .before .before .before .before .before .before .is-spelled2 .ensures) ∙ c .before .before .before .before .before .before .before .before .if2 .left) (sees _ _ _ 18 (c .before .before .before .before .before .before .before .before .before .before .before .kind-at .ensures) (c .before .before .before .before .before .before .before .if4 .taken)) .1) (c .before .before .before .before .put-word2 .ensures)
 
 add-put-literal-7 : tie.Need-add-put-literal-7
-add-put-literal-7 c = let w = string-read _ _ _ (c .before .before .before .before .before .before .before .before .before .before .before .before .before .before .before .before .before .pre .1 .1) (sym (c .before .before .before .before .before .before .before .before .before .is-spelled .ensures) ∙ c .before .before .before .before .before .before .before .before .if1 .left) (sym (c .before .before .before .before .before .is-spelled2 .ensures) ∙ c .before .before .before .before .if2 .left) (misses _ _ _ 18 (c .before .before .before .before .before .before .before .kind-at .ensures) (c .before .before .before .if4 .left)) (sees _ _ _ 23 (c .before .before .before .before .before .before .before .kind-at .ensures) (c .before .before .if5 .taken)) .0 in let n = not-many _ _ _ _ (c .before .before .before .before .before .before .before .before .before .before .before .before .before .before .before .before .before .pre .0) in omega arith
+add-put-literal-7 c = let w = string-read _ _ _ (c .before .before .before .before .before .before .before .before .before .before .before .before .before .before .before .before .before .pre .1 .1) (sym (c .before .before .before .before .before .before .before .before .before .is-spelled .ensures) ∙ c .before .before .before .before .before .before .before .before .if1 .left) (sym (c .before .before .before .before .before .is-spelled2 .ensures) ∙ c .before .before .before .before .if2 .left) (misses _ _ _ 18 (c .before .before .before .before .before .before .before .kind-at .ensures) (c .before .before .before .if4 .left)) (sees _ _ _ 23 (c .before .before .before .before .before .before .before .kind-at .ensures) (c .before .before .if5 .taken)) .0 in let n = sizes _ _ _ _ (c .before .before .before .before .before .before .before .before .before .before .before .before .before .before .before .before .before .pre .0) in omega arith
 
 put-literal-requires-2 : tie.Need-put-literal-requires-2
 put-literal-requires-2 c κs = ((c .before .before .before .before .before .before .before .before .before .before .before .before .before .before .before .before .before .pre .0), (string-read _ _ _ (c .before .before .before .before .before .before .before .before .before .before .before .before .before .before .before .before .before .pre .1 .1) (sym (c .before .before .before .before .before .before .before .before .before .is-spelled .ensures) ∙ c .before .before .before .before .before .before .before .before .if1 .left) (sym (c .before .before .before .before .before .is-spelled2 .ensures) ∙ c .before .before .before .before .if2 .left) (misses _ _ _ 18 (c .before .before .before .before .before .before .before .kind-at .ensures) (c .before .before .before .if4 .left)) (sees _ _ _ 23 (c .before .before .before .before .before .before .before .kind-at .ensures) (c .before .before .if5 .taken)) .0, ((c .before .before .before .before .before .before .before .before .before .before .before .before .before .before .before .before .before .pre .1 .0) .strings _ (sees _ _ _ 23 (c .before .before .before .before .before .before .before .kind-at .ensures) (c .before .before .if5 .taken)), room-same (string-read _ _ _ (c .before .before .before .before .before .before .before .before .before .before .before .before .before .before .before .before .before .pre .1 .1) (sym (c .before .before .before .before .before .before .before .before .before .is-spelled .ensures) ∙ c .before .before .before .before .before .before .before .before .if1 .left) (sym (c .before .before .before .before .before .is-spelled2 .ensures) ∙ c .before .before .before .before .if2 .left) (misses _ _ _ 18 (c .before .before .before .before .before .before .before .kind-at .ensures) (c .before .before .before .if4 .left)) (sees _ _ _ 23 (c .before .before .before .before .before .before .before .kind-at .ensures) (c .before .before .if5 .taken)) .1) (c .before .before .before .before .before .before .before .before .before .before .before .before .before .before .before .before .before .pre .1 .1))))
@@ -119,7 +119,7 @@ returns-5 : tie.Need-returns-5
 returns-5 c = built-same (string-read _ _ _ (c .before .before .before .before .before .before .before .before .before .before .before .before .before .before .before .before .before .before .before .before .before .before .pre .1 .1) (sym (c .before .before .before .before .before .before .before .before .before .before .before .before .before .before .is-spelled .ensures) ∙ c .before .before .before .before .before .before .before .before .before .before .before .before .before .if1 .left) (sym (c .before .before .before .before .before .before .before .before .before .before .is-spelled2 .ensures) ∙ c .before .before .before .before .before .before .before .before .before .if2 .left) (misses _ _ _ 18 (c .before .before .before .before .before .before .before .before .before .before .before .before .kind-at .ensures) (c .before .before .before .before .before .before .before .before .if4 .left)) (sees _ _ _ 23 (c .before .before .before .before .before .before .before .before .before .before .before .before .kind-at .ensures) (c .before .before .before .before .before .before .before .if5 .taken)) .1) (c .before .before .before .before .put-literal2 .ensures)
 
 add-put-literal-8 : tie.Need-add-put-literal-8
-add-put-literal-8 c = let w = insens-read _ _ _ (c .before .before .before .before .before .before .before .before .before .before .before .before .before .before .before .before .before .before .pre .1 .1) (sym (c .before .before .before .before .before .before .before .before .before .before .is-spelled .ensures) ∙ c .before .before .before .before .before .before .before .before .before .if1 .left) (sym (c .before .before .before .before .before .before .is-spelled2 .ensures) ∙ c .before .before .before .before .before .if2 .left) (misses _ _ _ 18 (c .before .before .before .before .before .before .before .before .kind-at .ensures) (c .before .before .before .before .if4 .left)) (misses _ _ _ 23 (c .before .before .before .before .before .before .before .before .kind-at .ensures) (c .before .before .before .if5 .left)) (sees _ _ _ 24 (c .before .before .before .before .before .before .before .before .kind-at .ensures) (c .before .before .if6 .taken)) .0 in let n = not-many _ _ _ _ (c .before .before .before .before .before .before .before .before .before .before .before .before .before .before .before .before .before .before .pre .0) in omega arith
+add-put-literal-8 c = let w = insens-read _ _ _ (c .before .before .before .before .before .before .before .before .before .before .before .before .before .before .before .before .before .before .pre .1 .1) (sym (c .before .before .before .before .before .before .before .before .before .before .is-spelled .ensures) ∙ c .before .before .before .before .before .before .before .before .before .if1 .left) (sym (c .before .before .before .before .before .before .is-spelled2 .ensures) ∙ c .before .before .before .before .before .if2 .left) (misses _ _ _ 18 (c .before .before .before .before .before .before .before .before .kind-at .ensures) (c .before .before .before .before .if4 .left)) (misses _ _ _ 23 (c .before .before .before .before .before .before .before .before .kind-at .ensures) (c .before .before .before .if5 .left)) (sees _ _ _ 24 (c .before .before .before .before .before .before .before .before .kind-at .ensures) (c .before .before .if6 .taken)) .0 in let n = sizes _ _ _ _ (c .before .before .before .before .before .before .before .before .before .before .before .before .before .before .before .before .before .before .pre .0) in omega arith
 
 put-literal-requires-3 : tie.Need-put-literal-requires-3
 put-literal-requires-3 c κs = ((c .before .before .before .before .before .before .before .before .before .before .before .before .before .before .before .before .before .before .pre .0), (insens-read _ _ _ (c .before .before .before .before .before .before .before .before .before .before .before .before .before .before .before .before .before .before .pre .1 .1) (sym (c .before .before .before .before .before .before .before .before .before .before .is-spelled .ensures) ∙ c .before .before .before .before .before .before .before .before .before .if1 .left) (sym (c .before .before .before .before .before .before .is-spelled2 .ensures) ∙ c .before .before .before .before .before .if2 .left) (misses _ _ _ 18 (c .before .before .before .before .before .before .before .before .kind-at .ensures) (c .before .before .before .before .if4 .left)) (misses _ _ _ 23 (c .before .before .before .before .before .before .before .before .kind-at .ensures) (c .before .before .before .if5 .left)) (sees _ _ _ 24 (c .before .before .before .before .before .before .before .before .kind-at .ensures) (c .before .before .if6 .taken)) .0, ((c .before .before .before .before .before .before .before .before .before .before .before .before .before .before .before .before .before .before .pre .1 .0) .insens _ (sees _ _ _ 24 (c .before .before .before .before .before .before .before .before .kind-at .ensures) (c .before .before .if6 .taken)), room-same (insens-read _ _ _ (c .before .before .before .before .before .before .before .before .before .before .before .before .before .before .before .before .before .before .pre .1 .1) (sym (c .before .before .before .before .before .before .before .before .before .before .is-spelled .ensures) ∙ c .before .before .before .before .before .before .before .before .before .if1 .left) (sym (c .before .before .before .before .before .before .is-spelled2 .ensures) ∙ c .before .before .before .before .before .if2 .left) (misses _ _ _ 18 (c .before .before .before .before .before .before .before .before .kind-at .ensures) (c .before .before .before .before .if4 .left)) (misses _ _ _ 23 (c .before .before .before .before .before .before .before .before .kind-at .ensures) (c .before .before .before .if5 .left)) (sees _ _ _ 24 (c .before .before .before .before .before .before .before .before .kind-at .ensures) (c .before .before .if6 .taken)) .1) (c .before .before .before .before .before .before .before .before .before .before .before .before .before .before .before .before .before .before .pre .1 .1))))

@@ -1,7 +1,7 @@
 use mathlib.Core.Path.{refl}
 use native.Mathlib.Omega.{arith}
 use Rattle.structure.proofs.Steps.{inside-is, sees}
-use Rattle.reader.proofs.Orders.{low, spans}
+use Rattle.structure.proofs.Arrays.{low, spans}
 use Rattle.reader.proofs.Worths.{integer-negative, integer-positive}
 use borrow.Author.Needs.{needs}
 use Rattle.reader.proofs.inner.values.integer_at.Statement.{statement}

@@ -1,6 +1,6 @@
 use mathlib.Core.Path.{_∙_}
 use native.Mathlib.Omega.{arith}
-use Rattle.reader.proofs.Orders.{low}
+use Rattle.structure.proofs.Arrays.{low}
 use Rattle.reader.proofs.Worths.{spells-kind, spells-length, spells-bytes}
 use borrow.Author.Needs.{needs}
 use Rattle.reader.proofs.inner.values.is_spelled.Statement.{statement}

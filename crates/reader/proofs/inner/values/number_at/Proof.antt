@@ -1,5 +1,5 @@
 use native.Mathlib.Omega.{arith}
-use Rattle.reader.proofs.Orders.{low}
+use Rattle.structure.proofs.Arrays.{low}
 use Rattle.reader.proofs.Worths.{number-is}
 use borrow.Author.Needs.{needs}
 use Rattle.reader.proofs.inner.values.number_at.Statement.{statement}
