@@ -13,7 +13,10 @@ is-integer-requires : tie.Need-is-integer-requires
 is-integer-requires c κs = search needs
 
 integer-at-requires : tie.Need-integer-at-requires
-integer-at-requires c κs = search needs
+integer-at-requires c κs =
+    let start = c .before .before .before .before .before .before .before .before in
+    let w = from-read _ _ _ (start .pre .1) (sym (c .before .is-integer .ensures) ∙ c .if1 .taken) .0 in
+    (start .pre .0, omega arith)
 
 add-put-slice-to : tie.Need-add-put-slice-to
 add-put-slice-to c = let w = from-read _ _ _ (c .before .before .before .before .before .before .before .before .before .before .before .pre .1) (sym (c .before .before .before .before .is-integer .ensures) ∙ c .before .before .before .if1 .taken) .0 in let n = sizes _ _ _ _ (c .before .before .before .before .before .before .before .before .before .before .before .pre .0) in omega arith

@@ -18,7 +18,10 @@ is-integer-requires : tie.Need-is-integer-requires
 is-integer-requires c κs = search needs
 
 integer-at-requires : tie.Need-integer-at-requires
-integer-at-requires c κs = search needs
+integer-at-requires c κs =
+    let start = c .before .before .before .before .before .before .before .before .before in
+    let w = to-read _ _ _ _ (start .pre .1) (sym (c .before .is-integer .ensures) ∙ c .if1 .taken) .0 in
+    (start .pre .0, omega arith)
 
 add-end-at : tie.Need-add-end-at
 add-end-at c = let w = to-read _ _ _ _ (c .before .before .before .before .before .before .before .before .before .before .pre .1) (sym (c .before .before .is-integer .ensures) ∙ c .before .if1 .taken) .0 in let n = sizes _ _ _ _ (c .before .before .before .before .before .before .before .before .before .before .pre .0) in omega arith

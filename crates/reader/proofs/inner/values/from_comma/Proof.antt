@@ -24,7 +24,7 @@ returns-2 : tie.Need-returns-2
 returns-2 c = comma-number _ _ _ (c .before .before .before .kind-at .ensures) (c .before .before .if1 .left) _ (c .before .kind-at2 .ensures) (c .if2 .taken)
 
 number-at-requires : tie.Need-number-at-requires
-number-at-requires c κs = search needs
+number-at-requires c κs = (c .before .before .before .before .before .before .before .before .pre, inside-is _ _ 20 (omega arith) (sees _ _ _ 20 (c .before .kind-at2 .ensures) (c .if2 .left)))
 
 add-k : tie.Need-add-k
 add-k c = let b = inside-is _ _ 15 (omega arith) (sees _ _ _ 15 (c .before .before .before .before .kind-at .ensures) (c .before .before .before .if1 .left)) in let n = sizes _ _ _ _ (c .before .before .before .before .before .before .before .before .before .pre) in omega arith

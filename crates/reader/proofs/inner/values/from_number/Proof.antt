@@ -1,5 +1,5 @@
 use native.Mathlib.Omega.{arith}
-use Rattle.structure.proofs.Steps.{inside-is}
+use Rattle.structure.proofs.Steps.{inside-is, sees}
 use Rattle.structure.proofs.Arrays.{sizes}
 use Rattle.reader.proofs.Worths.{exact, no-comma, least, no-number, no-close, both}
 use borrow.Author.Needs.{needs}
@@ -9,7 +9,7 @@ use Rattle.reader.proofs.inner.values.number_at.Reads as number-at-read
 use Rattle.structure.proofs.inner.tokens.kind_at.Reads as kind-at-reads
 
 number-at-requires : tie.Need-number-at-requires
-number-at-requires c κs = search needs
+number-at-requires c κs = let start = c .before .before .before .before in (start .pre .0, inside-is _ _ 20 (omega arith) (start .pre .1))
 
 add-kind-at : tie.Need-add-kind-at
 add-kind-at c = let b = inside-is _ _ 20 (omega arith) (c .before .before .before .before .before .pre .1) in let n = sizes _ _ _ _ (c .before .before .before .before .before .pre .0) in omega arith
@@ -45,7 +45,7 @@ returns-4 : tie.Need-returns-4
 returns-4 c = no-number _ _ _ _ (c .before .before .before .before .before .before .number-at .ensures) (c .before .before .before .before .before .kind-at .ensures) (c .before .before .before .before .if1 .left) (c .before .before .before .if2 .left) _ (c .before .before .kind-at2 .ensures) (c .before .if3 .left) (c .if4 .taken)
 
 number-at-requires-2 : tie.Need-number-at-requires-2
-number-at-requires-2 c κs = search needs
+number-at-requires-2 c κs = (c .before .before .before .before .before .before .before .before .before .before .before .pre .0, inside-is _ _ 20 (omega arith) (sees _ _ _ 20 (c .before .before .kind-at2 .ensures) (c .if4 .left)))
 
 add-k : tie.Need-add-k
 add-k c = let b = inside-is _ _ 20 (omega arith) (c .before .before .before .before .before .before .before .before .before .before .before .before .pre .1) in let n = sizes _ _ _ _ (c .before .before .before .before .before .before .before .before .before .before .before .before .pre .0) in omega arith
