@@ -32,7 +32,7 @@ use Rattle.structure.proofs.Cycle.{falls-term}
 use Rattle.reader.specs.declared.Placed.{Placed}
 use Rattle.reader.specs.declared.Trailed.{Trailed}
 use Rattle.reader.specs.Build.{written, most, Room, Laid, Built, SignsRoom, SignsPut, PostsRoom, PostsPut, Trails, labelled, tagText, pastTag, bracketed, Opened, headAt, tagCount, TagRoom, Tied}
-use Rattle.reader.proofs.Orders.{low}
+use Rattle.structure.proofs.Arrays.{low}
 use Rattle.reader.proofs.Patches.{spanned}
 use Rattle.reader.proofs.Lays.{laid-long}
 use Rattle.reader.proofs.Loops.{stop-signs, count-signs}

@@ -1,7 +1,7 @@
 -- The laws of the building pass.
 pub mod Patches
 pub mod Lays
-pub mod Orders
+pub mod Parts
 pub mod Worths
 pub mod Leaves
 pub mod Loops

@@ -28,7 +28,7 @@ use Rattle.reader.specs.declared.Trailed.{Trailed}
 use Rattle.reader.specs.Build.{written, most, Laid, Over, SignsRoom, SignsPut, PostsRoom, PostsPut, Trails, suffixOf, chosenEnd, chosenOf, ChoiceRoom}
 use Rattle.reader.proofs.Patches.{spanned, length-written}
 use Rattle.reader.proofs.Lays.{one-laid}
-use Rattle.reader.proofs.Orders.{low}
+use Rattle.structure.proofs.Arrays.{low}
 
 -- a record over a tree's records
 pub one-holds : (o tbl tbl′ : List ℕ) (t : Tree Span) (f free : ℕ) (s : Span) (u : Unary) (g c : ℕ) → tbl ≡ written o f (flat f free t) → g ≡ f + count t → c ≡ f + below t

@@ -26,7 +26,8 @@ use Rattle.structure.proofs.Sizes.{count-one, size-one}
 use Rattle.structure.proofs.Grammar.{term-law}
 use Rattle.reader.specs.declared.Placed.{Placed}
 use Rattle.reader.specs.Build.{written, most, Fits, Room, Built, StartMoved, Opened, bracketed, labelled, tagText, pastTag, headAt, TagRoom, Tied, tagCount}
-use Rattle.reader.proofs.Orders.{low, spans, label-is, part-length}
+use Rattle.structure.proofs.Arrays.{low, spans}
+use Rattle.reader.proofs.Parts.{label-is}
 use Rattle.reader.proofs.Patches.{spanned, length-written}
 use Rattle.reader.proofs.Lays.{tag-laid}
 

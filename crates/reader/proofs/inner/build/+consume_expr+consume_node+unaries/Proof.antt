@@ -1,17 +1,16 @@
 use Rattle.reader.proofs.Finishes.{built-long, tag-room, node-falls, node-room, posts-room, open-room, signs-room, tie-room, term-built}
-use Rattle.reader.proofs.Nodes.{group-in, group-deep, group-room, group-last, group-built, push-in, push-room, push-over, push-built, leaf-read}
+use Rattle.reader.proofs.Nodes.{start-low, end-low, group-in, group-deep, group-room, group-last, group-built, push-in, push-room, push-over, push-built, leaf-read}
 use Rattle.reader.proofs.Chains.{LoopInv, first-room, build-start, choice-room, build-done, bar-inside, bar-room, bar-more, seq-inside, seq-room, seq-over, seq-more}
 use Rattle.reader.proofs.Leaves.{room-same, built-same}
 use Rattle.structure.proofs.Steps.{sees, misses}
-use Rattle.structure.proofs.Arrays.{sizes, fewer, low}
+use Rattle.structure.proofs.Arrays.{sizes, fewer}
 use Rattle.structure.specs.Answers.{unread}
 use Rattle.structure.specs.Tokens.{toks}
 use borrow.Author.Needs.{needs}
 use native.Mathlib.Omega.{arith}
 use lib.ListN.{length}
-use mathlib.Core.List.{List}
-use Prim.Native.Nat.{_-_, _+_, _*_, _≤_}
-use mathlib.Core.Path.{_≡_, refl, sym, _∙_, ap}
+use Prim.Native.Nat.{_-_, _+_, _*_}
+use mathlib.Core.Path.{sym, _∙_}
 use Prim.Native.Nat.{ℕ, _<_}
 use borrow.Fn.Kinds.{In, Out}
 use borrow.Fn.PlainCycle.{Measures, is, falls, and}
@@ -101,257 +100,715 @@ of-consume-node N t = N (kind-at-reads.Asked, kind-at-reads.Learnt, consume-expr
 abbrev of-unaries : ((k : unaries-lts.Claims) (p : In 6 unaries-kinds.ps) (q : Out 6 unaries-kinds.ps unaries-kinds.r) → Type 0) → ℕ → Type 0
 of-unaries N t = N (get-node-tag-reads.Asked, get-node-tag-reads.Learnt, signs-end-reads.Asked, signs-end-reads.Learnt, consume-node-below t, consume-node.Post, put-postfixes-reads.Asked, put-postfixes-reads.Learnt, open-at-reads.Asked, open-at-reads.Learnt, put-signs-reads.Asked, put-signs-reads.Learnt, head-at-reads.Asked, head-at-reads.Learnt, put-tag-reads.Asked, put-tag-reads.Learnt) (unaries-at t) unaries.Post
 
--- src/inner/build.rt:46:9
 consume-expr-unaries-requires : (t : ℕ) → of-consume-expr consume-expr-lts.Need-unaries-requires t
-consume-expr-unaries-requires t c κs = (omega (arith, c .before .before .before .before .before .before .before .before .pre .0), (c .before .before .before .before .before .before .before .before .pre .1 .0, (c .before .before .before .before .before .before .before .before .pre .1 .1 .0, first-room _ _ _ _ _ _ _ _ (c .before .before .before .before .before .before .before .before .pre .1 .1 .1))))
+consume-expr-unaries-requires t c κs =
+    let start = c .before .before .before .before .before .before .before .before in
+    let measured = start .pre .0 in
+    let lent = start .pre .1 .0 in
+    let scalars = start .pre .1 .1 .0 in
+    let room = start .pre .1 .1 .1 in
+    (omega (arith, measured), (lent, (scalars, first-room _ _ _ _ _ _ _ _ room)))
 
--- src/inner/build.rt:55:5
 consume-expr-loop-holds : (t : ℕ) → of-consume-expr consume-expr-lts.Need-loop-holds t
 consume-expr-loop-holds t c = λ table store g d. build-start _ _ _ _ _ _ _ _ g _ _ _ d
 
--- src/inner/build.rt:56:13
 consume-expr-kind-at-requires : (t : ℕ) → of-consume-expr consume-expr-lts.Need-kind-at-requires t
-consume-expr-kind-at-requires t c κs = c .before .before .before .before .before .before .before .before .before .before .before .before .before .before .pre .1 .0
+consume-expr-kind-at-requires t c κs = search needs
 
--- src/inner/build.rt:58:87
 consume-expr-add-unaries : (t : ℕ) → of-consume-expr consume-expr-lts.Need-add-unaries t
-consume-expr-add-unaries t c = let i = seq-inside _ _ _ _ _ _ _ _ (c .before .before .before .before .before .before .before .before .before .before .before .before .before .before .before .before .before .before .pre .1 .1 .1) _ _ _ _ _ _ _ _ _ _ (c .before .before .before .before .loop .inv _ _ (c .before .before .before .before .before .before .before .before .before .before .before .before .before .before .before .before .before .before .pre .1 .1 .1) (c .before .before .before .before .before .before .before .before .before .unaries .ensures)) (sees _ _ _ 10 (c .before .before .before .kind-at .ensures) (c .before .before .if1 .taken)) in let z = sizes _ _ _ _ (c .before .before .before .before .before .before .before .before .before .before .before .before .before .before .before .before .before .before .pre .1 .0) in omega arith
+consume-expr-add-unaries t c =
+    let at-if1 = c .before .before in
+    let at-kind-at = at-if1 .before in
+    let at-loop = at-kind-at .before in
+    let at-unaries = at-loop .before .before .before .before .before in
+    let start = at-unaries .before .before .before .before .before .before .before .before .before in
+    let room = start .pre .1 .1 .1 in
+    let inv = at-loop .loop .inv _ _ room (at-unaries .unaries .ensures) in
+    let seq = sees _ _ _ 10 (at-kind-at .kind-at .ensures) (at-if1 .if1 .taken) in
+    let inside = seq-inside _ _ _ _ _ _ _ _ room _ _ _ _ _ _ _ _ _ _ inv seq in
+    let lent = start .pre .1 .0 in
+    let few = sizes _ _ _ _ lent .3 in
+    omega (arith, inside, few)
 
--- src/inner/build.rt:58:17
 consume-expr-unaries-requires-2 : (t : ℕ) → of-consume-expr consume-expr-lts.Need-unaries-requires-2 t
 consume-expr-unaries-requires-2 t c κs =
-    let i = seq-inside _ _ _ _ _ _ _ _ (c .before .before .before .before .before .before .before .before .before .before .before .before .before .before .before .before .before .before .pre .1 .1 .1) _ _ _ _ _ _ _ _ _ _ (c .before .before .before .before .loop .inv _ _ (c .before .before .before .before .before .before .before .before .before .before .before .before .before .before .before .before .before .before .pre .1 .1 .1) (c .before .before .before .before .before .before .before .before .before .unaries .ensures)) (sees _ _ _ 10 (c .before .before .before .kind-at .ensures) (c .before .before .if1 .taken)) in
-    let e = (c .before .before .before .before .loop .inv _ _ (c .before .before .before .before .before .before .before .before .before .before .before .before .before .before .before .before .before .before .pre .1 .1 .1) (c .before .before .before .before .before .before .before .before .before .unaries .ensures)) .past in
-    let f = fewer _ _ _ _ (c .before .before .before .before .before .before .before .before .before .before .before .before .before .before .before .before .before .before .args .at) (c .before .before .before .before .loop .i + 1) (c .before .before .before .before .before .before .before .before .before .before .before .before .before .before .before .before .before .before .pre .1 .0) (omega arith) (omega arith) in
-    (omega (arith, c .before .before .before .before .before .before .before .before .before .before .before .before .before .before .before .before .before .before .pre .0), (c .before .before .before .before .before .before .before .before .before .before .before .before .before .before .before .before .before .before .pre .1 .0, (c .before .before .before .before .before .before .before .before .before .before .before .before .before .before .before .before .before .before .pre .1 .1 .0, seq-room _ _ _ _ _ _ _ _ (c .before .before .before .before .before .before .before .before .before .before .before .before .before .before .before .before .before .before .pre .1 .1 .1) _ _ _ _ _ _ _ _ _ _ (c .before .before .before .before .loop .inv _ _ (c .before .before .before .before .before .before .before .before .before .before .before .before .before .before .before .before .before .before .pre .1 .1 .1) (c .before .before .before .before .before .before .before .before .before .unaries .ensures)) (sees _ _ _ 10 (c .before .before .before .kind-at .ensures) (c .before .before .if1 .taken)))))
+    let at-if1 = c .before .before in
+    let at-kind-at = at-if1 .before in
+    let at-loop = at-kind-at .before in
+    let at-unaries = at-loop .before .before .before .before .before in
+    let start = at-unaries .before .before .before .before .before .before .before .before .before in
+    let measured = start .pre .0 in
+    let lent = start .pre .1 .0 in
+    let room = start .pre .1 .1 .1 in
+    let inv = at-loop .loop .inv _ _ room (at-unaries .unaries .ensures) in
+    let seq = sees _ _ _ 10 (at-kind-at .kind-at .ensures) (at-if1 .if1 .taken) in
+    let inside = seq-inside _ _ _ _ _ _ _ _ room _ _ _ _ _ _ _ _ _ _ inv seq in
+    let fewer-left = fewer _ _ _ _ (start .args .at) (at-loop .loop .i + 1) lent (omega (arith, inv .past)) (omega (arith, inside)) in
+    let scalars = start .pre .1 .1 .0 in
+    (omega (arith, measured, fewer-left), (lent, (scalars, seq-room _ _ _ _ _ _ _ _ room _ _ _ _ _ _ _ _ _ _ inv seq)))
 
--- src/inner/build.rt:59:65
 consume-expr-sub-put-join : (t : ℕ) → of-consume-expr consume-expr-lts.Need-sub-put-join t
-consume-expr-sub-put-join t c = let p = seq-over _ _ _ _ _ _ _ _ (c .before .before .before .before .before .before .before .before .before .before .before .before .before .before .before .before .before .before .before .before .before .before .before .before .pre .1 .1 .1) _ _ _ _ _ _ _ _ _ _ (c .before .before .before .before .before .before .before .before .before .before .loop .inv _ _ (c .before .before .before .before .before .before .before .before .before .before .before .before .before .before .before .before .before .before .before .before .before .before .before .before .pre .1 .1 .1) (c .before .before .before .before .before .before .before .before .before .before .before .before .before .before .before .unaries .ensures)) (sees _ _ _ 10 (c .before .before .before .before .before .before .before .before .before .kind-at .ensures) (c .before .before .before .before .before .before .before .before .if1 .taken)) _ _ _ (c .before .before .before .before .before .unaries2 .ensures) .2 in omega arith
+consume-expr-sub-put-join t c =
+    let at-unaries2 = c .before .before .before .before .before in
+    let at-if1 = at-unaries2 .before .before .before in
+    let at-kind-at = at-if1 .before in
+    let at-loop = at-kind-at .before in
+    let at-unaries = at-loop .before .before .before .before .before in
+    let start = at-unaries .before .before .before .before .before .before .before .before .before in
+    let room = start .pre .1 .1 .1 in
+    let inv = at-loop .loop .inv _ _ room (at-unaries .unaries .ensures) in
+    let seq = sees _ _ _ 10 (at-kind-at .kind-at .ensures) (at-if1 .if1 .taken) in
+    let over = seq-over _ _ _ _ _ _ _ _ room _ _ _ _ _ _ _ _ _ _ inv seq _ _ _ (at-unaries2 .unaries2 .ensures) in
+    omega (arith, over .2)
 
--- src/inner/build.rt:59:13
 consume-expr-put-join-requires : (t : ℕ) → of-consume-expr consume-expr-lts.Need-put-join-requires t
-consume-expr-put-join-requires t c κs = let p = seq-over _ _ _ _ _ _ _ _ (c .before .before .before .before .before .before .before .before .before .before .before .before .before .before .before .before .before .before .before .before .before .before .before .before .pre .1 .1 .1) _ _ _ _ _ _ _ _ _ _ (c .before .before .before .before .before .before .before .before .before .before .loop .inv _ _ (c .before .before .before .before .before .before .before .before .before .before .before .before .before .before .before .before .before .before .before .before .before .before .before .before .pre .1 .1 .1) (c .before .before .before .before .before .before .before .before .before .before .before .before .before .before .before .unaries .ensures)) (sees _ _ _ 10 (c .before .before .before .before .before .before .before .before .before .kind-at .ensures) (c .before .before .before .before .before .before .before .before .if1 .taken)) _ _ _ (c .before .before .before .before .before .unaries2 .ensures) in let q = p .1 in (p .0, omega arith)
+consume-expr-put-join-requires t c κs =
+    let at-unaries2 = c .before .before .before .before .before in
+    let at-if1 = at-unaries2 .before .before .before in
+    let at-kind-at = at-if1 .before in
+    let at-loop = at-kind-at .before in
+    let at-unaries = at-loop .before .before .before .before .before in
+    let start = at-unaries .before .before .before .before .before .before .before .before .before in
+    let room = start .pre .1 .1 .1 in
+    let inv = at-loop .loop .inv _ _ room (at-unaries .unaries .ensures) in
+    let seq = sees _ _ _ 10 (at-kind-at .kind-at .ensures) (at-if1 .if1 .taken) in
+    let over = seq-over _ _ _ _ _ _ _ _ room _ _ _ _ _ _ _ _ _ _ inv seq _ _ _ (at-unaries2 .unaries2 .ensures) in
+    (over .0, omega (arith, over .1))
 
--- src/inner/build.rt:61:17
 consume-expr-add-u : (t : ℕ) → of-consume-expr consume-expr-lts.Need-add-u t
-consume-expr-add-u t c = let p = seq-over _ _ _ _ _ _ _ _ (c .before .before .before .before .before .before .before .before .before .before .before .before .before .before .before .before .before .before .before .before .before .before .before .before .before .before .before .before .pre .1 .1 .1) _ _ _ _ _ _ _ _ _ _ (c .before .before .before .before .before .before .before .before .before .before .before .before .before .before .loop .inv _ _ (c .before .before .before .before .before .before .before .before .before .before .before .before .before .before .before .before .before .before .before .before .before .before .before .before .before .before .before .before .pre .1 .1 .1) (c .before .before .before .before .before .before .before .before .before .before .before .before .before .before .before .before .before .before .before .unaries .ensures)) (sees _ _ _ 10 (c .before .before .before .before .before .before .before .before .before .before .before .before .before .kind-at .ensures) (c .before .before .before .before .before .before .before .before .before .before .before .before .if1 .taken)) _ _ _ (c .before .before .before .before .before .before .before .before .before .unaries2 .ensures) .3 in omega arith
+consume-expr-add-u t c =
+    let at-unaries2 = c .before .before .before .before .before .before .before .before .before in
+    let at-if1 = at-unaries2 .before .before .before in
+    let at-kind-at = at-if1 .before in
+    let at-loop = at-kind-at .before in
+    let at-unaries = at-loop .before .before .before .before .before in
+    let start = at-unaries .before .before .before .before .before .before .before .before .before in
+    let room = start .pre .1 .1 .1 in
+    let inv = at-loop .loop .inv _ _ room (at-unaries .unaries .ensures) in
+    let seq = sees _ _ _ 10 (at-kind-at .kind-at .ensures) (at-if1 .if1 .taken) in
+    let over = seq-over _ _ _ _ _ _ _ _ room _ _ _ _ _ _ _ _ _ _ inv seq _ _ _ (at-unaries2 .unaries2 .ensures) in
+    omega (arith, over .3)
 
--- src/inner/build.rt:55:5
 consume-expr-loop-less : (t : ℕ) → of-consume-expr consume-expr-lts.Need-loop-less t
 consume-expr-loop-less t c =
-    let p = seq-more _ _ _ _ _ _ _ _ (c .before .before .before .before .before .before .before .before .before .before .before .before .before .before .before .before .before .before .before .before .before .before .before .before .before .before .before .before .pre .1 .1 .1) _ _ _ _ _ _ _ _ _ _ (c .before .before .before .before .before .before .before .before .before .before .before .before .before .before .loop .inv _ _ (c .before .before .before .before .before .before .before .before .before .before .before .before .before .before .before .before .before .before .before .before .before .before .before .before .before .before .before .before .pre .1 .1 .1) (c .before .before .before .before .before .before .before .before .before .before .before .before .before .before .before .before .before .before .before .unaries .ensures)) (sees _ _ _ 10 (c .before .before .before .before .before .before .before .before .before .before .before .before .before .kind-at .ensures) (c .before .before .before .before .before .before .before .before .before .before .before .before .if1 .taken)) _ _ _ (c .before .before .before .before .before .before .before .before .before .unaries2 .ensures) _ (c .before .before .before .put-join .ensures) in
-    let i = p .0 in
-    let j = p .1 .within in
-    omega arith
+    let at-put-join = c .before .before .before in
+    let at-unaries2 = at-put-join .before .before .before .before .before .before in
+    let at-if1 = at-unaries2 .before .before .before in
+    let at-kind-at = at-if1 .before in
+    let at-loop = at-kind-at .before in
+    let at-unaries = at-loop .before .before .before .before .before in
+    let start = at-unaries .before .before .before .before .before .before .before .before .before in
+    let room = start .pre .1 .1 .1 in
+    let inv = at-loop .loop .inv _ _ room (at-unaries .unaries .ensures) in
+    let seq = sees _ _ _ 10 (at-kind-at .kind-at .ensures) (at-if1 .if1 .taken) in
+    let more = seq-more _ _ _ _ _ _ _ _ room _ _ _ _ _ _ _ _ _ _ inv seq _ _ _ (at-unaries2 .unaries2 .ensures) _ (at-put-join .put-join .ensures) in
+    omega (arith, more .0, more .1 .within)
 
--- src/inner/build.rt:55:5
 consume-expr-loop-again : (t : ℕ) → of-consume-expr consume-expr-lts.Need-loop-again t
-consume-expr-loop-again t c = λ table store g d. seq-more _ _ _ _ _ _ _ _ g _ _ _ _ _ _ _ _ _ _ (c .before .before .before .before .before .before .before .before .before .before .before .before .before .before .loop .inv table store g d) (sees _ _ _ 10 (c .before .before .before .before .before .before .before .before .before .before .before .before .before .kind-at .ensures) (c .before .before .before .before .before .before .before .before .before .before .before .before .if1 .taken)) _ _ _ (c .before .before .before .before .before .before .before .before .before .unaries2 .ensures) _ (c .before .before .before .put-join .ensures) .1
+consume-expr-loop-again t c =
+    let at-put-join = c .before .before .before in
+    let at-unaries2 = at-put-join .before .before .before .before .before .before in
+    let at-if1 = at-unaries2 .before .before .before in
+    let at-kind-at = at-if1 .before in
+    let at-loop = at-kind-at .before in
+    let seq = sees _ _ _ 10 (at-kind-at .kind-at .ensures) (at-if1 .if1 .taken) in
+    λ table store g d. seq-more _ _ _ _ _ _ _ _ g _ _ _ _ _ _ _ _ _ _ (at-loop .loop .inv table store g d) seq _ _ _ (at-unaries2 .unaries2 .ensures) _ (at-put-join .put-join .ensures) .1
 
--- src/inner/build.rt:65:13
 consume-expr-put-choice-requires : (t : ℕ) → of-consume-expr consume-expr-lts.Need-put-choice-requires t
-consume-expr-put-choice-requires t c κs = choice-room _ _ _ _ _ _ _ _ (c .before .before .before .before .before .before .before .before .before .before .before .before .before .before .before .before .before .pre .1 .1 .1) _ _ _ _ _ _ _ _ _ _ (c .before .before .before .loop .inv _ _ (c .before .before .before .before .before .before .before .before .before .before .before .before .before .before .before .before .before .pre .1 .1 .1) (c .before .before .before .before .before .before .before .before .unaries .ensures))
+consume-expr-put-choice-requires t c κs =
+    let at-loop = c .before .before .before in
+    let at-unaries = at-loop .before .before .before .before .before in
+    let start = at-unaries .before .before .before .before .before .before .before .before .before in
+    let room = start .pre .1 .1 .1 in
+    let inv = at-loop .loop .inv _ _ room (at-unaries .unaries .ensures) in
+    choice-room _ _ _ _ _ _ _ _ room _ _ _ _ _ _ _ _ _ _ inv
 
--- src/inner/build.rt:67:17
 consume-expr-same-length : (t : ℕ) → of-consume-expr consume-expr-lts.Need-same-length t
-consume-expr-same-length t c = built-long _ _ _ _ _ _ _ _ (build-done _ _ _ _ _ _ _ _ (c .before .before .before .before .before .before .before .before .before .before .before .before .before .before .before .before .before .before .before .before .before .pre .1 .1 .1) _ _ _ _ _ _ _ _ _ _ (c .before .before .before .before .before .before .before .loop .inv _ _ (c .before .before .before .before .before .before .before .before .before .before .before .before .before .before .before .before .before .before .before .before .before .pre .1 .1 .1) (c .before .before .before .before .before .before .before .before .before .before .before .before .unaries .ensures)) _ _ (c .before .before .before .put-choice .ensures .0) (c .before .before .before .put-choice .ensures .1) (misses _ _ _ 10 (c .before .before .before .before .before .before .kind-at .ensures) (c .before .before .before .before .before .if1 .left)) (misses _ _ _ 11 (c .before .before .before .before .before .before .kind-at .ensures) (c .if2 .taken))) .0
+consume-expr-same-length t c =
+    let at-put-choice = c .before .before .before in
+    let at-if1 = at-put-choice .before .before in
+    let at-kind-at = at-if1 .before in
+    let at-loop = at-kind-at .before in
+    let at-unaries = at-loop .before .before .before .before .before in
+    let start = at-unaries .before .before .before .before .before .before .before .before .before in
+    let room = start .pre .1 .1 .1 in
+    let inv = at-loop .loop .inv _ _ room (at-unaries .unaries .ensures) in
+    let closed = at-put-choice .put-choice .ensures in
+    let noseq = misses _ _ _ 10 (at-kind-at .kind-at .ensures) (at-if1 .if1 .left) in
+    let nobar = misses _ _ _ 11 (at-kind-at .kind-at .ensures) (c .if2 .taken) in
+    let done = build-done _ _ _ _ _ _ _ _ room _ _ _ _ _ _ _ _ _ _ inv _ _ (closed .0) (closed .1) noseq nobar in
+    built-long _ _ _ _ _ _ _ _ done .0
 
--- src/inner/build.rt:67:17
 consume-expr-same-length-2 : (t : ℕ) → of-consume-expr consume-expr-lts.Need-same-length-2 t
-consume-expr-same-length-2 t c = built-long _ _ _ _ _ _ _ _ (build-done _ _ _ _ _ _ _ _ (c .before .before .before .before .before .before .before .before .before .before .before .before .before .before .before .before .before .before .before .before .before .pre .1 .1 .1) _ _ _ _ _ _ _ _ _ _ (c .before .before .before .before .before .before .before .loop .inv _ _ (c .before .before .before .before .before .before .before .before .before .before .before .before .before .before .before .before .before .before .before .before .before .pre .1 .1 .1) (c .before .before .before .before .before .before .before .before .before .before .before .before .unaries .ensures)) _ _ (c .before .before .before .put-choice .ensures .0) (c .before .before .before .put-choice .ensures .1) (misses _ _ _ 10 (c .before .before .before .before .before .before .kind-at .ensures) (c .before .before .before .before .before .if1 .left)) (misses _ _ _ 11 (c .before .before .before .before .before .before .kind-at .ensures) (c .if2 .taken))) .1
+consume-expr-same-length-2 t c =
+    let at-put-choice = c .before .before .before in
+    let at-if1 = at-put-choice .before .before in
+    let at-kind-at = at-if1 .before in
+    let at-loop = at-kind-at .before in
+    let at-unaries = at-loop .before .before .before .before .before in
+    let start = at-unaries .before .before .before .before .before .before .before .before .before in
+    let room = start .pre .1 .1 .1 in
+    let inv = at-loop .loop .inv _ _ room (at-unaries .unaries .ensures) in
+    let closed = at-put-choice .put-choice .ensures in
+    let noseq = misses _ _ _ 10 (at-kind-at .kind-at .ensures) (at-if1 .if1 .left) in
+    let nobar = misses _ _ _ 11 (at-kind-at .kind-at .ensures) (c .if2 .taken) in
+    let done = build-done _ _ _ _ _ _ _ _ room _ _ _ _ _ _ _ _ _ _ inv _ _ (closed .0) (closed .1) noseq nobar in
+    built-long _ _ _ _ _ _ _ _ done .1
 
--- src/inner/build.rt:67:17
 consume-expr-returns : (t : ℕ) → of-consume-expr consume-expr-lts.Need-returns t
-consume-expr-returns t c = build-done _ _ _ _ _ _ _ _ (c .before .before .before .before .before .before .before .before .before .before .before .before .before .before .before .before .before .before .before .before .before .pre .1 .1 .1) _ _ _ _ _ _ _ _ _ _ (c .before .before .before .before .before .before .before .loop .inv _ _ (c .before .before .before .before .before .before .before .before .before .before .before .before .before .before .before .before .before .before .before .before .before .pre .1 .1 .1) (c .before .before .before .before .before .before .before .before .before .before .before .before .unaries .ensures)) _ _ (c .before .before .before .put-choice .ensures .0) (c .before .before .before .put-choice .ensures .1) (misses _ _ _ 10 (c .before .before .before .before .before .before .kind-at .ensures) (c .before .before .before .before .before .if1 .left)) (misses _ _ _ 11 (c .before .before .before .before .before .before .kind-at .ensures) (c .if2 .taken))
+consume-expr-returns t c =
+    let at-put-choice = c .before .before .before in
+    let at-if1 = at-put-choice .before .before in
+    let at-kind-at = at-if1 .before in
+    let at-loop = at-kind-at .before in
+    let at-unaries = at-loop .before .before .before .before .before in
+    let start = at-unaries .before .before .before .before .before .before .before .before .before in
+    let room = start .pre .1 .1 .1 in
+    let inv = at-loop .loop .inv _ _ room (at-unaries .unaries .ensures) in
+    let closed = at-put-choice .put-choice .ensures in
+    let noseq = misses _ _ _ 10 (at-kind-at .kind-at .ensures) (at-if1 .if1 .left) in
+    let nobar = misses _ _ _ 11 (at-kind-at .kind-at .ensures) (c .if2 .taken) in
+    build-done _ _ _ _ _ _ _ _ room _ _ _ _ _ _ _ _ _ _ inv _ _ (closed .0) (closed .1) noseq nobar
 
--- src/inner/build.rt:70:20
 consume-expr-sub-left : (t : ℕ) → of-consume-expr consume-expr-lts.Need-sub-left t
-consume-expr-sub-left t c = let p = bar-inside _ _ _ _ _ _ _ _ (c .before .before .before .before .before .before .before .before .before .before .before .before .before .before .before .before .before .before .before .before .before .pre .1 .1 .1) _ _ _ _ _ _ _ _ _ _ (c .before .before .before .before .before .before .before .loop .inv _ _ (c .before .before .before .before .before .before .before .before .before .before .before .before .before .before .before .before .before .before .before .before .before .pre .1 .1 .1) (c .before .before .before .before .before .before .before .before .before .before .before .before .unaries .ensures)) _ _ (c .before .before .before .put-choice .ensures .0) (c .before .before .before .put-choice .ensures .1) (misses _ _ _ 10 (c .before .before .before .before .before .before .kind-at .ensures) (c .before .before .before .before .before .if1 .left)) (sees _ _ _ 11 (c .before .before .before .before .before .before .kind-at .ensures) (c .if2 .left)) .1 in omega arith
+consume-expr-sub-left t c =
+    let at-put-choice = c .before .before .before in
+    let at-if1 = at-put-choice .before .before in
+    let at-kind-at = at-if1 .before in
+    let at-loop = at-kind-at .before in
+    let at-unaries = at-loop .before .before .before .before .before in
+    let start = at-unaries .before .before .before .before .before .before .before .before .before in
+    let room = start .pre .1 .1 .1 in
+    let inv = at-loop .loop .inv _ _ room (at-unaries .unaries .ensures) in
+    let closed = at-put-choice .put-choice .ensures in
+    let noseq = misses _ _ _ 10 (at-kind-at .kind-at .ensures) (at-if1 .if1 .left) in
+    let bar = sees _ _ _ 11 (at-kind-at .kind-at .ensures) (c .if2 .left) in
+    let barred = bar-inside _ _ _ _ _ _ _ _ room _ _ _ _ _ _ _ _ _ _ inv _ _ (closed .0) (closed .1) noseq bar in
+    omega (arith, barred .1)
 
--- src/inner/build.rt:71:87
 consume-expr-add-unaries-2 : (t : ℕ) → of-consume-expr consume-expr-lts.Need-add-unaries-2 t
-consume-expr-add-unaries-2 t c = let p = bar-inside _ _ _ _ _ _ _ _ (c .before .before .before .before .before .before .before .before .before .before .before .before .before .before .before .before .before .before .before .before .before .before .before .pre .1 .1 .1) _ _ _ _ _ _ _ _ _ _ (c .before .before .before .before .before .before .before .before .before .loop .inv _ _ (c .before .before .before .before .before .before .before .before .before .before .before .before .before .before .before .before .before .before .before .before .before .before .before .pre .1 .1 .1) (c .before .before .before .before .before .before .before .before .before .before .before .before .before .before .unaries .ensures)) _ _ (c .before .before .before .before .before .put-choice .ensures .0) (c .before .before .before .before .before .put-choice .ensures .1) (misses _ _ _ 10 (c .before .before .before .before .before .before .before .before .kind-at .ensures) (c .before .before .before .before .before .before .before .if1 .left)) (sees _ _ _ 11 (c .before .before .before .before .before .before .before .before .kind-at .ensures) (c .before .before .if2 .left)) .0 in let z = sizes _ _ _ _ (c .before .before .before .before .before .before .before .before .before .before .before .before .before .before .before .before .before .before .before .before .before .before .before .pre .1 .0) in omega arith
+consume-expr-add-unaries-2 t c =
+    let at-if2 = c .before .before in
+    let at-put-choice = at-if2 .before .before .before in
+    let at-if1 = at-put-choice .before .before in
+    let at-kind-at = at-if1 .before in
+    let at-loop = at-kind-at .before in
+    let at-unaries = at-loop .before .before .before .before .before in
+    let start = at-unaries .before .before .before .before .before .before .before .before .before in
+    let room = start .pre .1 .1 .1 in
+    let inv = at-loop .loop .inv _ _ room (at-unaries .unaries .ensures) in
+    let closed = at-put-choice .put-choice .ensures in
+    let noseq = misses _ _ _ 10 (at-kind-at .kind-at .ensures) (at-if1 .if1 .left) in
+    let bar = sees _ _ _ 11 (at-kind-at .kind-at .ensures) (at-if2 .if2 .left) in
+    let barred = bar-inside _ _ _ _ _ _ _ _ room _ _ _ _ _ _ _ _ _ _ inv _ _ (closed .0) (closed .1) noseq bar in
+    let lent = start .pre .1 .0 in
+    let few = sizes _ _ _ _ lent .3 in
+    omega (arith, barred .0, few)
 
--- src/inner/build.rt:71:17
 consume-expr-unaries-requires-3 : (t : ℕ) → of-consume-expr consume-expr-lts.Need-unaries-requires-3 t
 consume-expr-unaries-requires-3 t c κs =
-    let i = bar-inside _ _ _ _ _ _ _ _ (c .before .before .before .before .before .before .before .before .before .before .before .before .before .before .before .before .before .before .before .before .before .before .before .pre .1 .1 .1) _ _ _ _ _ _ _ _ _ _ (c .before .before .before .before .before .before .before .before .before .loop .inv _ _ (c .before .before .before .before .before .before .before .before .before .before .before .before .before .before .before .before .before .before .before .before .before .before .before .pre .1 .1 .1) (c .before .before .before .before .before .before .before .before .before .before .before .before .before .before .unaries .ensures)) _ _ (c .before .before .before .before .before .put-choice .ensures .0) (c .before .before .before .before .before .put-choice .ensures .1) (misses _ _ _ 10 (c .before .before .before .before .before .before .before .before .kind-at .ensures) (c .before .before .before .before .before .before .before .if1 .left)) (sees _ _ _ 11 (c .before .before .before .before .before .before .before .before .kind-at .ensures) (c .before .before .if2 .left)) .0 in
-    let e = (c .before .before .before .before .before .before .before .before .before .loop .inv _ _ (c .before .before .before .before .before .before .before .before .before .before .before .before .before .before .before .before .before .before .before .before .before .before .before .pre .1 .1 .1) (c .before .before .before .before .before .before .before .before .before .before .before .before .before .before .unaries .ensures)) .past in
-    let f = fewer _ _ _ _ (c .before .before .before .before .before .before .before .before .before .before .before .before .before .before .before .before .before .before .before .before .before .before .before .args .at) (c .before .before .before .before .before .before .before .before .before .loop .i + 1) (c .before .before .before .before .before .before .before .before .before .before .before .before .before .before .before .before .before .before .before .before .before .before .before .pre .1 .0) (omega arith) (omega arith) in
-    (omega (arith, c .before .before .before .before .before .before .before .before .before .before .before .before .before .before .before .before .before .before .before .before .before .before .before .pre .0), (c .before .before .before .before .before .before .before .before .before .before .before .before .before .before .before .before .before .before .before .before .before .before .before .pre .1 .0, (c .before .before .before .before .before .before .before .before .before .before .before .before .before .before .before .before .before .before .before .before .before .before .before .pre .1 .1 .0, bar-room _ _ _ _ _ _ _ _ (c .before .before .before .before .before .before .before .before .before .before .before .before .before .before .before .before .before .before .before .before .before .before .before .pre .1 .1 .1) _ _ _ _ _ _ _ _ _ _ (c .before .before .before .before .before .before .before .before .before .loop .inv _ _ (c .before .before .before .before .before .before .before .before .before .before .before .before .before .before .before .before .before .before .before .before .before .before .before .pre .1 .1 .1) (c .before .before .before .before .before .before .before .before .before .before .before .before .before .before .unaries .ensures)) _ _ (c .before .before .before .before .before .put-choice .ensures .0) (c .before .before .before .before .before .put-choice .ensures .1) (misses _ _ _ 10 (c .before .before .before .before .before .before .before .before .kind-at .ensures) (c .before .before .before .before .before .before .before .if1 .left)) (sees _ _ _ 11 (c .before .before .before .before .before .before .before .before .kind-at .ensures) (c .before .before .if2 .left)))))
+    let at-if2 = c .before .before in
+    let at-put-choice = at-if2 .before .before .before in
+    let at-if1 = at-put-choice .before .before in
+    let at-kind-at = at-if1 .before in
+    let at-loop = at-kind-at .before in
+    let at-unaries = at-loop .before .before .before .before .before in
+    let start = at-unaries .before .before .before .before .before .before .before .before .before in
+    let measured = start .pre .0 in
+    let lent = start .pre .1 .0 in
+    let room = start .pre .1 .1 .1 in
+    let inv = at-loop .loop .inv _ _ room (at-unaries .unaries .ensures) in
+    let closed = at-put-choice .put-choice .ensures in
+    let noseq = misses _ _ _ 10 (at-kind-at .kind-at .ensures) (at-if1 .if1 .left) in
+    let bar = sees _ _ _ 11 (at-kind-at .kind-at .ensures) (at-if2 .if2 .left) in
+    let barred = bar-inside _ _ _ _ _ _ _ _ room _ _ _ _ _ _ _ _ _ _ inv _ _ (closed .0) (closed .1) noseq bar in
+    let fewer-bar = fewer _ _ _ _ (start .args .at) (at-loop .loop .i + 1) lent (omega (arith, inv .past)) (omega (arith, barred .0)) in
+    let scalars = start .pre .1 .1 .0 in
+    (omega (arith, measured, fewer-bar), (lent, (scalars, bar-room _ _ _ _ _ _ _ _ room _ _ _ _ _ _ _ _ _ _ inv _ _ (closed .0) (closed .1) noseq bar)))
 
--- src/inner/build.rt:55:5
 consume-expr-loop-less-2 : (t : ℕ) → of-consume-expr consume-expr-lts.Need-loop-less-2 t
 consume-expr-loop-less-2 t c =
-    let p = bar-more _ _ _ _ _ _ _ _ (c .before .before .before .before .before .before .before .before .before .before .before .before .before .before .before .before .before .before .before .before .before .before .before .before .before .before .before .before .pre .1 .1 .1) _ _ _ _ _ _ _ _ _ _ (c .before .before .before .before .before .before .before .before .before .before .before .before .before .before .loop .inv _ _ (c .before .before .before .before .before .before .before .before .before .before .before .before .before .before .before .before .before .before .before .before .before .before .before .before .before .before .before .before .pre .1 .1 .1) (c .before .before .before .before .before .before .before .before .before .before .before .before .before .before .before .before .before .before .before .unaries .ensures)) _ _ (c .before .before .before .before .before .before .before .before .before .before .put-choice .ensures .0) (c .before .before .before .before .before .before .before .before .before .before .put-choice .ensures .1) (misses _ _ _ 10 (c .before .before .before .before .before .before .before .before .before .before .before .before .before .kind-at .ensures) (c .before .before .before .before .before .before .before .before .before .before .before .before .if1 .left)) (sees _ _ _ 11 (c .before .before .before .before .before .before .before .before .before .before .before .before .before .kind-at .ensures) (c .before .before .before .before .before .before .before .if2 .left)) _ _ _ (c .before .before .before .before .unaries3 .ensures) in
-    let i = p .0 in
-    let j = p .1 .within in
-    omega arith
+    let at-unaries3 = c .before .before .before .before in
+    let at-if2 = at-unaries3 .before .before .before in
+    let at-put-choice = at-if2 .before .before .before in
+    let at-if1 = at-put-choice .before .before in
+    let at-kind-at = at-if1 .before in
+    let at-loop = at-kind-at .before in
+    let at-unaries = at-loop .before .before .before .before .before in
+    let start = at-unaries .before .before .before .before .before .before .before .before .before in
+    let room = start .pre .1 .1 .1 in
+    let inv = at-loop .loop .inv _ _ room (at-unaries .unaries .ensures) in
+    let closed = at-put-choice .put-choice .ensures in
+    let noseq = misses _ _ _ 10 (at-kind-at .kind-at .ensures) (at-if1 .if1 .left) in
+    let bar = sees _ _ _ 11 (at-kind-at .kind-at .ensures) (at-if2 .if2 .left) in
+    let again = bar-more _ _ _ _ _ _ _ _ room _ _ _ _ _ _ _ _ _ _ inv _ _ (closed .0) (closed .1) noseq bar _ _ _ (at-unaries3 .unaries3 .ensures) in
+    omega (arith, again .0, again .1 .within)
 
--- src/inner/build.rt:55:5
 consume-expr-loop-again-2 : (t : ℕ) → of-consume-expr consume-expr-lts.Need-loop-again-2 t
-consume-expr-loop-again-2 t c = λ table store g d. bar-more _ _ _ _ _ _ _ _ g _ _ _ _ _ _ _ _ _ _ (c .before .before .before .before .before .before .before .before .before .before .before .before .before .before .loop .inv table store g d) _ _ (c .before .before .before .before .before .before .before .before .before .before .put-choice .ensures .0) (c .before .before .before .before .before .before .before .before .before .before .put-choice .ensures .1) (misses _ _ _ 10 (c .before .before .before .before .before .before .before .before .before .before .before .before .before .kind-at .ensures) (c .before .before .before .before .before .before .before .before .before .before .before .before .if1 .left)) (sees _ _ _ 11 (c .before .before .before .before .before .before .before .before .before .before .before .before .before .kind-at .ensures) (c .before .before .before .before .before .before .before .if2 .left)) _ _ _ (c .before .before .before .before .unaries3 .ensures) .1
+consume-expr-loop-again-2 t c =
+    let at-unaries3 = c .before .before .before .before in
+    let at-if2 = at-unaries3 .before .before .before in
+    let at-put-choice = at-if2 .before .before .before in
+    let at-if1 = at-put-choice .before .before in
+    let at-kind-at = at-if1 .before in
+    let at-loop = at-kind-at .before in
+    let closed = at-put-choice .put-choice .ensures in
+    let noseq = misses _ _ _ 10 (at-kind-at .kind-at .ensures) (at-if1 .if1 .left) in
+    let bar = sees _ _ _ 11 (at-kind-at .kind-at .ensures) (at-if2 .if2 .left) in
+    λ table store g d. bar-more _ _ _ _ _ _ _ _ g _ _ _ _ _ _ _ _ _ _ (at-loop .loop .inv table store g d) _ _ (closed .0) (closed .1) noseq bar _ _ _ (at-unaries3 .unaries3 .ensures) .1
 
--- src/inner/build.rt:130:8
 consume-node-kind-at-requires : (t : ℕ) → of-consume-node consume-node-lts.Need-kind-at-requires t
-consume-node-kind-at-requires t c κs = c .before .before .before .before .before .before .pre .1 .0
+consume-node-kind-at-requires t c κs = search needs
 
--- src/inner/build.rt:131:82
 consume-node-add-consume-expr : (t : ℕ) → of-consume-node consume-node-lts.Need-add-consume-expr t
-consume-node-add-consume-expr t c = let p = group-in _ _ _ _ _ _ _ _ (c .before .before .before .before .before .before .before .before .before .before .pre .1 .1 .1) (sees _ _ _ 6 (c .before .before .before .kind-at .ensures) (c .before .before .if1 .taken)) in let q = group-deep _ _ _ _ _ _ _ _ (c .before .before .before .before .before .before .before .before .before .before .pre .1 .1 .1) (sees _ _ _ 6 (c .before .before .before .kind-at .ensures) (c .before .before .if1 .taken)) in let z = sizes _ _ _ _ (c .before .before .before .before .before .before .before .before .before .before .pre .1 .0) in omega arith
+consume-node-add-consume-expr t c =
+    let at-if1 = c .before .before in
+    let at-kind-at = at-if1 .before in
+    let start = at-kind-at .before .before .before .before .before .before .before in
+    let room = start .pre .1 .1 .1 in
+    let opens = sees _ _ _ 6 (at-kind-at .kind-at .ensures) (at-if1 .if1 .taken) in
+    let shallow = group-deep _ _ _ _ _ _ _ _ room opens in
+    omega (arith, shallow)
 
--- src/inner/build.rt:131:92
 consume-node-add-consume-expr-2 : (t : ℕ) → of-consume-node consume-node-lts.Need-add-consume-expr-2 t
-consume-node-add-consume-expr-2 t c = let p = group-in _ _ _ _ _ _ _ _ (c .before .before .before .before .before .before .before .before .before .before .pre .1 .1 .1) (sees _ _ _ 6 (c .before .before .before .kind-at .ensures) (c .before .before .if1 .taken)) in let q = group-deep _ _ _ _ _ _ _ _ (c .before .before .before .before .before .before .before .before .before .before .pre .1 .1 .1) (sees _ _ _ 6 (c .before .before .before .kind-at .ensures) (c .before .before .if1 .taken)) in let z = sizes _ _ _ _ (c .before .before .before .before .before .before .before .before .before .before .pre .1 .0) in omega arith
+consume-node-add-consume-expr-2 t c =
+    let at-if1 = c .before .before in
+    let at-kind-at = at-if1 .before in
+    let start = at-kind-at .before .before .before .before .before .before .before in
+    let room = start .pre .1 .1 .1 in
+    let opens = sees _ _ _ 6 (at-kind-at .kind-at .ensures) (at-if1 .if1 .taken) in
+    let open-in = group-in _ _ _ _ _ _ _ _ room opens in
+    let lent = start .pre .1 .0 in
+    let few = sizes _ _ _ _ lent .3 in
+    omega (arith, open-in, few)
 
--- src/inner/build.rt:131:13
 consume-node-consume-expr-requires : (t : ℕ) → of-consume-node consume-node-lts.Need-consume-expr-requires t
 consume-node-consume-expr-requires t c κs =
-    let p = group-in _ _ _ _ _ _ _ _ (c .before .before .before .before .before .before .before .before .before .before .pre .1 .1 .1) (sees _ _ _ 6 (c .before .before .before .kind-at .ensures) (c .before .before .if1 .taken)) in
-    let f = fewer _ _ _ _ (c .before .before .before .before .before .before .before .before .before .before .args .at) (c .before .before .before .before .before .before .before .before .before .before .args .at + 1) (c .before .before .before .before .before .before .before .before .before .before .pre .1 .0) (omega arith) (omega arith) in
-    (omega (arith, c .before .before .before .before .before .before .before .before .before .before .pre .0), (c .before .before .before .before .before .before .before .before .before .before .pre .1 .0, (c .before .before .before .before .before .before .before .before .before .before .pre .1 .1 .0, group-room _ _ _ _ _ _ _ _ (c .before .before .before .before .before .before .before .before .before .before .pre .1 .1 .1) (sees _ _ _ 6 (c .before .before .before .kind-at .ensures) (c .before .before .if1 .taken)))))
+    let at-if1 = c .before .before in
+    let at-kind-at = at-if1 .before in
+    let start = at-kind-at .before .before .before .before .before .before .before in
+    let measured = start .pre .0 in
+    let lent = start .pre .1 .0 in
+    let room = start .pre .1 .1 .1 in
+    let opens = sees _ _ _ 6 (at-kind-at .kind-at .ensures) (at-if1 .if1 .taken) in
+    let open-in = group-in _ _ _ _ _ _ _ _ room opens in
+    let fewer-group = fewer _ _ _ _ (start .args .at) (start .args .at + 1) lent (omega arith) (omega (arith, open-in)) in
+    let scalars = start .pre .1 .1 .0 in
+    (omega (arith, measured, fewer-group), (lent, (scalars, group-room _ _ _ _ _ _ _ _ room opens)))
 
--- src/inner/build.rt:132:13
 consume-node-end-at-requires : (t : ℕ) → of-consume-node consume-node-lts.Need-end-at-requires t
-consume-node-end-at-requires t c κs = c .before .before .before .before .before .before .before .before .before .before .before .before .before .before .before .pre .1 .0
+consume-node-end-at-requires t c κs = search needs
 
--- src/inner/build.rt:133:9
 consume-node-move-end-requires : (t : ℕ) → of-consume-node consume-node-lts.Need-move-end-requires t
-consume-node-move-end-requires t c κs = let p = group-last _ _ _ _ _ _ _ _ (c .before .before .before .before .before .before .before .before .before .before .before .before .before .before .before .before .before .pre .1 .1 .1) (sees _ _ _ 6 (c .before .before .before .before .before .before .before .before .before .before .kind-at .ensures) (c .before .before .before .before .before .before .before .before .before .if1 .taken)) _ _ _ (c .before .before .before .before .before .before .consume-expr .ensures) in (p .0, p .1, (let l = low (c .before .before .before .before .before .before .before .before .before .before .before .before .before .before .before .before .before .args .text .now) (c .before .before .before .before .before .before .consume-expr .result .next) in let b = c .before .end-at .ensures in let h = c .before .before .before .before .before .before .before .before .before .before .before .before .before .before .before .before .before .pre .1 .0 .short in omega arith))
+consume-node-move-end-requires t c κs =
+    let at-end-at = c .before in
+    let at-consume-expr = at-end-at .before .before .before .before .before in
+    let at-if1 = at-consume-expr .before .before .before in
+    let at-kind-at = at-if1 .before in
+    let start = at-kind-at .before .before .before .before .before .before .before in
+    let room = start .pre .1 .1 .1 in
+    let opens = sees _ _ _ 6 (at-kind-at .kind-at .ensures) (at-if1 .if1 .taken) in
+    let last = group-last _ _ _ _ _ _ _ _ room opens _ _ _ (at-consume-expr .consume-expr .ensures) in
+    let lent = start .pre .1 .0 in
+    let z-low = end-low (start .args .text .now) (at-consume-expr .consume-expr .result .next) _ (lent .short) (at-end-at .end-at .ensures) in
+    (last .0, last .1, z-low)
 
--- src/inner/build.rt:134:31
 consume-node-add-t23 : (t : ℕ) → of-consume-node consume-node-lts.Need-add-t23 t
-consume-node-add-t23 t c = let p = group-built _ _ _ _ _ _ _ _ (c .before .before .before .before .before .before .before .before .before .before .before .before .before .before .before .before .before .before .before .before .before .pre .1 .1 .1) (sees _ _ _ 6 (c .before .before .before .before .before .before .before .before .before .before .before .before .before .before .kind-at .ensures) (c .before .before .before .before .before .before .before .before .before .before .before .before .before .if1 .taken)) _ _ _ (c .before .before .before .before .before .before .before .before .before .before .consume-expr .ensures) _ (c .before .before .before .before .before .end-at .ensures) (let l = low (c .before .before .before .before .before .before .before .before .before .before .before .before .before .before .before .before .before .before .before .before .before .args .text .now) (c .before .before .before .before .before .before .before .before .before .before .consume-expr .result .next) in let b = c .before .before .before .before .before .end-at .ensures in let h = c .before .before .before .before .before .before .before .before .before .before .before .before .before .before .before .before .before .before .before .before .before .pre .1 .0 .short in omega arith) _ (c .before .before .before .move-end .ensures) .0 in let z = sizes _ _ _ _ (c .before .before .before .before .before .before .before .before .before .before .before .before .before .before .before .before .before .before .before .before .before .pre .1 .0) in omega arith
+consume-node-add-t23 t c =
+    let at-move-end = c .before .before .before in
+    let at-end-at = at-move-end .before .before in
+    let at-consume-expr = at-end-at .before .before .before .before .before in
+    let at-if1 = at-consume-expr .before .before .before in
+    let at-kind-at = at-if1 .before in
+    let start = at-kind-at .before .before .before .before .before .before .before in
+    let room = start .pre .1 .1 .1 in
+    let opens = sees _ _ _ 6 (at-kind-at .kind-at .ensures) (at-if1 .if1 .taken) in
+    let lent = start .pre .1 .0 in
+    let z-low = end-low (start .args .text .now) (at-consume-expr .consume-expr .result .next) _ (lent .short) (at-end-at .end-at .ensures) in
+    let group = group-built _ _ _ _ _ _ _ _ room opens _ _ _ (at-consume-expr .consume-expr .ensures) _ (at-end-at .end-at .ensures) z-low _ (at-move-end .move-end .ensures) in
+    let few = sizes _ _ _ _ lent .3 in
+    omega (arith, group .0, few)
 
--- src/inner/build.rt:134:9
 consume-node-same-length : (t : ℕ) → of-consume-node consume-node-lts.Need-same-length t
-consume-node-same-length t c = built-long _ _ _ _ _ _ _ _ (group-built _ _ _ _ _ _ _ _ (c .before .before .before .before .before .before .before .before .before .before .before .before .before .before .before .before .before .before .before .before .before .pre .1 .1 .1) (sees _ _ _ 6 (c .before .before .before .before .before .before .before .before .before .before .before .before .before .before .kind-at .ensures) (c .before .before .before .before .before .before .before .before .before .before .before .before .before .if1 .taken)) _ _ _ (c .before .before .before .before .before .before .before .before .before .before .consume-expr .ensures) _ (c .before .before .before .before .before .end-at .ensures) (let l = low (c .before .before .before .before .before .before .before .before .before .before .before .before .before .before .before .before .before .before .before .before .before .args .text .now) (c .before .before .before .before .before .before .before .before .before .before .consume-expr .result .next) in let b = c .before .before .before .before .before .end-at .ensures in let h = c .before .before .before .before .before .before .before .before .before .before .before .before .before .before .before .before .before .before .before .before .before .pre .1 .0 .short in omega arith) _ (c .before .before .before .move-end .ensures) .1) .0
+consume-node-same-length t c =
+    let at-move-end = c .before .before .before in
+    let at-end-at = at-move-end .before .before in
+    let at-consume-expr = at-end-at .before .before .before .before .before in
+    let at-if1 = at-consume-expr .before .before .before in
+    let at-kind-at = at-if1 .before in
+    let start = at-kind-at .before .before .before .before .before .before .before in
+    let room = start .pre .1 .1 .1 in
+    let opens = sees _ _ _ 6 (at-kind-at .kind-at .ensures) (at-if1 .if1 .taken) in
+    let lent = start .pre .1 .0 in
+    let z-low = end-low (start .args .text .now) (at-consume-expr .consume-expr .result .next) _ (lent .short) (at-end-at .end-at .ensures) in
+    let group = group-built _ _ _ _ _ _ _ _ room opens _ _ _ (at-consume-expr .consume-expr .ensures) _ (at-end-at .end-at .ensures) z-low _ (at-move-end .move-end .ensures) in
+    built-long _ _ _ _ _ _ _ _ (group .1) .0
 
--- src/inner/build.rt:134:9
 consume-node-same-length-2 : (t : ℕ) → of-consume-node consume-node-lts.Need-same-length-2 t
-consume-node-same-length-2 t c = built-long _ _ _ _ _ _ _ _ (group-built _ _ _ _ _ _ _ _ (c .before .before .before .before .before .before .before .before .before .before .before .before .before .before .before .before .before .before .before .before .before .pre .1 .1 .1) (sees _ _ _ 6 (c .before .before .before .before .before .before .before .before .before .before .before .before .before .before .kind-at .ensures) (c .before .before .before .before .before .before .before .before .before .before .before .before .before .if1 .taken)) _ _ _ (c .before .before .before .before .before .before .before .before .before .before .consume-expr .ensures) _ (c .before .before .before .before .before .end-at .ensures) (let l = low (c .before .before .before .before .before .before .before .before .before .before .before .before .before .before .before .before .before .before .before .before .before .args .text .now) (c .before .before .before .before .before .before .before .before .before .before .consume-expr .result .next) in let b = c .before .before .before .before .before .end-at .ensures in let h = c .before .before .before .before .before .before .before .before .before .before .before .before .before .before .before .before .before .before .before .before .before .pre .1 .0 .short in omega arith) _ (c .before .before .before .move-end .ensures) .1) .1
+consume-node-same-length-2 t c =
+    let at-move-end = c .before .before .before in
+    let at-end-at = at-move-end .before .before in
+    let at-consume-expr = at-end-at .before .before .before .before .before in
+    let at-if1 = at-consume-expr .before .before .before in
+    let at-kind-at = at-if1 .before in
+    let start = at-kind-at .before .before .before .before .before .before .before in
+    let room = start .pre .1 .1 .1 in
+    let opens = sees _ _ _ 6 (at-kind-at .kind-at .ensures) (at-if1 .if1 .taken) in
+    let lent = start .pre .1 .0 in
+    let z-low = end-low (start .args .text .now) (at-consume-expr .consume-expr .result .next) _ (lent .short) (at-end-at .end-at .ensures) in
+    let group = group-built _ _ _ _ _ _ _ _ room opens _ _ _ (at-consume-expr .consume-expr .ensures) _ (at-end-at .end-at .ensures) z-low _ (at-move-end .move-end .ensures) in
+    built-long _ _ _ _ _ _ _ _ (group .1) .1
 
--- src/inner/build.rt:134:9
 consume-node-returns : (t : ℕ) → of-consume-node consume-node-lts.Need-returns t
-consume-node-returns t c = group-built _ _ _ _ _ _ _ _ (c .before .before .before .before .before .before .before .before .before .before .before .before .before .before .before .before .before .before .before .before .before .pre .1 .1 .1) (sees _ _ _ 6 (c .before .before .before .before .before .before .before .before .before .before .before .before .before .before .kind-at .ensures) (c .before .before .before .before .before .before .before .before .before .before .before .before .before .if1 .taken)) _ _ _ (c .before .before .before .before .before .before .before .before .before .before .consume-expr .ensures) _ (c .before .before .before .before .before .end-at .ensures) (let l = low (c .before .before .before .before .before .before .before .before .before .before .before .before .before .before .before .before .before .before .before .before .before .args .text .now) (c .before .before .before .before .before .before .before .before .before .before .consume-expr .result .next) in let b = c .before .before .before .before .before .end-at .ensures in let h = c .before .before .before .before .before .before .before .before .before .before .before .before .before .before .before .before .before .before .before .before .before .pre .1 .0 .short in omega arith) _ (c .before .before .before .move-end .ensures) .1
+consume-node-returns t c =
+    let at-move-end = c .before .before .before in
+    let at-end-at = at-move-end .before .before in
+    let at-consume-expr = at-end-at .before .before .before .before .before in
+    let at-if1 = at-consume-expr .before .before .before in
+    let at-kind-at = at-if1 .before in
+    let start = at-kind-at .before .before .before .before .before .before .before in
+    let room = start .pre .1 .1 .1 in
+    let opens = sees _ _ _ 6 (at-kind-at .kind-at .ensures) (at-if1 .if1 .taken) in
+    let lent = start .pre .1 .0 in
+    let z-low = end-low (start .args .text .now) (at-consume-expr .consume-expr .result .next) _ (lent .short) (at-end-at .end-at .ensures) in
+    group-built _ _ _ _ _ _ _ _ room opens _ _ _ (at-consume-expr .consume-expr .ensures) _ (at-end-at .end-at .ensures) z-low _ (at-move-end .move-end .ensures) .1
 
--- src/inner/build.rt:136:16
 consume-node-slice-aggregate-spelled : (t : ℕ) → of-consume-node consume-node-lts.Need-slice-aggregate-spelled t
 consume-node-slice-aggregate-spelled t c = search needs
 
--- src/inner/build.rt:136:8
 consume-node-spelled-requires : (t : ℕ) → of-consume-node consume-node-lts.Need-spelled-requires t
-consume-node-spelled-requires t c κs = c .before .before .before .before .before .before .before .before .before .pre .1 .0
+consume-node-spelled-requires t c κs = search needs
 
--- src/inner/build.rt:137:82
 consume-node-add-consume-expr-3 : (t : ℕ) → of-consume-node consume-node-lts.Need-add-consume-expr-3 t
-consume-node-add-consume-expr-3 t c = let p = push-in _ _ _ _ _ _ _ _ (c .before .before .before .before .before .before .before .before .before .before .before .before .before .pre .1 .1 .1) (misses _ _ _ 6 (c .before .before .before .before .before .before .kind-at .ensures) (c .before .before .before .before .before .if1 .left)) (sym (c .before .before .before .spelled .ensures) ∙ c .before .before .if2 .taken) in let z = sizes _ _ _ _ (c .before .before .before .before .before .before .before .before .before .before .before .before .before .pre .1 .0) in omega arith
+consume-node-add-consume-expr-3 t c =
+    let at-if2 = c .before .before in
+    let at-spelled = at-if2 .before in
+    let at-if1 = at-spelled .before .before in
+    let at-kind-at = at-if1 .before in
+    let start = at-kind-at .before .before .before .before .before .before .before in
+    let room = start .pre .1 .1 .1 in
+    let bare = misses _ _ _ 6 (at-kind-at .kind-at .ensures) (at-if1 .if1 .left) in
+    let is-push = sym (at-spelled .spelled .ensures) ∙ at-if2 .if2 .taken in
+    let inner = push-in _ _ _ _ _ _ _ _ room bare is-push in
+    omega (arith, inner .1)
 
--- src/inner/build.rt:137:92
 consume-node-add-consume-expr-4 : (t : ℕ) → of-consume-node consume-node-lts.Need-add-consume-expr-4 t
-consume-node-add-consume-expr-4 t c = let p = push-in _ _ _ _ _ _ _ _ (c .before .before .before .before .before .before .before .before .before .before .before .before .before .pre .1 .1 .1) (misses _ _ _ 6 (c .before .before .before .before .before .before .kind-at .ensures) (c .before .before .before .before .before .if1 .left)) (sym (c .before .before .before .spelled .ensures) ∙ c .before .before .if2 .taken) in let z = sizes _ _ _ _ (c .before .before .before .before .before .before .before .before .before .before .before .before .before .pre .1 .0) in omega arith
+consume-node-add-consume-expr-4 t c =
+    let at-if2 = c .before .before in
+    let at-spelled = at-if2 .before in
+    let at-if1 = at-spelled .before .before in
+    let at-kind-at = at-if1 .before in
+    let start = at-kind-at .before .before .before .before .before .before .before in
+    let room = start .pre .1 .1 .1 in
+    let bare = misses _ _ _ 6 (at-kind-at .kind-at .ensures) (at-if1 .if1 .left) in
+    let is-push = sym (at-spelled .spelled .ensures) ∙ at-if2 .if2 .taken in
+    let inner = push-in _ _ _ _ _ _ _ _ room bare is-push in
+    let lent = start .pre .1 .0 in
+    let few = sizes _ _ _ _ lent .3 in
+    omega (arith, inner .0, few)
 
--- src/inner/build.rt:137:92
 consume-node-add-consume-expr-5 : (t : ℕ) → of-consume-node consume-node-lts.Need-add-consume-expr-5 t
-consume-node-add-consume-expr-5 t c = let p = push-in _ _ _ _ _ _ _ _ (c .before .before .before .before .before .before .before .before .before .before .before .before .before .pre .1 .1 .1) (misses _ _ _ 6 (c .before .before .before .before .before .before .kind-at .ensures) (c .before .before .before .before .before .if1 .left)) (sym (c .before .before .before .spelled .ensures) ∙ c .before .before .if2 .taken) in let z = sizes _ _ _ _ (c .before .before .before .before .before .before .before .before .before .before .before .before .before .pre .1 .0) in omega arith
+consume-node-add-consume-expr-5 t c =
+    let at-if2 = c .before .before in
+    let at-spelled = at-if2 .before in
+    let at-if1 = at-spelled .before .before in
+    let at-kind-at = at-if1 .before in
+    let start = at-kind-at .before .before .before .before .before .before .before in
+    let room = start .pre .1 .1 .1 in
+    let bare = misses _ _ _ 6 (at-kind-at .kind-at .ensures) (at-if1 .if1 .left) in
+    let is-push = sym (at-spelled .spelled .ensures) ∙ at-if2 .if2 .taken in
+    let inner = push-in _ _ _ _ _ _ _ _ room bare is-push in
+    let lent = start .pre .1 .0 in
+    let few = sizes _ _ _ _ lent .3 in
+    omega (arith, inner .0, few)
 
--- src/inner/build.rt:137:13
 consume-node-consume-expr-requires-2 : (t : ℕ) → of-consume-node consume-node-lts.Need-consume-expr-requires-2 t
 consume-node-consume-expr-requires-2 t c κs =
-    let p = push-in _ _ _ _ _ _ _ _ (c .before .before .before .before .before .before .before .before .before .before .before .before .before .pre .1 .1 .1) (misses _ _ _ 6 (c .before .before .before .before .before .before .kind-at .ensures) (c .before .before .before .before .before .if1 .left)) (sym (c .before .before .before .spelled .ensures) ∙ c .before .before .if2 .taken) in
-    let f = fewer _ _ _ _ (c .before .before .before .before .before .before .before .before .before .before .before .before .before .args .at) (c .before .before .before .before .before .before .before .before .before .before .before .before .before .args .at + 1 + 1) (c .before .before .before .before .before .before .before .before .before .before .before .before .before .pre .1 .0) (omega arith) (omega arith) in
-    (omega (arith, c .before .before .before .before .before .before .before .before .before .before .before .before .before .pre .0), (c .before .before .before .before .before .before .before .before .before .before .before .before .before .pre .1 .0, (c .before .before .before .before .before .before .before .before .before .before .before .before .before .pre .1 .1 .0, push-room _ _ _ _ _ _ _ _ (c .before .before .before .before .before .before .before .before .before .before .before .before .before .pre .1 .1 .1) (misses _ _ _ 6 (c .before .before .before .before .before .before .kind-at .ensures) (c .before .before .before .before .before .if1 .left)) (sym (c .before .before .before .spelled .ensures) ∙ c .before .before .if2 .taken))))
+    let at-if2 = c .before .before in
+    let at-spelled = at-if2 .before in
+    let at-if1 = at-spelled .before .before in
+    let at-kind-at = at-if1 .before in
+    let start = at-kind-at .before .before .before .before .before .before .before in
+    let measured = start .pre .0 in
+    let lent = start .pre .1 .0 in
+    let room = start .pre .1 .1 .1 in
+    let bare = misses _ _ _ 6 (at-kind-at .kind-at .ensures) (at-if1 .if1 .left) in
+    let is-push = sym (at-spelled .spelled .ensures) ∙ at-if2 .if2 .taken in
+    let inner = push-in _ _ _ _ _ _ _ _ room bare is-push in
+    let fewer-push = fewer _ _ _ _ (start .args .at) (start .args .at + 1 + 1) lent (omega arith) (omega (arith, inner .0)) in
+    let scalars = start .pre .1 .1 .0 in
+    (omega (arith, measured, fewer-push), (lent, (scalars, push-room _ _ _ _ _ _ _ _ room bare is-push)))
 
--- src/inner/build.rt:138:13
 consume-node-start-at-requires : (t : ℕ) → of-consume-node consume-node-lts.Need-start-at-requires t
-consume-node-start-at-requires t c κs = c .before .before .before .before .before .before .before .before .before .before .before .before .before .before .before .before .before .before .pre .1 .0
+consume-node-start-at-requires t c κs =
+    let start = c .before .before .before .before .before .before .before .before .before .before .before .before .before .before .before .before .before .before in
+    start .pre .1 .0
 
--- src/inner/build.rt:139:9
 consume-node-put-unary-requires : (t : ℕ) → of-consume-node consume-node-lts.Need-put-unary-requires t
-consume-node-put-unary-requires t c κs = push-over _ _ _ _ _ _ _ _ (c .before .before .before .before .before .before .before .before .before .before .before .before .before .before .before .before .before .before .before .before .pre .1 .1 .1) (misses _ _ _ 6 (c .before .before .before .before .before .before .before .before .before .before .before .before .before .kind-at .ensures) (c .before .before .before .before .before .before .before .before .before .before .before .before .if1 .left)) (sym (c .before .before .before .before .before .before .before .before .before .before .spelled .ensures) ∙ c .before .before .before .before .before .before .before .before .before .if2 .taken) _ _ _ (c .before .before .before .before .before .before .consume-expr2 .ensures) (c .before .start-at .result) (let l = low (c .before .before .before .before .before .before .before .before .before .before .before .before .before .before .before .before .before .before .before .before .args .text .now) (c .before .before .before .before .before .before .before .before .before .before .before .before .before .before .before .before .before .before .before .before .args .at) in let b = c .before .start-at .ensures in let h = c .before .before .before .before .before .before .before .before .before .before .before .before .before .before .before .before .before .before .before .before .pre .1 .0 .short in omega arith) .0
+consume-node-put-unary-requires t c κs =
+    let at-start-at = c .before in
+    let at-consume-expr2 = at-start-at .before .before .before .before .before in
+    let at-if2 = at-consume-expr2 .before .before .before in
+    let at-spelled = at-if2 .before in
+    let at-if1 = at-spelled .before .before in
+    let at-kind-at = at-if1 .before in
+    let start = at-kind-at .before .before .before .before .before .before .before in
+    let room = start .pre .1 .1 .1 in
+    let bare = misses _ _ _ 6 (at-kind-at .kind-at .ensures) (at-if1 .if1 .left) in
+    let is-push = sym (at-spelled .spelled .ensures) ∙ at-if2 .if2 .taken in
+    let lent = start .pre .1 .0 in
+    let a-low = start-low (start .args .text .now) (start .args .at) _ (lent .short) (at-start-at .start-at .ensures) in
+    let put = push-over _ _ _ _ _ _ _ _ room bare is-push _ _ _ (at-consume-expr2 .consume-expr2 .ensures) _ a-low in
+    put .0
 
--- src/inner/build.rt:140:31
 consume-node-add-t35 : (t : ℕ) → of-consume-node consume-node-lts.Need-add-t35 t
-consume-node-add-t35 t c = let p = push-built _ _ _ _ _ _ _ _ (c .before .before .before .before .before .before .before .before .before .before .before .before .before .before .before .before .before .before .before .before .before .before .before .before .pre .1 .1 .1) (misses _ _ _ 6 (c .before .before .before .before .before .before .before .before .before .before .before .before .before .before .before .before .before .kind-at .ensures) (c .before .before .before .before .before .before .before .before .before .before .before .before .before .before .before .before .if1 .left)) (sym (c .before .before .before .before .before .before .before .before .before .before .before .before .before .before .spelled .ensures) ∙ c .before .before .before .before .before .before .before .before .before .before .before .before .before .if2 .taken) _ _ _ (c .before .before .before .before .before .before .before .before .before .before .consume-expr2 .ensures) _ (c .before .before .before .before .before .start-at .ensures) (let l = low (c .before .before .before .before .before .before .before .before .before .before .before .before .before .before .before .before .before .before .before .before .before .before .before .before .args .text .now) (c .before .before .before .before .before .before .before .before .before .before .before .before .before .before .before .before .before .before .before .before .before .before .before .before .args .at) in let b = c .before .before .before .before .before .start-at .ensures in let h = c .before .before .before .before .before .before .before .before .before .before .before .before .before .before .before .before .before .before .before .before .before .before .before .before .pre .1 .0 .short in omega arith) _ (c .before .before .before .put-unary .ensures) .0 in let q = push-over _ _ _ _ _ _ _ _ (c .before .before .before .before .before .before .before .before .before .before .before .before .before .before .before .before .before .before .before .before .before .before .before .before .pre .1 .1 .1) (misses _ _ _ 6 (c .before .before .before .before .before .before .before .before .before .before .before .before .before .before .before .before .before .kind-at .ensures) (c .before .before .before .before .before .before .before .before .before .before .before .before .before .before .before .before .if1 .left)) (sym (c .before .before .before .before .before .before .before .before .before .before .before .before .before .before .spelled .ensures) ∙ c .before .before .before .before .before .before .before .before .before .before .before .before .before .if2 .taken) _ _ _ (c .before .before .before .before .before .before .before .before .before .before .consume-expr2 .ensures) (c .before .before .before .before .before .start-at .result) (let l = low (c .before .before .before .before .before .before .before .before .before .before .before .before .before .before .before .before .before .before .before .before .before .before .before .before .args .text .now) (c .before .before .before .before .before .before .before .before .before .before .before .before .before .before .before .before .before .before .before .before .before .before .before .before .args .at) in let b = c .before .before .before .before .before .start-at .ensures in let h = c .before .before .before .before .before .before .before .before .before .before .before .before .before .before .before .before .before .before .before .before .before .before .before .before .pre .1 .0 .short in omega arith) .1 in let z = sizes _ _ _ _ (c .before .before .before .before .before .before .before .before .before .before .before .before .before .before .before .before .before .before .before .before .before .before .before .before .pre .1 .0) in omega arith
+consume-node-add-t35 t c =
+    let at-put-unary = c .before .before .before in
+    let at-start-at = at-put-unary .before .before in
+    let at-consume-expr2 = at-start-at .before .before .before .before .before in
+    let at-if2 = at-consume-expr2 .before .before .before in
+    let at-spelled = at-if2 .before in
+    let at-if1 = at-spelled .before .before in
+    let at-kind-at = at-if1 .before in
+    let start = at-kind-at .before .before .before .before .before .before .before in
+    let room = start .pre .1 .1 .1 in
+    let bare = misses _ _ _ 6 (at-kind-at .kind-at .ensures) (at-if1 .if1 .left) in
+    let is-push = sym (at-spelled .spelled .ensures) ∙ at-if2 .if2 .taken in
+    let lent = start .pre .1 .0 in
+    let a-low = start-low (start .args .text .now) (start .args .at) _ (lent .short) (at-start-at .start-at .ensures) in
+    let pushed = push-built _ _ _ _ _ _ _ _ room bare is-push _ _ _ (at-consume-expr2 .consume-expr2 .ensures) _ (at-start-at .start-at .ensures) a-low _ (at-put-unary .put-unary .ensures) in
+    let few = sizes _ _ _ _ lent .3 in
+    omega (arith, pushed .0, few)
 
--- src/inner/build.rt:140:53
 consume-node-add-t36 : (t : ℕ) → of-consume-node consume-node-lts.Need-add-t36 t
-consume-node-add-t36 t c = let p = push-built _ _ _ _ _ _ _ _ (c .before .before .before .before .before .before .before .before .before .before .before .before .before .before .before .before .before .before .before .before .before .before .before .before .before .pre .1 .1 .1) (misses _ _ _ 6 (c .before .before .before .before .before .before .before .before .before .before .before .before .before .before .before .before .before .before .kind-at .ensures) (c .before .before .before .before .before .before .before .before .before .before .before .before .before .before .before .before .before .if1 .left)) (sym (c .before .before .before .before .before .before .before .before .before .before .before .before .before .before .before .spelled .ensures) ∙ c .before .before .before .before .before .before .before .before .before .before .before .before .before .before .if2 .taken) _ _ _ (c .before .before .before .before .before .before .before .before .before .before .before .consume-expr2 .ensures) _ (c .before .before .before .before .before .before .start-at .ensures) (let l = low (c .before .before .before .before .before .before .before .before .before .before .before .before .before .before .before .before .before .before .before .before .before .before .before .before .before .args .text .now) (c .before .before .before .before .before .before .before .before .before .before .before .before .before .before .before .before .before .before .before .before .before .before .before .before .before .args .at) in let b = c .before .before .before .before .before .before .start-at .ensures in let h = c .before .before .before .before .before .before .before .before .before .before .before .before .before .before .before .before .before .before .before .before .before .before .before .before .before .pre .1 .0 .short in omega arith) _ (c .before .before .before .before .put-unary .ensures) .0 in let q = push-over _ _ _ _ _ _ _ _ (c .before .before .before .before .before .before .before .before .before .before .before .before .before .before .before .before .before .before .before .before .before .before .before .before .before .pre .1 .1 .1) (misses _ _ _ 6 (c .before .before .before .before .before .before .before .before .before .before .before .before .before .before .before .before .before .before .kind-at .ensures) (c .before .before .before .before .before .before .before .before .before .before .before .before .before .before .before .before .before .if1 .left)) (sym (c .before .before .before .before .before .before .before .before .before .before .before .before .before .before .before .spelled .ensures) ∙ c .before .before .before .before .before .before .before .before .before .before .before .before .before .before .if2 .taken) _ _ _ (c .before .before .before .before .before .before .before .before .before .before .before .consume-expr2 .ensures) (c .before .before .before .before .before .before .start-at .result) (let l = low (c .before .before .before .before .before .before .before .before .before .before .before .before .before .before .before .before .before .before .before .before .before .before .before .before .before .args .text .now) (c .before .before .before .before .before .before .before .before .before .before .before .before .before .before .before .before .before .before .before .before .before .before .before .before .before .args .at) in let b = c .before .before .before .before .before .before .start-at .ensures in let h = c .before .before .before .before .before .before .before .before .before .before .before .before .before .before .before .before .before .before .before .before .before .before .before .before .before .pre .1 .0 .short in omega arith) .1 in let z = sizes _ _ _ _ (c .before .before .before .before .before .before .before .before .before .before .before .before .before .before .before .before .before .before .before .before .before .before .before .before .before .pre .1 .0) in omega arith
+consume-node-add-t36 t c =
+    let at-start-at = c .before .before .before .before .before .before in
+    let at-consume-expr2 = at-start-at .before .before .before .before .before in
+    let at-if2 = at-consume-expr2 .before .before .before in
+    let at-spelled = at-if2 .before in
+    let at-if1 = at-spelled .before .before in
+    let at-kind-at = at-if1 .before in
+    let start = at-kind-at .before .before .before .before .before .before .before in
+    let room = start .pre .1 .1 .1 in
+    let bare = misses _ _ _ 6 (at-kind-at .kind-at .ensures) (at-if1 .if1 .left) in
+    let is-push = sym (at-spelled .spelled .ensures) ∙ at-if2 .if2 .taken in
+    let lent = start .pre .1 .0 in
+    let a-low = start-low (start .args .text .now) (start .args .at) _ (lent .short) (at-start-at .start-at .ensures) in
+    let put = push-over _ _ _ _ _ _ _ _ room bare is-push _ _ _ (at-consume-expr2 .consume-expr2 .ensures) _ a-low in
+    omega (arith, put .1)
 
--- src/inner/build.rt:140:9
 consume-node-same-length-3 : (t : ℕ) → of-consume-node consume-node-lts.Need-same-length-3 t
-consume-node-same-length-3 t c = built-long _ _ _ _ _ _ _ _ (push-built _ _ _ _ _ _ _ _ (c .before .before .before .before .before .before .before .before .before .before .before .before .before .before .before .before .before .before .before .before .before .before .before .before .before .pre .1 .1 .1) (misses _ _ _ 6 (c .before .before .before .before .before .before .before .before .before .before .before .before .before .before .before .before .before .before .kind-at .ensures) (c .before .before .before .before .before .before .before .before .before .before .before .before .before .before .before .before .before .if1 .left)) (sym (c .before .before .before .before .before .before .before .before .before .before .before .before .before .before .before .spelled .ensures) ∙ c .before .before .before .before .before .before .before .before .before .before .before .before .before .before .if2 .taken) _ _ _ (c .before .before .before .before .before .before .before .before .before .before .before .consume-expr2 .ensures) _ (c .before .before .before .before .before .before .start-at .ensures) (let l = low (c .before .before .before .before .before .before .before .before .before .before .before .before .before .before .before .before .before .before .before .before .before .before .before .before .before .args .text .now) (c .before .before .before .before .before .before .before .before .before .before .before .before .before .before .before .before .before .before .before .before .before .before .before .before .before .args .at) in let b = c .before .before .before .before .before .before .start-at .ensures in let h = c .before .before .before .before .before .before .before .before .before .before .before .before .before .before .before .before .before .before .before .before .before .before .before .before .before .pre .1 .0 .short in omega arith) _ (c .before .before .before .before .put-unary .ensures) .1) .0
+consume-node-same-length-3 t c =
+    let at-put-unary = c .before .before .before .before in
+    let at-start-at = at-put-unary .before .before in
+    let at-consume-expr2 = at-start-at .before .before .before .before .before in
+    let at-if2 = at-consume-expr2 .before .before .before in
+    let at-spelled = at-if2 .before in
+    let at-if1 = at-spelled .before .before in
+    let at-kind-at = at-if1 .before in
+    let start = at-kind-at .before .before .before .before .before .before .before in
+    let room = start .pre .1 .1 .1 in
+    let bare = misses _ _ _ 6 (at-kind-at .kind-at .ensures) (at-if1 .if1 .left) in
+    let is-push = sym (at-spelled .spelled .ensures) ∙ at-if2 .if2 .taken in
+    let lent = start .pre .1 .0 in
+    let a-low = start-low (start .args .text .now) (start .args .at) _ (lent .short) (at-start-at .start-at .ensures) in
+    let pushed = push-built _ _ _ _ _ _ _ _ room bare is-push _ _ _ (at-consume-expr2 .consume-expr2 .ensures) _ (at-start-at .start-at .ensures) a-low _ (at-put-unary .put-unary .ensures) in
+    built-long _ _ _ _ _ _ _ _ (pushed .1) .0
 
--- src/inner/build.rt:140:9
 consume-node-same-length-4 : (t : ℕ) → of-consume-node consume-node-lts.Need-same-length-4 t
-consume-node-same-length-4 t c = built-long _ _ _ _ _ _ _ _ (push-built _ _ _ _ _ _ _ _ (c .before .before .before .before .before .before .before .before .before .before .before .before .before .before .before .before .before .before .before .before .before .before .before .before .before .pre .1 .1 .1) (misses _ _ _ 6 (c .before .before .before .before .before .before .before .before .before .before .before .before .before .before .before .before .before .before .kind-at .ensures) (c .before .before .before .before .before .before .before .before .before .before .before .before .before .before .before .before .before .if1 .left)) (sym (c .before .before .before .before .before .before .before .before .before .before .before .before .before .before .before .spelled .ensures) ∙ c .before .before .before .before .before .before .before .before .before .before .before .before .before .before .if2 .taken) _ _ _ (c .before .before .before .before .before .before .before .before .before .before .before .consume-expr2 .ensures) _ (c .before .before .before .before .before .before .start-at .ensures) (let l = low (c .before .before .before .before .before .before .before .before .before .before .before .before .before .before .before .before .before .before .before .before .before .before .before .before .before .args .text .now) (c .before .before .before .before .before .before .before .before .before .before .before .before .before .before .before .before .before .before .before .before .before .before .before .before .before .args .at) in let b = c .before .before .before .before .before .before .start-at .ensures in let h = c .before .before .before .before .before .before .before .before .before .before .before .before .before .before .before .before .before .before .before .before .before .before .before .before .before .pre .1 .0 .short in omega arith) _ (c .before .before .before .before .put-unary .ensures) .1) .1
+consume-node-same-length-4 t c =
+    let at-put-unary = c .before .before .before .before in
+    let at-start-at = at-put-unary .before .before in
+    let at-consume-expr2 = at-start-at .before .before .before .before .before in
+    let at-if2 = at-consume-expr2 .before .before .before in
+    let at-spelled = at-if2 .before in
+    let at-if1 = at-spelled .before .before in
+    let at-kind-at = at-if1 .before in
+    let start = at-kind-at .before .before .before .before .before .before .before in
+    let room = start .pre .1 .1 .1 in
+    let bare = misses _ _ _ 6 (at-kind-at .kind-at .ensures) (at-if1 .if1 .left) in
+    let is-push = sym (at-spelled .spelled .ensures) ∙ at-if2 .if2 .taken in
+    let lent = start .pre .1 .0 in
+    let a-low = start-low (start .args .text .now) (start .args .at) _ (lent .short) (at-start-at .start-at .ensures) in
+    let pushed = push-built _ _ _ _ _ _ _ _ room bare is-push _ _ _ (at-consume-expr2 .consume-expr2 .ensures) _ (at-start-at .start-at .ensures) a-low _ (at-put-unary .put-unary .ensures) in
+    built-long _ _ _ _ _ _ _ _ (pushed .1) .1
 
--- src/inner/build.rt:140:9
 consume-node-returns-2 : (t : ℕ) → of-consume-node consume-node-lts.Need-returns-2 t
-consume-node-returns-2 t c = push-built _ _ _ _ _ _ _ _ (c .before .before .before .before .before .before .before .before .before .before .before .before .before .before .before .before .before .before .before .before .before .before .before .before .before .pre .1 .1 .1) (misses _ _ _ 6 (c .before .before .before .before .before .before .before .before .before .before .before .before .before .before .before .before .before .before .kind-at .ensures) (c .before .before .before .before .before .before .before .before .before .before .before .before .before .before .before .before .before .if1 .left)) (sym (c .before .before .before .before .before .before .before .before .before .before .before .before .before .before .before .spelled .ensures) ∙ c .before .before .before .before .before .before .before .before .before .before .before .before .before .before .if2 .taken) _ _ _ (c .before .before .before .before .before .before .before .before .before .before .before .consume-expr2 .ensures) _ (c .before .before .before .before .before .before .start-at .ensures) (let l = low (c .before .before .before .before .before .before .before .before .before .before .before .before .before .before .before .before .before .before .before .before .before .before .before .before .before .args .text .now) (c .before .before .before .before .before .before .before .before .before .before .before .before .before .before .before .before .before .before .before .before .before .before .before .before .before .args .at) in let b = c .before .before .before .before .before .before .start-at .ensures in let h = c .before .before .before .before .before .before .before .before .before .before .before .before .before .before .before .before .before .before .before .before .before .before .before .before .before .pre .1 .0 .short in omega arith) _ (c .before .before .before .before .put-unary .ensures) .1
+consume-node-returns-2 t c =
+    let at-put-unary = c .before .before .before .before in
+    let at-start-at = at-put-unary .before .before in
+    let at-consume-expr2 = at-start-at .before .before .before .before .before in
+    let at-if2 = at-consume-expr2 .before .before .before in
+    let at-spelled = at-if2 .before in
+    let at-if1 = at-spelled .before .before in
+    let at-kind-at = at-if1 .before in
+    let start = at-kind-at .before .before .before .before .before .before .before in
+    let room = start .pre .1 .1 .1 in
+    let bare = misses _ _ _ 6 (at-kind-at .kind-at .ensures) (at-if1 .if1 .left) in
+    let is-push = sym (at-spelled .spelled .ensures) ∙ at-if2 .if2 .taken in
+    let lent = start .pre .1 .0 in
+    let a-low = start-low (start .args .text .now) (start .args .at) _ (lent .short) (at-start-at .start-at .ensures) in
+    push-built _ _ _ _ _ _ _ _ room bare is-push _ _ _ (at-consume-expr2 .consume-expr2 .ensures) _ (at-start-at .start-at .ensures) a-low _ (at-put-unary .put-unary .ensures) .1
 
--- src/inner/build.rt:142:5
 consume-node-put-leaf-requires : (t : ℕ) → of-consume-node consume-node-lts.Need-put-leaf-requires t
-consume-node-put-leaf-requires t c κs = (c .before .before .before .before .before .before .before .before .before .before .before .before .before .pre .1 .0, (c .before .before .before .before .before .before .before .before .before .before .before .before .before .pre .1 .1 .0, room-same (leaf-read _ _ _ _ _ _ _ _ (c .before .before .before .before .before .before .before .before .before .before .before .before .before .pre .1 .1 .1) (misses _ _ _ 6 (c .before .before .before .before .before .before .kind-at .ensures) (c .before .before .before .before .before .if1 .left)) (sym (c .before .before .before .spelled .ensures) ∙ c .before .before .if2 .left)) (c .before .before .before .before .before .before .before .before .before .before .before .before .before .pre .1 .1 .1)))
+consume-node-put-leaf-requires t c κs =
+    let at-if2 = c .before .before in
+    let at-spelled = at-if2 .before in
+    let at-if1 = at-spelled .before .before in
+    let at-kind-at = at-if1 .before in
+    let start = at-kind-at .before .before .before .before .before .before .before in
+    let lent = start .pre .1 .0 in
+    let scalars = start .pre .1 .1 .0 in
+    let room = start .pre .1 .1 .1 in
+    let bare = misses _ _ _ 6 (at-kind-at .kind-at .ensures) (at-if1 .if1 .left) in
+    let no-push = sym (at-spelled .spelled .ensures) ∙ at-if2 .if2 .left in
+    let leaf = leaf-read _ _ _ _ _ _ _ _ room bare no-push in
+    (lent, (scalars, room-same leaf room))
 
--- src/inner/build.rt:112:1
 consume-node-same-length-5 : (t : ℕ) → of-consume-node consume-node-lts.Need-same-length-5 t
-consume-node-same-length-5 t c = built-long _ _ _ _ _ _ _ _ (c .before .before .before .before .put-leaf .ensures) .0
+consume-node-same-length-5 t c =
+    let at-put-leaf = c .before .before .before .before in
+    built-long _ _ _ _ _ _ _ _ (at-put-leaf .put-leaf .ensures) .0
 
--- src/inner/build.rt:112:1
 consume-node-same-length-6 : (t : ℕ) → of-consume-node consume-node-lts.Need-same-length-6 t
-consume-node-same-length-6 t c = built-long _ _ _ _ _ _ _ _ (c .before .before .before .before .put-leaf .ensures) .1
+consume-node-same-length-6 t c =
+    let at-put-leaf = c .before .before .before .before in
+    built-long _ _ _ _ _ _ _ _ (at-put-leaf .put-leaf .ensures) .1
 
--- src/inner/build.rt:112:1
 consume-node-returns-3 : (t : ℕ) → of-consume-node consume-node-lts.Need-returns-3 t
-consume-node-returns-3 t c = built-same (leaf-read _ _ _ _ _ _ _ _ (c .before .before .before .before .before .before .before .before .before .before .before .before .before .before .before .before .before .before .pre .1 .1 .1) (misses _ _ _ 6 (c .before .before .before .before .before .before .before .before .before .before .before .kind-at .ensures) (c .before .before .before .before .before .before .before .before .before .before .if1 .left)) (sym (c .before .before .before .before .before .before .before .before .spelled .ensures) ∙ c .before .before .before .before .before .before .before .if2 .left)) (c .before .before .before .before .put-leaf .ensures)
+consume-node-returns-3 t c =
+    let at-put-leaf = c .before .before .before .before in
+    let at-if2 = at-put-leaf .before .before .before in
+    let at-spelled = at-if2 .before in
+    let at-if1 = at-spelled .before .before in
+    let at-kind-at = at-if1 .before in
+    let start = at-kind-at .before .before .before .before .before .before .before in
+    let room = start .pre .1 .1 .1 in
+    let bare = misses _ _ _ 6 (at-kind-at .kind-at .ensures) (at-if1 .if1 .left) in
+    let no-push = sym (at-spelled .spelled .ensures) ∙ at-if2 .if2 .left in
+    let leaf = leaf-read _ _ _ _ _ _ _ _ room bare no-push in
+    built-same leaf (at-put-leaf .put-leaf .ensures)
 
--- src/inner/build.rt:100:9
 unaries-get-node-tag-requires : (t : ℕ) → of-unaries unaries-lts.Need-get-node-tag-requires t
-unaries-get-node-tag-requires t c κs = (c .before .before .before .before .before .before .before .pre .1 .0, tag-room _ _ _ _ _ _ _ _ (c .before .before .before .before .before .before .before .pre .1 .1 .1))
+unaries-get-node-tag-requires t c κs =
+    let start = c .before .before .before .before .before .before .before in
+    let lent = start .pre .1 .0 in
+    let room = start .pre .1 .1 .1 in
+    (lent, tag-room _ _ _ _ _ _ _ _ room)
 
--- src/inner/build.rt:101:9
 unaries-signs-end-requires : (t : ℕ) → of-unaries unaries-lts.Need-signs-end-requires t
-unaries-signs-end-requires t c κs = c .before .before .before .before .before .before .before .before .before .before .pre .1 .0
+unaries-signs-end-requires t c κs = search needs
 
--- src/inner/build.rt:102:9
 unaries-consume-node-requires : (t : ℕ) → of-unaries unaries-lts.Need-consume-node-requires t
 unaries-consume-node-requires t c κs =
-    let f = node-falls _ _ _ _ _ _ _ _ (c .before .before .before .before .before .before .before .before .before .before .before .before .before .pre .1 .1 .1) _ _ _ _ (c .before .before .before .before .before .get-node-tag .ensures .1) (c .before .before .before .before .before .get-node-tag .ensures .0) (c .before .before .signs-end .ensures) _ _ _ (c .before .before .before .before .before .before .before .before .before .before .before .before .before .pre .1 .0) in
-    (omega (arith, c .before .before .before .before .before .before .before .before .before .before .before .before .before .pre .0), (c .before .before .before .before .before .before .before .before .before .before .before .before .before .pre .1 .0, (c .before .before .before .before .before .before .before .before .before .before .before .before .before .pre .1 .1 .0, node-room _ _ _ _ _ _ _ _ (c .before .before .before .before .before .before .before .before .before .before .before .before .before .pre .1 .1 .1) _ _ _ _ (c .before .before .before .before .before .get-node-tag .ensures .1) (c .before .before .before .before .before .get-node-tag .ensures .0) (c .before .before .signs-end .ensures))))
+    let at-signs-end = c .before .before in
+    let at-get-node-tag = at-signs-end .before .before .before in
+    let start = at-get-node-tag .before .before .before .before .before .before .before .before in
+    let measured = start .pre .0 in
+    let room = start .pre .1 .1 .1 in
+    let lent = start .pre .1 .0 in
+    let node-falls-to = node-falls _ _ _ _ _ _ _ _ room _ _ _ _ (at-get-node-tag .get-node-tag .ensures .1) (at-get-node-tag .get-node-tag .ensures .0) (at-signs-end .signs-end .ensures) _ _ _ lent in
+    let scalars = start .pre .1 .1 .0 in
+    (omega (arith, measured, node-falls-to), (lent, (scalars, node-room _ _ _ _ _ _ _ _ room _ _ _ _ (at-get-node-tag .get-node-tag .ensures .1) (at-get-node-tag .get-node-tag .ensures .0) (at-signs-end .signs-end .ensures))))
 
--- src/inner/build.rt:103:9
 unaries-put-postfixes-requires : (t : ℕ) → of-unaries unaries-lts.Need-put-postfixes-requires t
-unaries-put-postfixes-requires t c κs = (c .before .before .before .before .before .before .before .before .before .before .before .before .before .before .before .before .before .before .before .pre .1 .0, posts-room _ _ _ _ _ _ _ _ (c .before .before .before .before .before .before .before .before .before .before .before .before .before .before .before .before .before .before .before .pre .1 .1 .1) _ _ _ _ (c .before .before .before .before .before .before .before .before .before .before .before .get-node-tag .ensures .1) (c .before .before .before .before .before .before .before .before .before .before .before .get-node-tag .ensures .0) (c .before .before .before .before .before .before .before .before .signs-end .ensures) _ _ _ (c .before .before .before .before .before .consume-node .ensures))
+unaries-put-postfixes-requires t c κs =
+    let at-consume-node = c .before .before .before .before .before in
+    let at-signs-end = at-consume-node .before .before .before in
+    let at-get-node-tag = at-signs-end .before .before .before in
+    let start = at-get-node-tag .before .before .before .before .before .before .before .before in
+    let lent = start .pre .1 .0 in
+    let room = start .pre .1 .1 .1 in
+    (lent, posts-room _ _ _ _ _ _ _ _ room _ _ _ _ (at-get-node-tag .get-node-tag .ensures .1) (at-get-node-tag .get-node-tag .ensures .0) (at-signs-end .signs-end .ensures) _ _ _ (at-consume-node .consume-node .ensures))
 
--- src/inner/build.rt:104:5
 unaries-open-at-requires : (t : ℕ) → of-unaries unaries-lts.Need-open-at-requires t
-unaries-open-at-requires t c κs = (c .before .before .before .before .before .before .before .before .before .before .before .before .before .before .before .before .before .before .before .before .before .before .before .pre .1 .0, open-room _ _ _ _ _ _ _ _ (c .before .before .before .before .before .before .before .before .before .before .before .before .before .before .before .before .before .before .before .before .before .before .before .pre .1 .1 .1) _ _ _ _ (c .before .before .before .before .before .before .before .before .before .before .before .before .before .before .before .get-node-tag .ensures .1) (c .before .before .before .before .before .before .before .before .before .before .before .before .before .before .before .get-node-tag .ensures .0) (c .before .before .before .before .before .before .before .before .before .before .before .before .signs-end .ensures) _ _ _ (c .before .before .before .before .before .before .before .before .before .consume-node .ensures) _ _ (c .before .before .before .put-postfixes .ensures))
+unaries-open-at-requires t c κs =
+    let at-put-postfixes = c .before .before .before in
+    let at-consume-node = at-put-postfixes .before .before .before .before .before .before in
+    let at-signs-end = at-consume-node .before .before .before in
+    let at-get-node-tag = at-signs-end .before .before .before in
+    let start = at-get-node-tag .before .before .before .before .before .before .before .before in
+    let lent = start .pre .1 .0 in
+    let room = start .pre .1 .1 .1 in
+    (lent, open-room _ _ _ _ _ _ _ _ room _ _ _ _ (at-get-node-tag .get-node-tag .ensures .1) (at-get-node-tag .get-node-tag .ensures .0) (at-signs-end .signs-end .ensures) _ _ _ (at-consume-node .consume-node .ensures) _ _ (at-put-postfixes .put-postfixes .ensures))
 
--- src/inner/build.rt:105:9
 unaries-put-signs-requires : (t : ℕ) → of-unaries unaries-lts.Need-put-signs-requires t
-unaries-put-signs-requires t c κs = (c .before .before .before .before .before .before .before .before .before .before .before .before .before .before .before .before .before .before .before .before .before .before .before .before .before .before .before .pre .1 .0, signs-room _ _ _ _ _ _ _ _ (c .before .before .before .before .before .before .before .before .before .before .before .before .before .before .before .before .before .before .before .before .before .before .before .before .before .before .before .pre .1 .1 .1) _ _ _ _ (c .before .before .before .before .before .before .before .before .before .before .before .before .before .before .before .before .before .before .before .get-node-tag .ensures .1) (c .before .before .before .before .before .before .before .before .before .before .before .before .before .before .before .before .before .before .before .get-node-tag .ensures .0) (c .before .before .before .before .before .before .before .before .before .before .before .before .before .before .before .before .signs-end .ensures) _ _ _ (c .before .before .before .before .before .before .before .before .before .before .before .before .before .consume-node .ensures) _ _ (c .before .before .before .before .before .before .before .put-postfixes .ensures) _ (c .before .before .before .open-at .ensures))
+unaries-put-signs-requires t c κs =
+    let at-open-at = c .before .before .before in
+    let at-put-postfixes = at-open-at .before .before .before .before in
+    let at-consume-node = at-put-postfixes .before .before .before .before .before .before in
+    let at-signs-end = at-consume-node .before .before .before in
+    let at-get-node-tag = at-signs-end .before .before .before in
+    let start = at-get-node-tag .before .before .before .before .before .before .before .before in
+    let lent = start .pre .1 .0 in
+    let room = start .pre .1 .1 .1 in
+    (lent, signs-room _ _ _ _ _ _ _ _ room _ _ _ _ (at-get-node-tag .get-node-tag .ensures .1) (at-get-node-tag .get-node-tag .ensures .0) (at-signs-end .signs-end .ensures) _ _ _ (at-consume-node .consume-node .ensures) _ _ (at-put-postfixes .put-postfixes .ensures) _ (at-open-at .open-at .ensures))
 
--- src/inner/build.rt:106:9
 unaries-head-at-requires : (t : ℕ) → of-unaries unaries-lts.Need-head-at-requires t
-unaries-head-at-requires t c κs = c .before .before .before .before .before .before .before .before .before .before .before .before .before .before .before .before .before .before .before .before .before .before .before .before .before .before .before .before .before .before .pre .1 .0
+unaries-head-at-requires t c κs =
+    let start = c .before .before .before .before .before .before .before .before .before .before .before .before .before .before .before .before .before .before .before .before .before .before .before .before .before .before .before .before .before .before in
+    start .pre .1 .0
 
--- src/inner/build.rt:108:5
 unaries-put-tag-requires : (t : ℕ) → of-unaries unaries-lts.Need-put-tag-requires t
-unaries-put-tag-requires t c κs = (c .before .before .before .before .before .before .before .before .before .before .before .before .before .before .before .before .before .before .before .before .before .before .before .before .before .before .before .before .before .before .before .before .pre .1 .0, tie-room _ _ _ _ _ _ _ _ (c .before .before .before .before .before .before .before .before .before .before .before .before .before .before .before .before .before .before .before .before .before .before .before .before .before .before .before .before .before .before .before .before .pre .1 .1 .1) _ _ _ _ (c .before .before .before .before .before .before .before .before .before .before .before .before .before .before .before .before .before .before .before .before .before .before .before .before .get-node-tag .ensures .1) (c .before .before .before .before .before .before .before .before .before .before .before .before .before .before .before .before .before .before .before .before .before .before .before .before .get-node-tag .ensures .0) (c .before .before .before .before .before .before .before .before .before .before .before .before .before .before .before .before .before .before .before .before .before .signs-end .ensures) _ _ _ (c .before .before .before .before .before .before .before .before .before .before .before .before .before .before .before .before .before .before .consume-node .ensures) _ _ (c .before .before .before .before .before .before .before .before .before .before .before .before .put-postfixes .ensures) _ (c .before .before .before .before .before .before .before .before .open-at .ensures) _ _ (c .before .before .before .before .put-signs .ensures .0) (c .before .before .before .before .put-signs .ensures .1) _ (c .before .head-at .ensures) (c .before .before .before .before .before .before .before .before .before .before .before .before .before .before .before .before .before .before .before .before .before .before .before .before .before .before .before .before .before .before .before .before .pre .1 .0 .short))
+unaries-put-tag-requires t c κs =
+    let at-head-at = c .before in
+    let at-put-signs = at-head-at .before .before .before in
+    let at-open-at = at-put-signs .before .before .before .before in
+    let at-put-postfixes = at-open-at .before .before .before .before in
+    let at-consume-node = at-put-postfixes .before .before .before .before .before .before in
+    let at-signs-end = at-consume-node .before .before .before in
+    let at-get-node-tag = at-signs-end .before .before .before in
+    let start = at-get-node-tag .before .before .before .before .before .before .before .before in
+    let lent = start .pre .1 .0 in
+    let room = start .pre .1 .1 .1 in
+    (lent, tie-room _ _ _ _ _ _ _ _ room _ _ _ _ (at-get-node-tag .get-node-tag .ensures .1) (at-get-node-tag .get-node-tag .ensures .0) (at-signs-end .signs-end .ensures) _ _ _ (at-consume-node .consume-node .ensures) _ _ (at-put-postfixes .put-postfixes .ensures) _ (at-open-at .open-at .ensures) _ _ (at-put-signs .put-signs .ensures .0) (at-put-signs .put-signs .ensures .1) _ (at-head-at .head-at .ensures) (lent .short))
 
--- src/inner/build.rt:82:1
 unaries-same-length : (t : ℕ) → of-unaries unaries-lts.Need-same-length t
-unaries-same-length t c = built-long _ _ _ _ _ _ _ _ (term-built _ _ _ _ _ _ _ _ (c .before .before .before .before .before .before .before .before .before .before .before .before .before .before .before .before .before .before .before .before .before .before .before .before .before .before .before .before .before .before .before .before .before .before .before .pre .1 .1 .1) _ _ _ _ (c .before .before .before .before .before .before .before .before .before .before .before .before .before .before .before .before .before .before .before .before .before .before .before .before .before .before .before .get-node-tag .ensures .1) (c .before .before .before .before .before .before .before .before .before .before .before .before .before .before .before .before .before .before .before .before .before .before .before .before .before .before .before .get-node-tag .ensures .0) (c .before .before .before .before .before .before .before .before .before .before .before .before .before .before .before .before .before .before .before .before .before .before .before .before .signs-end .ensures) _ _ _ (c .before .before .before .before .before .before .before .before .before .before .before .before .before .before .before .before .before .before .before .before .before .consume-node .ensures) _ _ (c .before .before .before .before .before .before .before .before .before .before .before .before .before .before .before .put-postfixes .ensures) _ (c .before .before .before .before .before .before .before .before .before .before .before .open-at .ensures) _ _ (c .before .before .before .before .before .before .before .put-signs .ensures .0) (c .before .before .before .before .before .before .before .put-signs .ensures .1) _ (c .before .before .before .before .head-at .ensures) (c .before .before .before .before .before .before .before .before .before .before .before .before .before .before .before .before .before .before .before .before .before .before .before .before .before .before .before .before .before .before .before .before .before .before .before .pre .1 .0 .short) _ _ (c .before .before .put-tag .ensures)) .0
+unaries-same-length t c =
+    let at-put-tag = c .before .before in
+    let at-head-at = at-put-tag .before .before in
+    let at-put-signs = at-head-at .before .before .before in
+    let at-open-at = at-put-signs .before .before .before .before in
+    let at-put-postfixes = at-open-at .before .before .before .before in
+    let at-consume-node = at-put-postfixes .before .before .before .before .before .before in
+    let at-signs-end = at-consume-node .before .before .before in
+    let at-get-node-tag = at-signs-end .before .before .before in
+    let start = at-get-node-tag .before .before .before .before .before .before .before .before in
+    let room = start .pre .1 .1 .1 in
+    let lent = start .pre .1 .0 in
+    let built = term-built _ _ _ _ _ _ _ _ room _ _ _ _ (at-get-node-tag .get-node-tag .ensures .1) (at-get-node-tag .get-node-tag .ensures .0) (at-signs-end .signs-end .ensures) _ _ _ (at-consume-node .consume-node .ensures) _ _ (at-put-postfixes .put-postfixes .ensures) _ (at-open-at .open-at .ensures) _ _ (at-put-signs .put-signs .ensures .0) (at-put-signs .put-signs .ensures .1) _ (at-head-at .head-at .ensures) (lent .short) _ _ (at-put-tag .put-tag .ensures) in
+    built-long _ _ _ _ _ _ _ _ built .0
 
--- src/inner/build.rt:82:1
 unaries-same-length-2 : (t : ℕ) → of-unaries unaries-lts.Need-same-length-2 t
-unaries-same-length-2 t c = built-long _ _ _ _ _ _ _ _ (term-built _ _ _ _ _ _ _ _ (c .before .before .before .before .before .before .before .before .before .before .before .before .before .before .before .before .before .before .before .before .before .before .before .before .before .before .before .before .before .before .before .before .before .before .before .pre .1 .1 .1) _ _ _ _ (c .before .before .before .before .before .before .before .before .before .before .before .before .before .before .before .before .before .before .before .before .before .before .before .before .before .before .before .get-node-tag .ensures .1) (c .before .before .before .before .before .before .before .before .before .before .before .before .before .before .before .before .before .before .before .before .before .before .before .before .before .before .before .get-node-tag .ensures .0) (c .before .before .before .before .before .before .before .before .before .before .before .before .before .before .before .before .before .before .before .before .before .before .before .before .signs-end .ensures) _ _ _ (c .before .before .before .before .before .before .before .before .before .before .before .before .before .before .before .before .before .before .before .before .before .consume-node .ensures) _ _ (c .before .before .before .before .before .before .before .before .before .before .before .before .before .before .before .put-postfixes .ensures) _ (c .before .before .before .before .before .before .before .before .before .before .before .open-at .ensures) _ _ (c .before .before .before .before .before .before .before .put-signs .ensures .0) (c .before .before .before .before .before .before .before .put-signs .ensures .1) _ (c .before .before .before .before .head-at .ensures) (c .before .before .before .before .before .before .before .before .before .before .before .before .before .before .before .before .before .before .before .before .before .before .before .before .before .before .before .before .before .before .before .before .before .before .before .pre .1 .0 .short) _ _ (c .before .before .put-tag .ensures)) .1
+unaries-same-length-2 t c =
+    let at-put-tag = c .before .before in
+    let at-head-at = at-put-tag .before .before in
+    let at-put-signs = at-head-at .before .before .before in
+    let at-open-at = at-put-signs .before .before .before .before in
+    let at-put-postfixes = at-open-at .before .before .before .before in
+    let at-consume-node = at-put-postfixes .before .before .before .before .before .before in
+    let at-signs-end = at-consume-node .before .before .before in
+    let at-get-node-tag = at-signs-end .before .before .before in
+    let start = at-get-node-tag .before .before .before .before .before .before .before .before in
+    let room = start .pre .1 .1 .1 in
+    let lent = start .pre .1 .0 in
+    let built = term-built _ _ _ _ _ _ _ _ room _ _ _ _ (at-get-node-tag .get-node-tag .ensures .1) (at-get-node-tag .get-node-tag .ensures .0) (at-signs-end .signs-end .ensures) _ _ _ (at-consume-node .consume-node .ensures) _ _ (at-put-postfixes .put-postfixes .ensures) _ (at-open-at .open-at .ensures) _ _ (at-put-signs .put-signs .ensures .0) (at-put-signs .put-signs .ensures .1) _ (at-head-at .head-at .ensures) (lent .short) _ _ (at-put-tag .put-tag .ensures) in
+    built-long _ _ _ _ _ _ _ _ built .1
 
--- src/inner/build.rt:82:1
 unaries-returns : (t : ℕ) → of-unaries unaries-lts.Need-returns t
-unaries-returns t c = term-built _ _ _ _ _ _ _ _ (c .before .before .before .before .before .before .before .before .before .before .before .before .before .before .before .before .before .before .before .before .before .before .before .before .before .before .before .before .before .before .before .before .before .before .before .pre .1 .1 .1) _ _ _ _ (c .before .before .before .before .before .before .before .before .before .before .before .before .before .before .before .before .before .before .before .before .before .before .before .before .before .before .before .get-node-tag .ensures .1) (c .before .before .before .before .before .before .before .before .before .before .before .before .before .before .before .before .before .before .before .before .before .before .before .before .before .before .before .get-node-tag .ensures .0) (c .before .before .before .before .before .before .before .before .before .before .before .before .before .before .before .before .before .before .before .before .before .before .before .before .signs-end .ensures) _ _ _ (c .before .before .before .before .before .before .before .before .before .before .before .before .before .before .before .before .before .before .before .before .before .consume-node .ensures) _ _ (c .before .before .before .before .before .before .before .before .before .before .before .before .before .before .before .put-postfixes .ensures) _ (c .before .before .before .before .before .before .before .before .before .before .before .open-at .ensures) _ _ (c .before .before .before .before .before .before .before .put-signs .ensures .0) (c .before .before .before .before .before .before .before .put-signs .ensures .1) _ (c .before .before .before .before .head-at .ensures) (c .before .before .before .before .before .before .before .before .before .before .before .before .before .before .before .before .before .before .before .before .before .before .before .before .before .before .before .before .before .before .before .before .before .before .before .pre .1 .0 .short) _ _ (c .before .before .put-tag .ensures)
+unaries-returns t c =
+    let at-put-tag = c .before .before in
+    let at-head-at = at-put-tag .before .before in
+    let at-put-signs = at-head-at .before .before .before in
+    let at-open-at = at-put-signs .before .before .before .before in
+    let at-put-postfixes = at-open-at .before .before .before .before in
+    let at-consume-node = at-put-postfixes .before .before .before .before .before .before in
+    let at-signs-end = at-consume-node .before .before .before in
+    let at-get-node-tag = at-signs-end .before .before .before in
+    let start = at-get-node-tag .before .before .before .before .before .before .before .before in
+    let room = start .pre .1 .1 .1 in
+    let lent = start .pre .1 .0 in
+    term-built _ _ _ _ _ _ _ _ room _ _ _ _ (at-get-node-tag .get-node-tag .ensures .1) (at-get-node-tag .get-node-tag .ensures .0) (at-signs-end .signs-end .ensures) _ _ _ (at-consume-node .consume-node .ensures) _ _ (at-put-postfixes .put-postfixes .ensures) _ (at-open-at .open-at .ensures) _ _ (at-put-signs .put-signs .ensures .0) (at-put-signs .put-signs .ensures .1) _ (at-head-at .head-at .ensures) (lent .short) _ _ (at-put-tag .put-tag .ensures)
 
 pub +consume-expr+consume-node+unaries-spec : {M : Type 1} → statement M
 +consume-expr+consume-node+unaries-spec =

@@ -3,32 +3,24 @@ use native.Mathlib.Omega.{arith}
 use borrow.Author.Needs.{needs}
 use Rattle.reader.proofs.inner.terms.head_at.Statement.{statement}
 use Rattle.reader.proofs.inner.terms.head_at.Tie as tie
-use Rattle.reader.proofs.inner.terms.head_at.Reads as reads
-use Rattle.reader.proofs.inner.terms.head_at.Lts as lts
 use Rattle.structure.proofs.inner.tokens.kind_at.Reads as kind-at-reads
 use Rattle.structure.proofs.inner.tokens.start_at.Reads as start-at-reads
 
--- src/inner/terms.rt:90:9
 start-at-requires : tie.Need-start-at-requires
 start-at-requires c κs = search needs
 
--- src/inner/terms.rt:90:9
 returns : tie.Need-returns
 returns c = head-signs _ _ _ _ _ (c .before .if1 .taken) (c .start-at .ensures)
 
--- src/inner/terms.rt:92:8
 kind-at-requires : tie.Need-kind-at-requires
 kind-at-requires c κs = search needs
 
--- src/inner/terms.rt:93:9
 start-at-requires-2 : tie.Need-start-at-requires-2
 start-at-requires-2 c κs = search needs
 
--- src/inner/terms.rt:93:9
 returns-2 : tie.Need-returns-2
 returns-2 c = head-bracket _ _ _ _ (c .before .before .before .if1 .left) _ (c .before .before .kind-at .ensures) _ (c .before .if2 .taken) (c .start-at2 .ensures)
 
--- src/inner/terms.rt:77:1
 returns-3 : tie.Need-returns-3
 returns-3 c = head-node _ _ _ _ (c .before .before .if1 .left) _ (c .before .kind-at .ensures) (c .if2 .left)
 
