@@ -29,7 +29,7 @@ use Rattle.reader.specs.Read.{rulesOf, ruledOf}
 use Rattle.reader.specs.Build.{written, most, Fits, Room, Laid, Built}
 use Rattle.reader.specs.Rules.{RuleRoom, RuleBuilt, RulesRoom, RulesBuilt}
 use Rattle.reader.proofs.Patches.{length-written, sets-on, written-on}
-use Rattle.reader.proofs.Orders.{low, spans, word-is, part-length}
+use Rattle.structure.proofs.Arrays.{low, word-is, part-length}
 
 -- ---- one rule
 
