@@ -1,0 +1,26 @@
+-- Laws of the calls of a cursor.
+use Prim.Native.Nat.{ℕ}
+use mathlib.Core.Path.{_≡_, refl, sym, ap, _∙_}
+use mathlib.Core.List.{List}
+use denote.Ref.{now}
+use Rattle.token.specs.Lister.{nextOf, numbersOf, Numbers, lister}
+use Rattle.token.specs.declared.Listed.{Listed}
+use Rattle.cursor.specs.Cursors.{stepOf, moved}
+use Rattle.cursor.specs.declared.Cursor.{Cursor}
+use Rattle.cursor.specs.declared.Step.{Step}
+
+-- what a call gives and the place after it are the step
+pub stepped : (s : List ℕ) (at : ℕ) (r : Listed) (p : ℕ) → r ≡ nextOf s at → numbersOf at r ≡ lister s at → p ≡ numbersOf at r .next → _≡_ {A = Step} (record { listed = r; place = p }) (stepOf s at)
+unfolding stepOf
+stepped s at r p e n f =
+    let g : p ≡ lister s at .next = f ∙ ap (λ (z : Numbers). z .next) n in
+    (λ i. record { listed = e i; place = g i })
+
+-- what a call of a cursor promises of its answer r and of the cursor d after it
+abbrev pub Said : Cursor → Listed → Cursor → Type 0
+Said c r d = (r ≡ nextOf (now (c .text)) (c .place)) × (numbersOf (c .place) r ≡ lister (now (c .text)) (c .place)) × (d ≡ moved c)
+
+-- the step at a cursor's text and place is what its call gives
+pub said-step : (c : Cursor) (r : Step) → r ≡ stepOf (now (c .text)) (c .place) → Said c (r .listed) (record { text = c .text; place = r .place })
+unfolding stepOf moved lister
+said-step c r e = (λ i. e i .listed, λ i. numbersOf (c .place) (e i .listed), λ i. record { text = c .text; place = e i .place })
