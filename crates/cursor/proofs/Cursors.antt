@@ -2,12 +2,13 @@
 use Prim.Native.Nat.{ℕ}
 use mathlib.Core.Path.{_≡_, refl, sym, ap, _∙_}
 use mathlib.Core.List.{List}
-use denote.Ref.{now}
+use denote.Ref.{RefT, now}
 use Rattle.token.specs.Lister.{nextOf, numbersOf, Numbers, lister}
 use Rattle.token.specs.declared.Listed.{Listed}
-use Rattle.cursor.specs.Cursors.{stepOf, moved}
+use Rattle.cursor.specs.Cursors.{stepOf, twoOf, moved}
 use Rattle.cursor.specs.declared.Cursor.{Cursor}
 use Rattle.cursor.specs.declared.Step.{Step}
+use Rattle.cursor.specs.declared.Two.{Two}
 
 -- what a call gives and the place after it are the step
 pub stepped : (s : List ℕ) (at : ℕ) (r : Listed) (p : ℕ) → r ≡ nextOf s at → numbersOf at r ≡ lister s at → p ≡ numbersOf at r .next → _≡_ {A = Step} (record { listed = r; place = p }) (stepOf s at)
@@ -24,3 +25,14 @@ Said c r d = (r ≡ nextOf (now (c .text)) (c .place)) × (numbersOf (c .place) 
 pub said-step : (c : Cursor) (r : Step) → r ≡ stepOf (now (c .text)) (c .place) → Said c (r .listed) (record { text = c .text; place = r .place })
 unfolding stepOf moved lister
 said-step c r e = (λ i. e i .listed, λ i. numbersOf (c .place) (e i .listed), λ i. record { text = c .text; place = e i .place })
+
+-- two calls of one cursor, of which the first is at a text and a place
+pub said-two : (s : RefT (List ℕ)) (at : ℕ) (c d e : Cursor) (r q : Listed) → (c .text ≡ s) × (c .place ≡ at) → Said c r d → Said d q e → _≡_ {A = Two} (record { first = r; second = q; place = e .place }) (twoOf (now s) at)
+unfolding twoOf moved
+said-two s at c d e r q made one two =
+    let c-is : c ≡ record { text = s; place = at } = λ i. record { text = made .0 i; place = made .1 i } in
+    let d-is : d ≡ moved (record { text = s; place = at }) = one .2 ∙ ap moved c-is in
+    let first-is : r ≡ nextOf (now s) at = one .0 ∙ ap (λ (z : Cursor). nextOf (now (z .text)) (z .place)) c-is in
+    let second-is : q ≡ nextOf (now s) (lister (now s) at .next) = two .0 ∙ ap (λ (z : Cursor). nextOf (now (z .text)) (z .place)) d-is in
+    let e-is : e ≡ moved (moved (record { text = s; place = at })) = two .2 ∙ ap moved d-is in
+    (λ i. record { first = first-is i; second = second-is i; place = e-is i .place })

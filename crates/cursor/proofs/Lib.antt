@@ -1,2 +1,3 @@
 -- The cursor: the laws that its proofs and callers use.
 pub mod Cursors
+pub mod Calls

@@ -6,7 +6,7 @@
 use token::Listed;
 ghost use mathlib.Core.Path.{_≡_};
 ghost use Rattle.token.specs.Lister.{nextOf, numbersOf, lister};
-ghost use Rattle.cursor.specs.Cursors.{stepOf, moved};
+ghost use Rattle.cursor.specs.Cursors.{stepOf, twoOf, moved};
 
 pub struct Cursor<'a> {
     pub text: &'a [u8],
@@ -16,6 +16,13 @@ pub struct Cursor<'a> {
 // What a call gives, and the lister's place after it.
 pub struct Step {
     pub listed: Listed,
+    pub place: usize,
+}
+
+// What two calls give, one after the other, and the lister's place after them.
+pub struct Two {
+    pub first: Listed,
+    pub second: Listed,
     pub place: usize,
 }
 
@@ -62,4 +69,18 @@ pub fn next<'s, 'a>(cursor: &'s mut Cursor<'a>) -> Listed
     let step = step_at(cursor.text, cursor.place);
     cursor.place = step.place;
     step.listed
+}
+
+// Two calls of one cursor, for callers that hold a slice and a number.
+pub fn next_two(text: &[u8], place: usize) -> Two
+    ensures { λ r. ⌜ r ≡ twoOf (now (text .entry)) place ⌝ }
+{
+    let mut cursor = new(text, place);
+    let first = next(&mut cursor);
+    let second = next(&mut cursor);
+    Two {
+        first,
+        second,
+        place: cursor.place,
+    }
 }
