@@ -17,9 +17,15 @@ stepped s at r p e n f =
     let g : p ≡ lister s at .next = f ∙ ap (λ (z : Numbers). z .next) n in
     (λ i. record { listed = e i; place = g i })
 
--- what a call of a cursor promises of its answer r and of the cursor d after it
+-- what a call of a cursor promises of its answer r, and with it of the cursor d after it
+abbrev pub Answers : Cursor → Listed → Type 0
+Answers c r = r ≡ nextOf (now (c .text)) (c .place)
+
+abbrev pub Numbered : Cursor → Listed → Type 0
+Numbered c r = numbersOf (c .place) r ≡ lister (now (c .text)) (c .place)
+
 abbrev pub Said : Cursor → Listed → Cursor → Type 0
-Said c r d = (r ≡ nextOf (now (c .text)) (c .place)) × (numbersOf (c .place) r ≡ lister (now (c .text)) (c .place)) × (d ≡ moved c)
+Said c r d = Answers c r × Numbered c r × (d ≡ moved c)
 
 -- the step at a cursor's text and place is what its call gives
 pub said-step : (c : Cursor) (r : Step) → r ≡ stepOf (now (c .text)) (c .place) → Said c (r .listed) (record { text = c .text; place = r .place })

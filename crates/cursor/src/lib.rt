@@ -64,7 +64,9 @@ pub fn new<'a>(text: &'a [u8], place: usize) -> Cursor<'a>
 
 // The next token. The place moves to its end; without a token it stays.
 pub fn next<'s, 'a>(cursor: &'s mut Cursor<'a>) -> Listed
-    ensures { λ r. ⌜ (r ≡ nextOf (now (now (cursor .entry) .text)) (now (cursor .entry) .place)) × (numbersOf (now (cursor .entry) .place) r ≡ lister (now (now (cursor .entry) .text)) (now (cursor .entry) .place)) × (now (cursor .exit) ≡ moved (now (cursor .entry))) ⌝ }
+    ensures answer { λ r. ⌜ r ≡ nextOf (now (now (cursor .entry) .text)) (now (cursor .entry) .place) ⌝ }
+    ensures numbers { λ r. ⌜ numbersOf (now (cursor .entry) .place) r ≡ lister (now (now (cursor .entry) .text)) (now (cursor .entry) .place) ⌝ }
+    ensures place { λ r. ⌜ now (cursor .exit) ≡ moved (now (cursor .entry)) ⌝ }
 {
     let step = step_at(cursor.text, cursor.place);
     cursor.place = step.place;

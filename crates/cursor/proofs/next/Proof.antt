@@ -43,7 +43,7 @@ use denote.Triple.Clauses.{ensured, lasts}
 use denote.Triple.Entry.{Vals, onEntry}
 use denote.Triple.Spec.{Meets, tripleOf}
 use denote.Triple.Table.{entered, cited}
-use denote.Triple.Walked.{says, Stays, stay-ref, walkOf, goes-ref, Walks, ends-at, walked, walk-meets}
+use denote.Triple.Walked.{Stays, stay-ref, walkOf, goes-ref, Walks, ends-at, walked, walk-meets}
 use denote.Enum.Laws as EL
 use base.Logic.{via, fst∗}
 use Rattle.token.proofs.Listed as K
@@ -56,6 +56,7 @@ use Rattle.cursor.proofs.Cursor.Laws as T′
 use Rattle.cursor.proofs.Step as S
 use Rattle.cursor.proofs.Step.Laws as S′
 use Rattle.cursor.proofs.Cursors.{said-step}
+use Rattle.cursor.proofs.Facts.{says3}
 use Rattle.cursor.proofs.step_at as step
 use Rattle.cursor.proofs.step_at.Symbol as step-def
 use Rattle.cursor.proofs.step_at.Symbol.{name as #cursor·step-at}
@@ -154,7 +155,7 @@ module _ {M : Type 1} (𝓤 : URA M) (H : Heap 𝓤) (A : Atoms 𝓤) (W : Given
   exits : (r : Step) (u : Val) → r ≡ found → ent 𝓤 (⋆ 𝓤 H A (‵ (fobs γ (B κ′ .coded .code (h′ (r .place)))) ∷ ‵ (fbor κ (Body (mem (B κ′)) b o γ)) ∷ ‵ (flft κ q) ∷ (‵ (flft κ′ q′) ⊛ ‵ ftrue) ∷ ‵ (K.the-row .own (r .listed) (u ∷ [])) ∷ [])) (Post u)
   exits r u e =
       qed W (‵ (fobs γ (B κ′ .coded .code (h′ (r .place)))) ∷ ‵ (fbor κ (Body (mem (B κ′)) b o γ)) ∷ ‵ (flft κ q) ∷ (‵ (flft κ′ q′) ⊛ ‵ ftrue) ∷ ‵ (K.the-row .own (r .listed) (u ∷ [])) ∷ []) ∵
-      suffices ! _ (ends-at 𝓤 H A next.ended stayed (next.clauses 𝓤 H A at-mem run) W (((κ, (κ′, tt)), (q, (q′, tt)), bounds, x, at), tt) u (r .listed) (h′ (r .place), tt) (tt, tt)) $ says ! (said-step h r e) $
+      suffices ! _ (ends-at 𝓤 H A next.ended stayed (next.clauses 𝓤 H A at-mem run) W (((κ, (κ′, tt)), (q, (q′, tt)), bounds, x, at), tt) u (r .listed) (h′ (r .place), tt) (tt, tt)) $ says3 ! (said-step h r e) $
       move ! (2 ∷ 3 ∷ []) $ join ! $
       frame ! $ feqI ! (List Val) (vptr b o ∷ []) (vptr b o ∷ []) refl $ fjoin3 ! $ nothing ! $ move ! (1 ∷ 0 ∷ []) $ fjoin ! $ frame ! $ done !
 
