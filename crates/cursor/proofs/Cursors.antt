@@ -1,10 +1,14 @@
 -- Laws of the calls of a cursor.
-use Prim.Native.Nat.{ℕ}
-use mathlib.Core.Path.{_≡_, sym, ap, _∙_}
+use Prim.Native.Nat.{ℕ, _≤_, _<_}
+use mathlib.Core.Path.{_≡_, refl, sym, ap, _∙_}
 use mathlib.Core.List.{List}
+use native.Mathlib.Omega.{arith}
+use lib.ListN.{length}
 use denote.Ref.{RefT, now}
 use Rattle.token.specs.Lister.{nextOf, numbersOf, Numbers, lister}
 use Rattle.token.specs.declared.Listed.{Listed}
+use Rattle.token.specs.declared.Listed.the-variants.{TooLong, NotUtf8, Next, End, NoToken}
+use Rattle.token.proofs.Lister.{next-in}
 use Rattle.cursor.specs.Cursors.{stepOf, twoOf, moved}
 use Rattle.cursor.specs.declared.Cursor.{Cursor}
 use Rattle.cursor.specs.declared.Step.{Step}
@@ -46,3 +50,32 @@ said-two s at c d e r q made one two =
 -- two calls at one cursor that keep the promise give the same answer and leave the same cursor
 pub one-call : (c d e : Cursor) (r q : Listed) → Said c r d → Said c q e → (r ≡ q) × (d ≡ e)
 one-call c d e r q a b = (a .0 ∙ sym (b .0), a .2 ∙ sym (b .2))
+
+module _ (s : List ℕ) (at : ℕ) where
+  place-by : (r : Listed) → nextOf s at ≡ r → at ≤ numbersOf at r .next
+  place-by TooLong e = omega arith
+  place-by (NotUtf8 p) e = omega arith
+  place-by (Next k a b) e =
+      let i = next-in s at k a b e in
+      omega (arith, i .after, i .some)
+  place-by (End n) e = omega arith
+  place-by (NoToken p) e = omega arith
+
+  -- a call never moves the place back
+  pub place-on : at ≤ lister s at .next
+  unfolding lister
+  place-on = place-by (nextOf s at) refl
+
+  -- after a token the place is its end
+  pub place-end : (k a b : ℕ) → nextOf s at ≡ Next k a b → lister s at .next ≡ b
+  unfolding lister
+  place-end k a b e = ap (λ (r : Listed). numbersOf at r .next) e
+
+-- two calls of which the second gives a token move the place on, inside the text
+pub two-on : (s : List ℕ) (at k a b : ℕ) → twoOf s at .second ≡ Next k a b → (at < twoOf s at .place) × (twoOf s at .place ≤ length s)
+unfolding twoOf
+two-on s at k a b e =
+    let p = lister s at .next in
+    let h = place-on s at in
+    let i = next-in s p k a b e in
+    rw (place-end s p k a b e) (omega (arith, h, i .after, i .some), i .within)
