@@ -154,6 +154,12 @@ pub record BuildInv (level : Level) (s : List ℕ) (o at used free : ℕ) (table
   pub short : (a ≤ most) × (b ≤ most) × (z ≤ most)
   pub held : Held c l table store used free tbl st
 
+-- whatever the buffers were before the first term
+abbrev pub LoopInv : Level → List ℕ → ℕ → ℕ → ℕ → ℕ → Placed → List ℕ → List ℕ → ℕ → ℕ → ℕ → ℕ → ℕ → ℕ → Bool → ℕ → List ℕ → List ℕ → Type 0
+LoopInv level s o at used free first table₀ store₀ i u f a b z chosen left tbl st =
+    (table store : List ℕ) → Room (Run level s (expr o at)) table store used free → Built (Run level s (term o at)) table store used free first table₀ store₀
+    → BuildInv level s o at used free table store i u f a b z chosen left tbl st
+
 module _ (level : Level) (s : List ℕ) (o at used free : ℕ) (table store : List ℕ) (g : Room (Run level s (expr o at)) table store used free) where
   pub first-room : Room (Run level s (term o at)) table store used free
   unfolding closed

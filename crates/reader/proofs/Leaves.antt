@@ -30,7 +30,8 @@ use Rattle.reader.specs.declared.Placed.{Placed}
 use Rattle.reader.specs.Build.{written, most, Fits, Room, Laid, Built, wordLeaf, stringLeaf}
 use Rattle.reader.proofs.Patches.{spanned}
 use Rattle.reader.proofs.Lays.{leaf-laid}
-use Rattle.reader.proofs.Orders.{low, spans, word-is, part-length, part-none}
+use Rattle.structure.proofs.Arrays.{low, spans, word-is, part-length}
+use Rattle.reader.proofs.Parts.{part-none}
 
 -- no bytes lie between a place and one before it
 pub none-wrote : (s store : List ℕ) (a z free : ℕ) → z < a → Wrote store free (unescaped (part s a z)) store free

@@ -1,10 +1,13 @@
 -- The laws of the building pass.
 pub mod Patches
 pub mod Lays
-pub mod Orders
+pub mod Parts
 pub mod Worths
 pub mod Leaves
 pub mod Loops
 pub mod Chains
 pub mod Terms
+pub mod Rules
+pub mod Answers
 pub mod Nodes
+pub mod Finishes

@@ -28,7 +28,7 @@ use Rattle.reader.specs.declared.Trailed.{Trailed}
 use Rattle.reader.specs.Build.{written, most, Laid, Over, SignsRoom, SignsPut, PostsRoom, PostsPut, Trails, suffixOf, chosenEnd, chosenOf, ChoiceRoom}
 use Rattle.reader.proofs.Patches.{spanned, length-written}
 use Rattle.reader.proofs.Lays.{one-laid}
-use Rattle.reader.proofs.Orders.{low}
+use Rattle.structure.proofs.Arrays.{low}
 
 -- a record over a tree's records
 pub one-holds : (o tbl tbl′ : List ℕ) (t : Tree Span) (f free : ℕ) (s : Span) (u : Unary) (g c : ℕ) → tbl ≡ written o f (flat f free t) → g ≡ f + count t → c ≡ f + below t
@@ -154,6 +154,7 @@ pub record Along (level : Level) (s table : List ℕ) (at used from : ℕ) (t : 
   pub grows : used ≤ u
   pub from-is : from ≡ placeOf tree .start
   pub to-is : z ≡ placeOf tree .stop
+  pub kept : stored tree ≡ stored t
   pub holds : (o : List ℕ) (f free : ℕ) → used ≡ f + count t → table ≡ written o f (flat f free t) → tbl ≡ written o f (flat f free tree)
 
 pub record PostsInv (s table : List ℕ) (at used from to : ℕ) (tbl : List ℕ) (i u z : ℕ) : Type 0 where
@@ -165,7 +166,7 @@ pub posts-start : (s table : List ℕ) (at used from to : ℕ) → to ≤ most �
 posts-start s table at used from to b = record {
   long = refl;
   stop = b;
-  same = λ level t e₁ e₂. record { tree = t; read = refl; used-is = refl; grows = omega arith; from-is = e₁; to-is = e₂; holds = λ o f free e q. q };
+  same = λ level t e₁ e₂. record { tree = t; read = refl; used-is = refl; grows = omega arith; from-is = e₁; to-is = e₂; kept = refl; holds = λ o f free e q. q };
 }
 
 was-post : (p : Postfix) (r : Suffix) (v : Unary) (n : ℕ) → r ≡ suffixOf p → r ≡ Suffix.Post v n → p ≡ post v n
@@ -224,7 +225,7 @@ module _ (s table : List ℕ) (at used from to : ℕ) (short : length s ≤ 6553
 
     pub posts-more : (z′ : ℕ) (tbl′ : List ℕ) → z′ ≡ end s (n - 1) → tbl′ ≡ written tbl u (recordOf (spanned from z′) (One (Plain p) (u - 1)))
         → PostsInv s table at used from to tbl′ n (u + 1) z′
-    unfolding after
+    unfolding after stored
     posts-more z′ tbl′ k q₁ =
         let l = low s (n - 1) in
         record {
@@ -242,6 +243,7 @@ module _ (s table : List ℕ) (at used from to : ℕ) (short : length s ≤ 6553
                 grows = (let b = w .grows in omega arith);
                 from-is = w .from-is;
                 to-is = k;
+                kept = w .kept;
                 holds = λ o f free a b.
                     one-holds o tbl tbl′ x f free (spanned (placeOf x .start) (end s (n - 1))) p u (u - 1) (w .holds o f free a b) (omega arith) (omega arith)
                     (q₁ ∙ ap (λ (j : ℕ). written tbl u (recordOf (spanned j z′) (One (Plain p) (u - 1)))) (w .from-is)
@@ -268,6 +270,7 @@ module _ (s table : List ℕ) (at used from to : ℕ) (short : length s ≤ 6553
               used-is = omega arith;
               from-is = w .from-is ∙ ap (λ (τ : Tree Span). placeOf τ .start) a;
               to-is = w .to-is ∙ ap (λ (τ : Tree Span). placeOf τ .stop) a;
+              kept = sym (ap (stored {P = Span}) a) ∙ w .kept;
               holds = λ o f free p₁ p₂. w .holds o f free p₁ p₂ ∙ ap (λ (τ : Tree Span). written o f (flat f free τ)) a;
             };
       }

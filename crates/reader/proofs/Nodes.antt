@@ -18,22 +18,32 @@ use Rattle.table.specs.Flat.{recordOf, flat}
 use Rattle.structure.specs.declared.Level.{Level}
 use Rattle.structure.specs.Tokens.{toks, start, end, is, spells}
 use Rattle.structure.specs.Structure.{Parsed, got, refused, next, want, limit, opened, endsAt, before, expr, node, Run, leafAt}
-use Rattle.structure.proofs.Steps.{choose-true, choose-false, next-got, next-good, want-true, want-got, opened-got, opened-false}
+use Rattle.structure.proofs.Steps.{choose-true, choose-false, inside-is, next-got, next-good, want-true, want-got, opened-got, opened-false}
 use Rattle.structure.proofs.Sizes.{stored-placed, grown-ends, grown-before}
+use Rattle.structure.proofs.Arrays.{low}
 use Rattle.structure.proofs.Grammar.{node-law}
 use Rattle.reader.specs.declared.Placed.{Placed}
 use Rattle.reader.specs.Build.{written, most, Room, Laid, Built, Over, EndMoved}
 use Rattle.reader.proofs.Patches.{spanned}
 use Rattle.reader.proofs.Lays.{laid-long, one-laid}
 
-place-placed : (p : Span) (t : Tree Span) → placeOf (placed p t) ≡ p
+pub place-placed : (p : Span) (t : Tree Span) → placeOf (placed p t) ≡ p
 place-placed p (leaf _ a) = refl
 place-placed p (one _ o t) = refl
 place-placed p (two _ j a b) = refl
 
+pub start-low : (s : List ℕ) (i a : ℕ) → length s ≤ 65536 → a ≡ start s i → a ≤ most
+start-low s i a h e = let l = low s i in omega arith
+
+pub end-low : (s : List ℕ) (i z : ℕ) → length s ≤ 65536 → z ≡ end s i → z ≤ most
+end-low s i z h e = let l = low s i in omega arith
+
 module _ (level : Level) (s : List ℕ) (o at used free : ℕ) (table store : List ℕ) (g : Room (Run level s (node o at)) table store used free) where
   -- ---- `(` expression `)`
   module _ (v : is s at 6 ≡ true) where
+    pub group-in : at < length (toks s)
+    group-in = inside-is s at 6 (omega arith) v
+
     group-open : leb limit o ≡ false
     group-open = opened-got o s at _ (sym (node-law level s o at ∙ choose-true (is s at 6) _ _ v) ∙ g .read) .0
 
@@ -58,6 +68,17 @@ module _ (level : Level) (s : List ℕ) (o at used free : ℕ) (table store : Li
         let h₃ = g .fits in
         let h₄ = g .low in
         record { tree = t; end = n; read = e₁; room = omega arith; few = omega arith; fits = omega arith; low = omega arith }
+
+    pub group-last : (r : Placed) (tbl st : List ℕ) → Built (Run level s (expr (o + 1) (at + 1))) table store used free r tbl st → (nodeSize * r .used ≤ length tbl) × (0 < r .used)
+    group-last r tbl st d =
+        let h = group-room in
+        let m : got (h .tree) (h .end) ≡ got (d .tree) (r .next) = sym (h .read) ∙ d .read in
+        let y : h .tree ≡ d .tree = cc m in
+        let c = ap (count {P = Span}) y in
+        let l = laid-long (d .tree) table store used free tbl st (d .laid) in
+        let h₁ = h .room in
+        let x = d .used-is in
+        (omega arith, omega arith)
 
     pub group-built : (r : Placed) (tbl st : List ℕ) → Built (Run level s (expr (o + 1) (at + 1))) table store used free r tbl st → (z : ℕ) → z ≡ end s (r .next) → z ≤ most
         → (tbl′ : List ℕ) → EndMoved tbl (r .used) z tbl′
@@ -118,6 +139,45 @@ module _ (level : Level) (s : List ℕ) (o at used free : ℕ) (table store : Li
         let h₃ = g .fits in
         let h₄ = g .low in
         record { tree = t; end = n; read = e₁; room = omega arith; few = omega arith; fits = omega arith; low = omega arith }
+
+    pub push-over : (r : Placed) (tbl st : List ℕ) → Built (Run level s (expr (o + 1) (at + 1 + 1))) table store used free r tbl st → (a : ℕ) → a ≤ most → Over tbl (r .used) a (r .to) × (r .used < most)
+    push-over r tbl st d a b =
+        let (i, p, e) = want-got s (r .next) 7 _ (omega arith) (sym (push-read ∙ next-good _ _ (d .read)) ∙ g .read) in
+        let y : before (start s at) (plain Push) (d .tree) ≡ g .tree = cc e in
+        let c = ap (count {P = Span}) y in
+        let w₁ = grown-before (start s at) Push (d .tree) .counts in
+        let l = laid-long (d .tree) table store used free tbl st (d .laid) in
+        let h₁ = g .room in
+        let h₂ = g .few in
+        let x = d .used-is in
+        (record { room = omega arith; from = b; to = d .short .1; few = omega arith; after = omega arith }, omega arith)
+
+    pub push-built : (r : Placed) (tbl st : List ℕ) → Built (Run level s (expr (o + 1) (at + 1 + 1))) table store used free r tbl st → (a : ℕ) → a ≡ start s at → a ≤ most
+        → (tbl′ : List ℕ) → tbl′ ≡ written tbl (r .used) (recordOf (spanned a (r .to)) (One (Plain Push) (r .used - 1)))
+        → (r .next < length (toks s)) × Built (Run level s (node o at)) table store used free (record { next = r .next + 1; used = r .used + 1; free = r .free; from = a; to = r .to }) tbl′ st
+    unfolding before
+    push-built r tbl st d a e b tbl′ m =
+        let t = d .tree in
+        let (i, p, e₃) = want-got s (r .next) 7 _ (omega arith) (sym (push-read ∙ next-good _ _ (d .read)) ∙ g .read) in
+        let w = grown-before (start s at) Push t in
+        let w₁ = w .counts in
+        let w₂ = w .sizes in
+        let x₁ = d .used-is in
+        let x₂ = d .free-is in (
+          p,
+          record {
+            tree = before (start s at) (plain Push) t;
+            read = push-read ∙ next-good _ _ (d .read) ∙ want-true refused s (r .next) 7 _ i;
+            used-is = omega arith;
+            free-is = omega arith;
+            from-is = e;
+            to-is = d .to-is;
+            short = (b, d .short .1);
+            laid = one-laid table store used free t tbl st tbl′ (spanned (start s at) (placeOf t .stop)) Push (r .used) (r .used - 1) (d .laid) (d .used-is) (omega arith)
+                (m ∙ ap (λ (k : ℕ). written tbl (r .used) (recordOf (spanned k (r .to)) (One (Plain Push) (r .used - 1)))) e
+                ∙ ap (λ (k : ℕ). written tbl (r .used) (recordOf (spanned (start s at) k) (One (Plain Push) (r .used - 1)))) (d .to-is));
+          },
+        )
 
   -- ---- a leaf
   pub leaf-read : is s at 6 ≡ false → spells push s at ≡ false → Run level s (node o at) ≡ leafAt o s at

@@ -26,41 +26,18 @@ use Rattle.structure.proofs.Steps.{choose-true, choose-false, sees, misses, wan
 use Rattle.reader.specs.declared.Suffix.{Suffix}
 use Rattle.reader.specs.declared.Suffix.the-variants as Suffix
 use Rattle.reader.specs.Build.{suffixOf}
-use Rattle.reader.proofs.Orders.{low, spans, word-is, part-length, part-none}
+use Rattle.structure.proofs.Arrays.{low, word-is, part-length}
+use Rattle.reader.proofs.Parts.{part-none}
 
 pub negated-is : (n : ℕ) → (n ≡ 0 → ⊥) → 4294967295 - (n - 1) ≡ negated n
 negated-is zero h = absurd (h refl)
 negated-is (suc n) h = let e : suc n - 1 ≡ n = omega arith in ap (λ (k : ℕ). 4294967295 - k) e
 
--- ---- spelling
-
-module _ (p s : List ℕ) (i : ℕ) where
-  pub spells-kind : (x : ℕ) → x ≡ kind s i → (x ≡ 18 → ⊥) → false ≡ spells p s i
-  unfolding spells
-  spells-kind x e h = sym (rw (misses s i x 18 e h))
-
-  module _ (x a z : ℕ) (e : x ≡ kind s i) (h : x ≡ 18) (e₁ : a ≡ start s i) (e₂ : z ≡ end s i) where
-    length-is : z - a ≡ length (word s i)
-    length-is = let l = low s i in sym (part-length s a z (omega arith)) ∙ ap length (word-is s i a z e₁ e₂)
-
-    pub spells-length : (z - a ≡ length p → ⊥) → false ≡ spells p s i
-    unfolding spells
-    spells-length n =
-        let q : eqb (length (word s i)) (length p) ≡ false = ne-eqb _ _ (λ k. n (length-is ∙ k)) in
-        sym (rw (sees s i x 18 e h, q))
-
-    pub spells-bytes : z - a ≡ length p → begins p (take (z - a) (drop a s)) ≡ spells p s i
-    unfolding spells part
-    spells-bytes n =
-        let q : eqb (length (word s i)) (length p) ≡ true = eq-eqb _ _ (sym length-is ∙ n) in
-        let w : take (z - a) (drop a s) ≡ word s i = word-is s i a z e₁ e₂ in
-        sym (rw (sees s i x 18 e h, q, w))
-
 -- ---- numbers
 
-pub number-is : (s : List ℕ) (i a z : ℕ) → a ≡ start s i → z ≡ end s i → (d : Decimal) (r : ℕ) → d ≡ decimalOf 4294967295 (take (z - a) (drop a s)) → r ≡ worth d → r ≡ number s i
-unfolding number part
-number-is s i a z e₁ e₂ d r q₁ q₂ = q₂ ∙ ap worth (q₁ ∙ ap (decimalOf 4294967295) (word-is s i a z e₁ e₂))
+pub number-is : (s : List ℕ) (i : ℕ) (d : Decimal) (r : ℕ) → d ≡ decimalOf 4294967295 (word s i) → r ≡ worth d → r ≡ number s i
+unfolding number
+number-is s i d r q₁ q₂ = q₂ ∙ ap worth q₁
 
 module _ (s : List ℕ) (i x : ℕ) (e : x ≡ kind s i) where
   pub integer-yes : x ≡ 20 → true ≡ isInteger s i
@@ -70,21 +47,14 @@ module _ (s : List ℕ) (i x : ℕ) (e : x ≡ kind s i) where
   unfolding is
   integer-by h = ap (λ (k : ℕ). eqb k 21) e ∙ sym (ap (λ (b : Bool). or b (eqb (kind s i) 21)) (ne-eqb (kind s i) 20 (λ k. h (e ∙ k))))
 
-  module _ (a z : ℕ) (e₁ : a ≡ start s i) (e₂ : z ≡ end s i) (d : Decimal) where
-    pub integer-negative : x ≡ 21 → (b : ℕ) → b ≡ a + 1 → d ≡ decimalOf 2147483648 (take (z - b) (drop b s)) → (w r : ℕ) → w ≡ worth d → r ≡ negated w → r ≡ integer s i
-    unfolding integer part
-    integer-negative h b q q₁ w r q₂ q₃ =
-        let t = sees s i x 21 e h in
-        let f : z ≡ end s i - 0 = omega arith in
-        let g : b ≡ start s i + 1 = omega arith in
-        let p : take (z - b) (drop b s) ≡ within s i 1 0 = ap (λ (j : ℕ). take (z - j) (drop j s)) g ∙ ap (λ (j : ℕ). take (j - (start s i + 1)) (drop (start s i + 1) s)) f in
-        q₃ ∙ ap negated (q₂ ∙ ap worth (q₁ ∙ ap (decimalOf 2147483648) p)) ∙ sym (rw (t))
+  module _ (d : Decimal) (w : ℕ) (q₁ : d ≡ integerOf s i) (q₂ : w ≡ worth d) where
+    pub integer-negative : x ≡ 21 → (r : ℕ) → r ≡ negated w → r ≡ integer s i
+    unfolding integer
+    integer-negative h r q₃ = q₃ ∙ ap negated (q₂ ∙ ap worth q₁) ∙ sym (choose-true (is s i 21) _ _ (sees s i x 21 e h))
 
-    pub integer-positive : (x ≡ 21 → ⊥) → d ≡ decimalOf 2147483647 (take (z - a) (drop a s)) → (r : ℕ) → r ≡ worth d → r ≡ integer s i
-    unfolding integer part
-    integer-positive h q₁ r q₂ =
-        let t = misses s i x 21 e h in
-        q₂ ∙ ap worth (q₁ ∙ ap (decimalOf 2147483647) (word-is s i a z e₁ e₂)) ∙ sym (rw (t))
+    pub integer-positive : (x ≡ 21 → ⊥) → w ≡ integer s i
+    unfolding integer
+    integer-positive h = q₂ ∙ ap worth q₁ ∙ sym (choose-false (is s i 21) _ _ (misses s i x 21 e h))
 
 pub opening-two : (s : List ℕ) (i x : ℕ) → x ≡ kind s i → x ≡ 24 → 2 ≡ opening s i
 opening-two s i x e h = sym (rw (sees s i x 24 e h))

@@ -3,6 +3,7 @@ use Prim.Native.Nat.{ℕ, zero, suc, _+_, _-_, _*_, _≤_, _<_}
 use mathlib.Core.Path.{_≡_}
 use mathlib.Core.Bool.{Bool, true, false}
 use mathlib.Core.List.{List, [], _∷_, _++_}
+use lib.Dec.{ltb}
 use lib.ListN.{length}
 use lib.Seq.{sets}
 use Rattle.text.specs.declared.Check.{Check}
@@ -17,11 +18,12 @@ use Rattle.table.specs.declared.Sort.{Sort}
 use Rattle.table.specs.declared.Sort.the-variants.{Ident}
 use Rattle.structure.specs.Tokens.{start, is, label, across, word}
 use Rattle.structure.specs.Values.{inside, string}
-use Rattle.structure.specs.Structure.{Parsed, got, endsAt, startsAt, posts, Run, Postfix, post, notPost, noPost}
-use Rattle.structure.specs.Answers.{signs}
+use Rattle.structure.specs.Structure.{Parsed, got, endsAt, startsAt, term, signed, posts, Run, Postfix, post, notPost, noPost}
+use Rattle.structure.specs.Answers.{signs, tagNodes}
 use Rattle.structure.specs.declared.Level.{Level}
 use Rattle.structure.specs.declared.Level.the-variants as Level
 use Rattle.text.specs.Choice.{choose}
+use Rattle.text.specs.Splice.{Wrote}
 use Rattle.reader.specs.declared.Placed.{Placed}
 use Rattle.reader.specs.declared.Trailed.{Trailed}
 use Rattle.reader.specs.declared.Suffix.{Suffix}
@@ -136,6 +138,7 @@ pub record Trails (t v : Tree Span) (n used from : ℕ) (table : List ℕ) (r : 
   pub used-is : r .used + count t ≡ used + count v
   pub from-is : from ≡ placeOf v .start
   pub to-is : r .to ≡ placeOf v .stop
+  pub kept : stored v ≡ stored t
   pub holds : (o : List ℕ) (f free : ℕ) → used ≡ f + count t → table ≡ written o f (flat f free t) → table′ ≡ written o f (flat f free v)
 
 -- the records of the postfixes from an index on were put over any tree with that span
@@ -183,6 +186,29 @@ bracketed s i t = choose (is s i 6) (λ u. startsAt t (start s i)) (λ u. t)
 pub record Opened (s : List ℕ) (i used : ℕ) (table table′ : List ℕ) : Type 0 where
   pub long : length table′ ≡ length table
   pub same : (o : List ℕ) (t : Tree Span) (f at : ℕ) → used ≡ f + count t → table ≡ written o f (flat f at t) → table′ ≡ written o f (flat f at (bracketed s i t))
+
+-- where a term starts, its tag aside: with its predicates, its bracket, or its node
+abbrev pub headAt : List ℕ → ℕ → ℕ → ℕ → ℕ
+headAt s from first a = choose (ltb from first) (λ u. start s from) (λ u. choose (is s first 6) (λ u. start s first) (λ u. a))
+
+-- how many records a term's tag has
+abbrev pub tagCount : Level → List ℕ → ℕ → ℕ
+tagCount level s at = choose (is s at 19) (λ u. tagNodes level) (λ u. 0)
+
+-- there is room for a tag's record, if it has one, over the node that was written last; its text lies from free to mid
+pub record TagRoom (level : Level) (s table : List ℕ) (at free mid : ℕ) (p : Placed) : Type 0 where
+  pub room : nodeSize * (p .used + tagCount level s at) ≤ length table
+  pub few : p .used + tagCount level s at ≤ most
+  pub after : 0 < p .used
+  pub to : p .to ≤ most
+  pub past : free ≤ mid
+  pub low : mid ≤ most
+
+-- a term that was built but for its tag is built now, whatever the buffers were before
+pub record Tied (level : Level) (s : List ℕ) (at free mid : ℕ) (p : Placed) (table : List ℕ) (r : Placed) (table′ : List ℕ) : Type 0 where
+  pub long : length table′ ≡ length table
+  pub same : (deep used : ℕ) (o store store₁ st : List ℕ) → Wrote store free (tagText level s at) store₁ mid → Room (Run level s (term deep at)) o store used free
+      → Built (Run level s (signed deep (pastTag s at))) o store₁ used mid p table st → Built (Run level s (term deep at)) o store used free r table′ st
 
 -- a postfix as the code has it
 unfoldable pub suffixOf : Postfix → Suffix

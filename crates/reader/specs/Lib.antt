@@ -1,3 +1,4 @@
 -- The reader: the definitions that the contracts of this crate cite.
 pub mod Read
 pub mod Build
+pub mod Rules

@@ -1,5 +1,6 @@
 -- What the reader answers, and what it leaves in the lent buffers.
 use Prim.Native.Nat.{ℕ, _/_, min}
+use mathlib.Core.Path.{_≡_}
 use mathlib.Core.Bool.{Bool, true, false}
 use mathlib.Core.List.{List, [], _∷_}
 use lib.Dec.{leb, ltb}
@@ -31,13 +32,15 @@ roomForNodes ns = min (nodesIn ns) maxNodes
 abbrev pub roomForRules : List ℕ → ℕ
 roomForRules rs = min (rulesIn rs) maxRules
 
--- 12, 10, 11; else the counts used
-unfoldable pub roomFor : List (Rule Span) → ℕ → ℕ → ℕ → Reading
-roomFor us n r b =
-    choose (leb (length us) r)
-    (λ u. choose (leb (counts us) n)
-    (λ u. choose (leb (length (rulesStored us)) b) (λ u. Reading.Read (counts us) (length us) (length (rulesStored us))) (λ u. Reading.StoreRoom)) (λ u. Reading.NodesRoom))
+-- k rules of c nodes and z store bytes: 12, 10, 11; else the counts used
+unfoldable pub roomBy : ℕ → ℕ → ℕ → ℕ → ℕ → ℕ → Reading
+roomBy k c z n r b =
+    choose (leb k r)
+    (λ u. choose (leb c n) (λ u. choose (leb z b) (λ u. Reading.Read c k z) (λ u. Reading.StoreRoom)) (λ u. Reading.NodesRoom))
     (λ u. Reading.RulesRoom)
+
+abbrev pub roomFor : List (Rule Span) → ℕ → ℕ → ℕ → Reading
+roomFor us n r b = roomBy (length us) (counts us) (length (rulesStored us)) n r b
 
 abbrev pub faulty : Fault → (Unit {0} → Reading) → Reading
 faulty Fault.Sound f = f tt
@@ -60,14 +63,18 @@ abbrev pub ruledBy : Ruled → (List (Rule Span) → Reading) → Reading
 ruledBy (rules us) f = f us
 ruledBy (unruled r) f = unreadable r
 
--- each phase covers the whole text first: 1; 2; 3; 4 and 9; 5, 6, 7, 8 and 13; 12, 10, 11
+-- 4 and 9; 5, 6, 7, 8 and 13; 12, 10, 11
+unfoldable pub judgedOf : Level → List ℕ → ℕ → ℕ → ℕ → Reading
+judgedOf level s n r b = ruledBy (grammar level s) (λ us. faulty (faults level s) (λ u. roomFor us n r b))
+
+-- 3 before those
+unfoldable pub listedOf : Level → List ℕ → ℕ → ℕ → ℕ → Reading
+listedOf level s n r b = checkedBy (tokensOf s .fault) Reading.NoToken (λ u. judgedOf level s n r b)
+
+-- 1 and 2 before those; each phase covers the whole text first
 unfoldable pub readOf : Level → List ℕ → ℕ → ℕ → ℕ → Reading
 readOf level s n r b =
-    choose (leb (length s) 65536)
-    (λ u. checkedBy (firstBad s) Reading.NotUtf8
-    (λ u. checkedBy (tokensOf s .fault) Reading.NoToken
-    (λ u. ruledBy (grammar level s) (λ us. faulty (faults level s) (λ u. roomFor us n r b)))))
-    (λ u. Reading.TooLong)
+    choose (leb (length s) 65536) (λ u. checkedBy (firstBad s) Reading.NotUtf8 (λ u. listedOf level s n r b)) (λ u. Reading.TooLong)
 
 abbrev pub ruledOf : Ruled → List (Rule Span)
 ruledOf (rules us) = us
@@ -120,3 +127,13 @@ numbered (Reading.NotPlain p) = refusal 13 p
 numbered Reading.RulesRoom = refusal 12 0
 numbered Reading.NodesRoom = refusal 10 0
 numbered Reading.StoreRoom = refusal 11 0
+
+-- what is to be answered, in those numbers
+unfoldable pub reported : Level → List ℕ → ℕ → ℕ → ℕ → Numbered
+reported level s n r b = numbered (readOf level s n r b)
+
+-- the three buffers afterwards, by the answer
+pub record Leaves (level : Level) (s : List ℕ) (r : Reading) (ns rs st ns′ rs′ st′ : List ℕ) : Type 0 where
+  pub nodes : ns′ ≡ leftIn r (nodesOf (rulesOf level s)) ns
+  pub rules : rs′ ≡ leftIn r (recordsOf (rulesOf level s)) rs
+  pub store : st′ ≡ leftIn r (rulesStored (rulesOf level s)) st

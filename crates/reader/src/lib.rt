@@ -4,7 +4,12 @@
 
 pub mod inner;
 
+use structure::Level;
 use table::Unary;
+use text::Check;
+ghost use mathlib.Core.Path.{_≡_};
+ghost use lib.ListN.{length};
+ghost use Rattle.reader.specs.Read.{roomForNodes, roomForRules, readOf, numbered, reported, Leaves};
 
 // The nodes, rules and store bytes used, or why nothing was read, and where.
 pub enum Reading {
@@ -52,4 +57,63 @@ pub struct Trailed {
 pub struct Tag {
     pub next: usize,
     pub free: usize,
+}
+
+// Past a rule: the token, the node record and the store byte after it.
+pub struct Past {
+    pub next: usize,
+    pub used: usize,
+    pub free: usize,
+}
+
+// Reads a text into tables: its rules in `rules`, their nodes in `nodes`, their texts in `store`.
+pub fn read(
+    text: &[u8],
+    level: Level,
+    nodes: &mut [u32],
+    rules: &mut [u32],
+    store: &mut [u8],
+) -> Reading
+    ensures answer { λ r. ⌜ r ≡ readOf level (now (text .entry)) (roomForNodes (now (nodes .entry))) (roomForRules (now (rules .entry))) (length (now (store .entry))) ⌝ }
+    ensures report { λ r. ⌜ numbered r ≡ reported level (now (text .entry)) (roomForNodes (now (nodes .entry))) (roomForRules (now (rules .entry))) (length (now (store .entry))) ⌝ }
+    ensures left { λ r. ⌜ Leaves level (now (text .entry)) r (now (nodes .entry)) (now (rules .entry)) (now (store .entry)) (now (nodes .exit)) (now (rules .exit)) (now (store .exit)) ⌝ }
+{
+    if 65536 < text.len() {
+        return Reading::TooLong;
+    }
+    let utf8 = text::first_bad(text);
+    if let Check::Bad(place) = utf8 {
+        return Reading::NotUtf8(place);
+    }
+    let t = text::inner::classes::classes();
+    if text.len() <= 2048 {
+        let mut kinds = [0u8; 2048];
+        let mut starts = [0u32; 2048];
+        let mut ends = [0u32; 2048];
+        return inner::answers::work(
+            &t,
+            text,
+            &mut kinds,
+            &mut starts,
+            &mut ends,
+            level,
+            nodes,
+            rules,
+            store,
+        );
+    }
+    let mut kinds = [0u8; 65536];
+    let mut starts = [0u32; 65536];
+    let mut ends = [0u32; 65536];
+    inner::answers::work(
+        &t,
+        text,
+        &mut kinds,
+        &mut starts,
+        &mut ends,
+        level,
+        nodes,
+        rules,
+        store,
+    )
 }

@@ -125,7 +125,7 @@ rule-bad : (m : Parsed) (f : Tree Span → ℕ → Ruling) {x : Refusal} → m �
 unfolding ruleOf
 rule-bad m f e = ap (λ (x : Parsed). ruleOf x f) e
 
-size-rule : (r : Rule Span) → length (ruleStored r) ≡ length (r .name) + size (r .tree)
+pub size-rule : (r : Rule Span) → length (ruleStored r) ≡ length (r .name) + size (r .tree)
 unfolding ruleStored
 size-rule r = length-append (r .name) (stored (r .tree))
 
@@ -272,16 +272,16 @@ with-sum r (rules rs) =
 with-sum r (unruled x) = refl
 
 module _ (level : Level) (s : List ℕ) where
-  rules-end : (k at : ℕ) → length (toks s) ≤ at → rulesIn level s k at ≡ rules []
+  pub rules-end : (k at : ℕ) → length (toks s) ≤ at → rulesIn level s k at ≡ rules []
   unfolding rulesIn
   rules-end zero at h = refl
   rules-end (suc k) at h = choose-true (leb (length (toks s)) at) _ _ (le-leb (length (toks s)) at h)
 
-  rules-doc : (k at : ℕ) → at < length (toks s) → is s at 27 ≡ true → rulesIn level s (suc k) at ≡ rulesIn level s k (at + 1)
+  pub rules-doc : (k at : ℕ) → at < length (toks s) → is s at 27 ≡ true → rulesIn level s (suc k) at ≡ rulesIn level s k (at + 1)
   unfolding rulesIn
   rules-doc k at h e = choose-false (leb (length (toks s)) at) _ _ (lt-leb (length (toks s)) at h) ∙ choose-true (is s at 27) _ _ e
 
-  rules-rule : (k at : ℕ) → at < length (toks s) → is s at 27 ≡ false → rulesIn level s (suc k) at ≡ thenRules (ruleAt level s at) (λ r n. withRule r (rulesIn level s k n))
+  pub rules-rule : (k at : ℕ) → at < length (toks s) → is s at 27 ≡ false → rulesIn level s (suc k) at ≡ thenRules (ruleAt level s at) (λ r n. withRule r (rulesIn level s k n))
   unfolding rulesIn
   rules-rule k at h e = choose-false (leb (length (toks s)) at) _ _ (lt-leb (length (toks s)) at h) ∙ choose-false (is s at 27) _ _ e
 

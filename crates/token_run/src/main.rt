@@ -1,5 +1,5 @@
-// Runs the lister and the filling of arrays on the vectors of its standard input, and writes each with
-// its answer: a token's kind, start and end; 0 and the length twice; or a refusal's number and place.
+// Runs the lister, its cursor and the filling of arrays on the vectors of its standard input, and writes
+// each with its answer: a token's kind, start and end; 0 and the length twice; or a refusal's number and place.
 //
 // A line is an operation, a number and bytes. Behind a small letter the bytes are the rest of the line as
 // it stands, behind a capital they are in hex.
@@ -61,6 +61,31 @@ fn run_list(bytes: &[u8], from: usize) {
             Listed::NoToken(_) => {
                 return;
             }
+        }
+    }
+}
+
+// c PLACE BYTES: the same by a cursor, two calls at a time, up to a second call that gives no token; then
+// the cursor's place
+fn run_cursor(bytes: &[u8], from: usize) {
+    let mut at = from;
+    loop {
+        let two = cursor::next_two(bytes, at);
+        let first = two.first;
+        let second = two.second;
+        let place = two.place;
+        write_listed(first);
+        write_listed(second);
+        if let Listed::Next {
+            kind: _,
+            start: _,
+            end: _,
+        } = second {
+            at = place;
+        } else {
+            vectors::write(b" then");
+            vectors::write_number(place);
+            return;
         }
     }
 }
@@ -170,6 +195,8 @@ fn run_line(line: &[u8]) {
         b'T' => run_next(&bytes[..n], number),
         b'l' => run_list(&line[c..], number),
         b'L' => run_list(&bytes[..n], number),
+        b'c' => run_cursor(&line[c..], number),
+        b'C' => run_cursor(&bytes[..n], number),
         b'f' => run_fill(&line[c..]),
         b'F' => run_fill(&bytes[..n]),
         b'R' => run_repeated(&bytes[..n], number),

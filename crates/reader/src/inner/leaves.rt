@@ -6,11 +6,11 @@ use super::records::put_text;
 use super::values::character_at;
 use super::values::integer_at;
 use super::values::is_integer;
-use super::values::is_spelled;
 use super::values::opening_of;
 use crate::Placed;
 use structure::inner::tokens::end_at;
 use structure::inner::tokens::kind_at;
+use structure::inner::tokens::spelled;
 use structure::inner::tokens::start_at;
 use table::Sort;
 ghost use mathlib.Core.Path.{_≡_};
@@ -227,7 +227,7 @@ pub fn put_leaf(
     requires { ⌜ Room (leafAt deep (now text) at) (now nodes) (now store) used free ⌝ }
     ensures { λ r. ⌜ Built (leafAt deep (now (text .entry)) at) (now (nodes .entry)) (now (store .entry)) used free r (now (nodes .exit)) (now (store .exit)) ⌝ }
 {
-    if is_spelled(b"PUSH_LITERAL", text, kinds, starts, ends, at) {
+    if spelled(b"PUSH_LITERAL", text, kinds, starts, ends, at) {
         return put_literal(
             text,
             kinds,
@@ -243,7 +243,7 @@ pub fn put_leaf(
         );
     }
     let kind = kind_at(text, kinds, starts, ends, at);
-    if is_spelled(b"PEEK", text, kinds, starts, ends, at) {
+    if spelled(b"PEEK", text, kinds, starts, ends, at) {
         if kind_at(text, kinds, starts, ends, at + 1) == 4 {
             return put_slice(
                 text,

@@ -2,6 +2,8 @@
 // moves its start.
 use super::records::move_start;
 use super::records::put_bytes;
+use super::records::put_record;
+use crate::Placed;
 use crate::Tag;
 use structure::Level;
 use structure::inner::tokens::end_at;
@@ -13,7 +15,7 @@ ghost use lib.ListN.{length};
 ghost use Rattle.text.specs.Splice.{Room, Wrote};
 ghost use Rattle.table.specs.Record.{nodeSize};
 ghost use Rattle.structure.specs.Answers.{Lent};
-ghost use Rattle.reader.specs.Build.{tagText, pastTag, Opened};
+ghost use Rattle.reader.specs.Build.{tagText, pastTag, Opened, headAt, TagRoom, Tied};
 
 // Goes past a term's tag, and puts its text into the store. Plain drops it.
 pub fn get_node_tag(
@@ -68,5 +70,64 @@ pub fn open_at(
     if kind_at(text, kinds, starts, ends, at) == 6 {
         let a = start_at(text, kinds, starts, ends, at);
         move_start(nodes, used, a);
+    }
+}
+
+// Where a term starts, its tag aside: with its predicates, its bracket, or its node.
+pub fn head_at(
+    text: &[u8],
+    kinds: &[u8],
+    starts: &[u32],
+    ends: &[u32],
+    from: usize,
+    first: usize,
+    a: usize,
+) -> usize
+    requires { ⌜ Lent (now text) (now kinds) (now starts) (now ends) ⌝ }
+    ensures { λ r. ⌜ r ≡ headAt (now (text .entry)) from first a ⌝ }
+{
+    if from < first {
+        return start_at(text, kinds, starts, ends, from);
+    }
+    if kind_at(text, kinds, starts, ends, first) == 6 {
+        return start_at(text, kinds, starts, ends, first);
+    }
+    a
+}
+
+// Writes the record of a term's tag over the rest of the term. Plain has none.
+pub fn put_tag(
+    text: &[u8],
+    kinds: &[u8],
+    starts: &[u32],
+    ends: &[u32],
+    nodes: &mut [u32],
+    level: Level,
+    at: usize,
+    free: usize,
+    mid: usize,
+    built: Placed,
+) -> Placed
+    requires { ⌜ Lent (now text) (now kinds) (now starts) (now ends) ⌝ }
+    requires { ⌜ TagRoom level (now text) (now nodes) at free mid built ⌝ }
+    ensures { λ r. ⌜ Tied level (now (text .entry)) at free mid built (now (nodes .entry)) r (now (nodes .exit)) ⌝ }
+{
+    if kind_at(text, kinds, starts, ends, at) != 19 {
+        return built;
+    }
+    match level {
+        Level::Plain => built,
+        Level::Tagged => {
+            let a = start_at(text, kinds, starts, ends, at);
+            let used = built.used;
+            put_record(nodes, used, 19, a, built.to, used - 1, free, mid - free);
+            Placed {
+                next: built.next,
+                used: used + 1,
+                free: built.free,
+                from: a,
+                to: built.to,
+            }
+        }
     }
 }

@@ -4,14 +4,18 @@ use literal::Escape;
 use structure::inner::tokens::end_at;
 use structure::inner::tokens::kind_at;
 use structure::inner::tokens::start_at;
+use structure::inner::values::integer_of;
+use structure::inner::values::number_of;
 use table::Unary;
 use text::Decimal;
 use text::Sequence;
 ghost use mathlib.Core.Path.{_≡_};
 ghost use mathlib.Core.Bool.{true};
+ghost use Prim.Native.Nat.{_<_};
+ghost use lib.ListN.{length};
 ghost use Rattle.literal.specs.Escapes.{escapeOf};
 ghost use Rattle.structure.specs.Answers.{Lent};
-ghost use Rattle.structure.specs.Tokens.{is, spells};
+ghost use Rattle.structure.specs.Tokens.{toks, is};
 ghost use Rattle.structure.specs.Values.{worth, negated, number, isInteger, integer, opening, charBy, character};
 ghost use Rattle.structure.specs.Structure.{postfixAt, fromNumber, fromComma};
 ghost use Rattle.reader.specs.Build.{suffixOf};
@@ -36,37 +40,13 @@ fn negate(n: u32) -> u32
     4294967295 - (n - 1)
 }
 
-// The token is the word spelled so.
-pub fn is_spelled(
-    p: &[u8],
-    text: &[u8],
-    kinds: &[u8],
-    starts: &[u32],
-    ends: &[u32],
-    at: usize,
-) -> bool
-    requires { ⌜ Lent (now text) (now kinds) (now starts) (now ends) ⌝ }
-    ensures { λ r. ⌜ r ≡ spells (now (p .entry)) (now (text .entry)) at ⌝ }
-{
-    if kind_at(text, kinds, starts, ends, at) != 18 {
-        return false;
-    }
-    let a = start_at(text, kinds, starts, ends, at);
-    let z = end_at(text, kinds, starts, ends, at);
-    if z - a != p.len() {
-        return false;
-    }
-    text::inner::words::begins_at(p, &text[a..z], 0)
-}
-
 // A repeat number.
-pub fn number_at(text: &[u8], kinds: &[u8], starts: &[u32], ends: &[u32], at: usize) -> u32
+fn number_at(text: &[u8], kinds: &[u8], starts: &[u32], ends: &[u32], at: usize) -> u32
     requires { ⌜ Lent (now text) (now kinds) (now starts) (now ends) ⌝ }
+    requires { ⌜ at < length (toks (now text)) ⌝ }
     ensures { λ r. ⌜ r ≡ number (now (text .entry)) at ⌝ }
 {
-    let a = start_at(text, kinds, starts, ends, at);
-    let z = end_at(text, kinds, starts, ends, at);
-    worth_of(text::decimal_of(&text[a..z], 4294967295))
+    worth_of(number_of(text, kinds, starts, ends, at))
 }
 
 pub fn is_integer(text: &[u8], kinds: &[u8], starts: &[u32], ends: &[u32], at: usize) -> bool
@@ -83,15 +63,14 @@ pub fn is_integer(text: &[u8], kinds: &[u8], starts: &[u32], ends: &[u32], at: u
 // A number of a PEEK slice, in two's complement.
 pub fn integer_at(text: &[u8], kinds: &[u8], starts: &[u32], ends: &[u32], at: usize) -> u32
     requires { ⌜ Lent (now text) (now kinds) (now starts) (now ends) ⌝ }
+    requires { ⌜ at < length (toks (now text)) ⌝ }
     ensures { λ r. ⌜ r ≡ integer (now (text .entry)) at ⌝ }
 {
-    let a = start_at(text, kinds, starts, ends, at);
-    let z = end_at(text, kinds, starts, ends, at);
+    let n = worth_of(integer_of(text, kinds, starts, ends, at));
     if kind_at(text, kinds, starts, ends, at) == 21 {
-        let b = a + 1;
-        return negate(worth_of(text::decimal_of(&text[b..z], 2147483648)));
+        return negate(n);
     }
-    worth_of(text::decimal_of(&text[a..z], 2147483647))
+    n
 }
 
 // How many bytes open a literal.

@@ -1,6 +1,6 @@
 use native.Mathlib.Omega.{arith}
 use mathlib.Core.Path.{sym, _∙_}
-use Rattle.reader.proofs.Orders.{not-many}
+use Rattle.structure.proofs.Arrays.{sizes}
 use Rattle.structure.proofs.Steps.{sees, misses, inside-is}
 use Rattle.reader.proofs.Leaves.{spelled-word, push-read, peek-read, peek-word, word-read, string-read, insens-read, ranged-read, room-same, built-same}
 use borrow.Author.Needs.{needs}
@@ -10,35 +10,35 @@ use Rattle.reader.proofs.inner.leaves.put_literal.Reads as put-literal-
 use Rattle.reader.proofs.inner.leaves.put_range.Reads as put-range-reads
 use Rattle.reader.proofs.inner.leaves.put_slice.Reads as put-slice-reads
 use Rattle.reader.proofs.inner.leaves.put_word.Reads as put-word-reads
-use Rattle.reader.proofs.inner.values.is_spelled.Reads as is-spelled-reads
+use Rattle.structure.proofs.inner.tokens.spelled.Reads as spelled-reads
 use Rattle.structure.proofs.inner.tokens.kind_at.Reads as kind-at-reads
 
-slice-aggregate-is-spelled : tie.Need-slice-aggregate-is-spelled
-slice-aggregate-is-spelled c = search needs
+slice-aggregate-spelled : tie.Need-slice-aggregate-spelled
+slice-aggregate-spelled c = search needs
 
-is-spelled-requires : tie.Need-is-spelled-requires
-is-spelled-requires c κs = search needs
+spelled-requires : tie.Need-spelled-requires
+spelled-requires c κs = search needs
 
 add-put-literal : tie.Need-add-put-literal
-add-put-literal c = let w = push-read _ _ _ (c .before .before .before .before .before .before .before .before .before .before .before .pre .1 .1) (sym (c .before .before .before .is-spelled .ensures) ∙ c .before .before .if1 .taken) .1 in let n = not-many _ _ _ _ (c .before .before .before .before .before .before .before .before .before .before .before .pre .0) in omega arith
+add-put-literal c = let w = push-read _ _ _ (c .before .before .before .before .before .before .before .before .before .before .before .pre .1 .1) (sym (c .before .before .before .spelled .ensures) ∙ c .before .before .if1 .taken) .1 in let n = sizes _ _ _ _ (c .before .before .before .before .before .before .before .before .before .before .before .pre .0) in omega arith
 
 add-put-literal-2 : tie.Need-add-put-literal-2
-add-put-literal-2 c = let w = push-read _ _ _ (c .before .before .before .before .before .before .before .before .before .before .before .pre .1 .1) (sym (c .before .before .before .is-spelled .ensures) ∙ c .before .before .if1 .taken) .1 in let n = not-many _ _ _ _ (c .before .before .before .before .before .before .before .before .before .before .before .pre .0) in omega arith
+add-put-literal-2 c = let w = push-read _ _ _ (c .before .before .before .before .before .before .before .before .before .before .before .pre .1 .1) (sym (c .before .before .before .spelled .ensures) ∙ c .before .before .if1 .taken) .1 in let n = sizes _ _ _ _ (c .before .before .before .before .before .before .before .before .before .before .before .pre .0) in omega arith
 
 add-put-literal-3 : tie.Need-add-put-literal-3
-add-put-literal-3 c = let w = push-read _ _ _ (c .before .before .before .before .before .before .before .before .before .before .before .pre .1 .1) (sym (c .before .before .before .is-spelled .ensures) ∙ c .before .before .if1 .taken) .1 in let n = not-many _ _ _ _ (c .before .before .before .before .before .before .before .before .before .before .before .pre .0) in omega arith
+add-put-literal-3 c = let w = push-read _ _ _ (c .before .before .before .before .before .before .before .before .before .before .before .pre .1 .1) (sym (c .before .before .before .spelled .ensures) ∙ c .before .before .if1 .taken) .1 in let n = sizes _ _ _ _ (c .before .before .before .before .before .before .before .before .before .before .before .pre .0) in omega arith
 
 add-put-literal-4 : tie.Need-add-put-literal-4
-add-put-literal-4 c = let w = push-read _ _ _ (c .before .before .before .before .before .before .before .before .before .before .before .pre .1 .1) (sym (c .before .before .before .is-spelled .ensures) ∙ c .before .before .if1 .taken) .1 in let n = not-many _ _ _ _ (c .before .before .before .before .before .before .before .before .before .before .before .pre .0) in omega arith
+add-put-literal-4 c = let w = push-read _ _ _ (c .before .before .before .before .before .before .before .before .before .before .before .pre .1 .1) (sym (c .before .before .before .spelled .ensures) ∙ c .before .before .if1 .taken) .1 in let n = sizes _ _ _ _ (c .before .before .before .before .before .before .before .before .before .before .before .pre .0) in omega arith
 
 add-put-literal-5 : tie.Need-add-put-literal-5
-add-put-literal-5 c = let w = push-read _ _ _ (c .before .before .before .before .before .before .before .before .before .before .before .pre .1 .1) (sym (c .before .before .before .is-spelled .ensures) ∙ c .before .before .if1 .taken) .1 in let n = not-many _ _ _ _ (c .before .before .before .before .before .before .before .before .before .before .before .pre .0) in omega arith
+add-put-literal-5 c = let w = push-read _ _ _ (c .before .before .before .before .before .before .before .before .before .before .before .pre .1 .1) (sym (c .before .before .before .spelled .ensures) ∙ c .before .before .if1 .taken) .1 in let n = sizes _ _ _ _ (c .before .before .before .before .before .before .before .before .before .before .before .pre .0) in omega arith
 
 add-put-literal-6 : tie.Need-add-put-literal-6
-add-put-literal-6 c = let w = push-read _ _ _ (c .before .before .before .before .before .before .before .before .before .before .before .pre .1 .1) (sym (c .before .before .before .is-spelled .ensures) ∙ c .before .before .if1 .taken) .1 in let n = not-many _ _ _ _ (c .before .before .before .before .before .before .before .before .before .before .before .pre .0) in omega arith
+add-put-literal-6 c = let w = push-read _ _ _ (c .before .before .before .before .before .before .before .before .before .before .before .pre .1 .1) (sym (c .before .before .before .spelled .ensures) ∙ c .before .before .if1 .taken) .1 in let n = sizes _ _ _ _ (c .before .before .before .before .before .before .before .before .before .before .before .pre .0) in omega arith
 
 put-literal-requires : tie.Need-put-literal-requires
-put-literal-requires c κs = ((c .before .before .before .before .before .before .before .before .before .before .before .pre .0), (push-read _ _ _ (c .before .before .before .before .before .before .before .before .before .before .before .pre .1 .1) (sym (c .before .before .before .is-spelled .ensures) ∙ c .before .before .if1 .taken) .1, ((c .before .before .before .before .before .before .before .before .before .before .before .pre .1 .0) .strings _ (push-read _ _ _ (c .before .before .before .before .before .before .before .before .before .before .before .pre .1 .1) (sym (c .before .before .before .is-spelled .ensures) ∙ c .before .before .if1 .taken) .0), room-same (push-read _ _ _ (c .before .before .before .before .before .before .before .before .before .before .before .pre .1 .1) (sym (c .before .before .before .is-spelled .ensures) ∙ c .before .before .if1 .taken) .2) (c .before .before .before .before .before .before .before .before .before .before .before .pre .1 .1))))
+put-literal-requires c κs = ((c .before .before .before .before .before .before .before .before .before .before .before .pre .0), (push-read _ _ _ (c .before .before .before .before .before .before .before .before .before .before .before .pre .1 .1) (sym (c .before .before .before .spelled .ensures) ∙ c .before .before .if1 .taken) .1, ((c .before .before .before .before .before .before .before .before .before .before .before .pre .1 .0) .strings _ (push-read _ _ _ (c .before .before .before .before .before .before .before .before .before .before .before .pre .1 .1) (sym (c .before .before .before .spelled .ensures) ∙ c .before .before .if1 .taken) .0), room-same (push-read _ _ _ (c .before .before .before .before .before .before .before .before .before .before .before .pre .1 .1) (sym (c .before .before .before .spelled .ensures) ∙ c .before .before .if1 .taken) .2) (c .before .before .before .before .before .before .before .before .before .before .before .pre .1 .1))))
 
 same-length : tie.Need-same-length
 same-length c = search needs
@@ -47,28 +47,28 @@ same-length-2 : tie.Need-same-length-2
 same-length-2 c = search needs
 
 returns : tie.Need-returns
-returns c = built-same (push-read _ _ _ (c .before .before .before .before .before .before .before .before .before .before .before .before .before .before .before .before .pre .1 .1) (sym (c .before .before .before .before .before .before .before .before .is-spelled .ensures) ∙ c .before .before .before .before .before .before .before .if1 .taken) .2) (c .before .before .before .before .put-literal .ensures)
+returns c = built-same (push-read _ _ _ (c .before .before .before .before .before .before .before .before .before .before .before .before .before .before .before .before .pre .1 .1) (sym (c .before .before .before .before .before .before .before .before .spelled .ensures) ∙ c .before .before .before .before .before .before .before .if1 .taken) .2) (c .before .before .before .before .put-literal .ensures)
 
 kind-at-requires : tie.Need-kind-at-requires
 kind-at-requires c κs = search needs
 
-slice-aggregate-is-spelled-2 : tie.Need-slice-aggregate-is-spelled-2
-slice-aggregate-is-spelled-2 c = search needs
+slice-aggregate-spelled-2 : tie.Need-slice-aggregate-spelled-2
+slice-aggregate-spelled-2 c = search needs
 
-is-spelled-requires-2 : tie.Need-is-spelled-requires-2
-is-spelled-requires-2 c κs = search needs
+spelled-requires-2 : tie.Need-spelled-requires-2
+spelled-requires-2 c κs = search needs
 
 add-kind-at : tie.Need-add-kind-at
-add-kind-at c = let w = inside-is _ _ 18 (omega arith) (spelled-word _ _ _ (sym (c .before .is-spelled2 .ensures) ∙ c .if2 .taken)) in let n = not-many _ _ _ _ (c .before .before .before .before .before .before .before .before .before .before .before .before .before .pre .0) in omega arith
+add-kind-at c = let w = inside-is _ _ 18 (omega arith) (spelled-word _ _ _ (sym (c .before .spelled2 .ensures) ∙ c .if2 .taken)) in let n = sizes _ _ _ _ (c .before .before .before .before .before .before .before .before .before .before .before .before .before .pre .0) in omega arith
 
 kind-at-requires-2 : tie.Need-kind-at-requires-2
 kind-at-requires-2 c κs = search needs
 
 add-put-slice : tie.Need-add-put-slice
-add-put-slice c = let w = inside-is _ _ 18 (omega arith) (spelled-word _ _ _ (sym (c .before .before .before .before .before .is-spelled2 .ensures) ∙ c .before .before .before .before .if2 .taken)) in let n = not-many _ _ _ _ (c .before .before .before .before .before .before .before .before .before .before .before .before .before .before .before .before .before .pre .0) in omega arith
+add-put-slice c = let w = inside-is _ _ 18 (omega arith) (spelled-word _ _ _ (sym (c .before .before .before .before .before .spelled2 .ensures) ∙ c .before .before .before .before .if2 .taken)) in let n = sizes _ _ _ _ (c .before .before .before .before .before .before .before .before .before .before .before .before .before .before .before .before .before .pre .0) in omega arith
 
 put-slice-requires : tie.Need-put-slice-requires
-put-slice-requires c κs = ((c .before .before .before .before .before .before .before .before .before .before .before .before .before .before .before .before .before .pre .0), room-same (peek-read _ _ _ (c .before .before .before .before .before .before .before .before .before .before .before .before .before .before .before .before .before .pre .1 .1) (sym (c .before .before .before .before .before .before .before .before .before .is-spelled .ensures) ∙ c .before .before .before .before .before .before .before .before .if1 .left) (sym (c .before .before .before .before .before .is-spelled2 .ensures) ∙ c .before .before .before .before .if2 .taken) (sees _ _ _ 4 (c .before .before .before .kind-at2 .ensures) (c .before .before .if3 .taken))) (c .before .before .before .before .before .before .before .before .before .before .before .before .before .before .before .before .before .pre .1 .1))
+put-slice-requires c κs = ((c .before .before .before .before .before .before .before .before .before .before .before .before .before .before .before .before .before .pre .0), room-same (peek-read _ _ _ (c .before .before .before .before .before .before .before .before .before .before .before .before .before .before .before .before .before .pre .1 .1) (sym (c .before .before .before .before .before .before .before .before .before .spelled .ensures) ∙ c .before .before .before .before .before .before .before .before .if1 .left) (sym (c .before .before .before .before .before .spelled2 .ensures) ∙ c .before .before .before .before .if2 .taken) (sees _ _ _ 4 (c .before .before .before .kind-at2 .ensures) (c .before .before .if3 .taken))) (c .before .before .before .before .before .before .before .before .before .before .before .before .before .before .before .before .before .pre .1 .1))
 
 same-length-3 : tie.Need-same-length-3
 same-length-3 c = search needs
@@ -77,10 +77,10 @@ same-length-4 : tie.Need-same-length-4
 same-length-4 c = search needs
 
 returns-2 : tie.Need-returns-2
-returns-2 c = built-same (peek-read _ _ _ (c .before .before .before .before .before .before .before .before .before .before .before .before .before .before .before .before .before .before .before .before .before .before .pre .1 .1) (sym (c .before .before .before .before .before .before .before .before .before .before .before .before .before .before .is-spelled .ensures) ∙ c .before .before .before .before .before .before .before .before .before .before .before .before .before .if1 .left) (sym (c .before .before .before .before .before .before .before .before .before .before .is-spelled2 .ensures) ∙ c .before .before .before .before .before .before .before .before .before .if2 .taken) (sees _ _ _ 4 (c .before .before .before .before .before .before .before .before .kind-at2 .ensures) (c .before .before .before .before .before .before .before .if3 .taken))) (c .before .before .before .before .put-slice .ensures)
+returns-2 c = built-same (peek-read _ _ _ (c .before .before .before .before .before .before .before .before .before .before .before .before .before .before .before .before .before .before .before .before .before .before .pre .1 .1) (sym (c .before .before .before .before .before .before .before .before .before .before .before .before .before .before .spelled .ensures) ∙ c .before .before .before .before .before .before .before .before .before .before .before .before .before .if1 .left) (sym (c .before .before .before .before .before .before .before .before .before .before .spelled2 .ensures) ∙ c .before .before .before .before .before .before .before .before .before .if2 .taken) (sees _ _ _ 4 (c .before .before .before .before .before .before .before .before .kind-at2 .ensures) (c .before .before .before .before .before .before .before .if3 .taken))) (c .before .before .before .before .put-slice .ensures)
 
 put-word-requires : tie.Need-put-word-requires
-put-word-requires c κs = ((c .before .before .before .before .before .before .before .before .before .before .before .before .before .before .before .before .before .pre .0), (peek-word _ _ _ (c .before .before .before .before .before .before .before .before .before .before .before .before .before .before .before .before .before .pre .1 .1) (sym (c .before .before .before .before .before .before .before .before .before .is-spelled .ensures) ∙ c .before .before .before .before .before .before .before .before .if1 .left) (sym (c .before .before .before .before .before .is-spelled2 .ensures) ∙ c .before .before .before .before .if2 .taken) (misses _ _ _ 4 (c .before .before .before .kind-at2 .ensures) (c .before .before .if3 .left)) .0, room-same (peek-word _ _ _ (c .before .before .before .before .before .before .before .before .before .before .before .before .before .before .before .before .before .pre .1 .1) (sym (c .before .before .before .before .before .before .before .before .before .is-spelled .ensures) ∙ c .before .before .before .before .before .before .before .before .if1 .left) (sym (c .before .before .before .before .before .is-spelled2 .ensures) ∙ c .before .before .before .before .if2 .taken) (misses _ _ _ 4 (c .before .before .before .kind-at2 .ensures) (c .before .before .if3 .left)) .1) (c .before .before .before .before .before .before .before .before .before .before .before .before .before .before .before .before .before .pre .1 .1)))
+put-word-requires c κs = ((c .before .before .before .before .before .before .before .before .before .before .before .before .before .before .before .before .before .pre .0), (peek-word _ _ _ (c .before .before .before .before .before .before .before .before .before .before .before .before .before .before .before .before .before .pre .1 .1) (sym (c .before .before .before .before .before .before .before .before .before .spelled .ensures) ∙ c .before .before .before .before .before .before .before .before .if1 .left) (sym (c .before .before .before .before .before .spelled2 .ensures) ∙ c .before .before .before .before .if2 .taken) (misses _ _ _ 4 (c .before .before .before .kind-at2 .ensures) (c .before .before .if3 .left)) .0, room-same (peek-word _ _ _ (c .before .before .before .before .before .before .before .before .before .before .before .before .before .before .before .before .before .pre .1 .1) (sym (c .before .before .before .before .before .before .before .before .before .spelled .ensures) ∙ c .before .before .before .before .before .before .before .before .if1 .left) (sym (c .before .before .before .before .before .spelled2 .ensures) ∙ c .before .before .before .before .if2 .taken) (misses _ _ _ 4 (c .before .before .before .kind-at2 .ensures) (c .before .before .if3 .left)) .1) (c .before .before .before .before .before .before .before .before .before .before .before .before .before .before .before .before .before .pre .1 .1)))
 
 same-length-5 : tie.Need-same-length-5
 same-length-5 c = search needs
@@ -89,10 +89,10 @@ same-length-6 : tie.Need-same-length-6
 same-length-6 c = search needs
 
 returns-3 : tie.Need-returns-3
-returns-3 c = built-same (peek-word _ _ _ (c .before .before .before .before .before .before .before .before .before .before .before .before .before .before .before .before .before .before .before .before .before .before .pre .1 .1) (sym (c .before .before .before .before .before .before .before .before .before .before .before .before .before .before .is-spelled .ensures) ∙ c .before .before .before .before .before .before .before .before .before .before .before .before .before .if1 .left) (sym (c .before .before .before .before .before .before .before .before .before .before .is-spelled2 .ensures) ∙ c .before .before .before .before .before .before .before .before .before .if2 .taken) (misses _ _ _ 4 (c .before .before .before .before .before .before .before .before .kind-at2 .ensures) (c .before .before .before .before .before .before .before .if3 .left)) .1) (c .before .before .before .before .put-word .ensures)
+returns-3 c = built-same (peek-word _ _ _ (c .before .before .before .before .before .before .before .before .before .before .before .before .before .before .before .before .before .before .before .before .before .before .pre .1 .1) (sym (c .before .before .before .before .before .before .before .before .before .before .before .before .before .before .spelled .ensures) ∙ c .before .before .before .before .before .before .before .before .before .before .before .before .before .if1 .left) (sym (c .before .before .before .before .before .before .before .before .before .before .spelled2 .ensures) ∙ c .before .before .before .before .before .before .before .before .before .if2 .taken) (misses _ _ _ 4 (c .before .before .before .before .before .before .before .before .kind-at2 .ensures) (c .before .before .before .before .before .before .before .if3 .left)) .1) (c .before .before .before .before .put-word .ensures)
 
 put-word-requires-2 : tie.Need-put-word-requires-2
-put-word-requires-2 c κs = ((c .before .before .before .before .before .before .before .before .before .before .before .before .before .before .before .before .pre .0), (word-read _ _ _ (c .before .before .before .before .before .before .before .before .before .before .before .before .before .before .before .before .pre .1 .1) (sym (c .before .before .before .before .before .before .before .before .is-spelled .ensures) ∙ c .before .before .before .before .before .before .before .if1 .left) (sym (c .before .before .before .before .is-spelled2 .ensures) ∙ c .before .before .before .if2 .left) (sees _ _ _ 18 (c .before .before .before .before .before .before .kind-at .ensures) (c .before .before .if4 .taken)) .0, room-same (word-read _ _ _ (c .before .before .before .before .before .before .before .before .before .before .before .before .before .before .before .before .pre .1 .1) (sym (c .before .before .before .before .before .before .before .before .is-spelled .ensures) ∙ c .before .before .before .before .before .before .before .if1 .left) (sym (c .before .before .before .before .is-spelled2 .ensures) ∙ c .before .before .before .if2 .left) (sees _ _ _ 18 (c .before .before .before .before .before .before .kind-at .ensures) (c .before .before .if4 .taken)) .1) (c .before .before .before .before .before .before .before .before .before .before .before .before .before .before .before .before .pre .1 .1)))
+put-word-requires-2 c κs = ((c .before .before .before .before .before .before .before .before .before .before .before .before .before .before .before .before .pre .0), (word-read _ _ _ (c .before .before .before .before .before .before .before .before .before .before .before .before .before .before .before .before .pre .1 .1) (sym (c .before .before .before .before .before .before .before .before .spelled .ensures) ∙ c .before .before .before .before .before .before .before .if1 .left) (sym (c .before .before .before .before .spelled2 .ensures) ∙ c .before .before .before .if2 .left) (sees _ _ _ 18 (c .before .before .before .before .before .before .kind-at .ensures) (c .before .before .if4 .taken)) .0, room-same (word-read _ _ _ (c .before .before .before .before .before .before .before .before .before .before .before .before .before .before .before .before .pre .1 .1) (sym (c .before .before .before .before .before .before .before .before .spelled .ensures) ∙ c .before .before .before .before .before .before .before .if1 .left) (sym (c .before .before .before .before .spelled2 .ensures) ∙ c .before .before .before .if2 .left) (sees _ _ _ 18 (c .before .before .before .before .before .before .kind-at .ensures) (c .before .before .if4 .taken)) .1) (c .before .before .before .before .before .before .before .before .before .before .before .before .before .before .before .before .pre .1 .1)))
 
 same-length-7 : tie.Need-same-length-7
 same-length-7 c = search needs
@@ -101,13 +101,13 @@ same-length-8 : tie.Need-same-length-8
 same-length-8 c = search needs
 
 returns-4 : tie.Need-returns-4
-returns-4 c = built-same (word-read _ _ _ (c .before .before .before .before .before .before .before .before .before .before .before .before .before .before .before .before .before .before .before .before .before .pre .1 .1) (sym (c .before .before .before .before .before .before .before .before .before .before .before .before .before .is-spelled .ensures) ∙ c .before .before .before .before .before .before .before .before .before .before .before .before .if1 .left) (sym (c .before .before .before .before .before .before .before .before .before .is-spelled2 .ensures) ∙ c .before .before .before .before .before .before .before .before .if2 .left) (sees _ _ _ 18 (c .before .before .before .before .before .before .before .before .before .before .before .kind-at .ensures) (c .before .before .before .before .before .before .before .if4 .taken)) .1) (c .before .before .before .before .put-word2 .ensures)
+returns-4 c = built-same (word-read _ _ _ (c .before .before .before .before .before .before .before .before .before .before .before .before .before .before .before .before .before .before .before .before .before .pre .1 .1) (sym (c .before .before .before .before .before .before .before .before .before .before .before .before .before .spelled .ensures) ∙ c .before .before .before .before .before .before .before .before .before .before .before .before .if1 .left) (sym (c .before .before .before .before .before .before .before .before .before .spelled2 .ensures) ∙ c .before .before .before .before .before .before .before .before .if2 .left) (sees _ _ _ 18 (c .before .before .before .before .before .before .before .before .before .before .before .kind-at .ensures) (c .before .before .before .before .before .before .before .if4 .taken)) .1) (c .before .before .before .before .put-word2 .ensures)
 
 add-put-literal-7 : tie.Need-add-put-literal-7
-add-put-literal-7 c = let w = string-read _ _ _ (c .before .before .before .before .before .before .before .before .before .before .before .before .before .before .before .before .before .pre .1 .1) (sym (c .before .before .before .before .before .before .before .before .before .is-spelled .ensures) ∙ c .before .before .before .before .before .before .before .before .if1 .left) (sym (c .before .before .before .before .before .is-spelled2 .ensures) ∙ c .before .before .before .before .if2 .left) (misses _ _ _ 18 (c .before .before .before .before .before .before .before .kind-at .ensures) (c .before .before .before .if4 .left)) (sees _ _ _ 23 (c .before .before .before .before .before .before .before .kind-at .ensures) (c .before .before .if5 .taken)) .0 in let n = not-many _ _ _ _ (c .before .before .before .before .before .before .before .before .before .before .before .before .before .before .before .before .before .pre .0) in omega arith
+add-put-literal-7 c = let w = string-read _ _ _ (c .before .before .before .before .before .before .before .before .before .before .before .before .before .before .before .before .before .pre .1 .1) (sym (c .before .before .before .before .before .before .before .before .before .spelled .ensures) ∙ c .before .before .before .before .before .before .before .before .if1 .left) (sym (c .before .before .before .before .before .spelled2 .ensures) ∙ c .before .before .before .before .if2 .left) (misses _ _ _ 18 (c .before .before .before .before .before .before .before .kind-at .ensures) (c .before .before .before .if4 .left)) (sees _ _ _ 23 (c .before .before .before .before .before .before .before .kind-at .ensures) (c .before .before .if5 .taken)) .0 in let n = sizes _ _ _ _ (c .before .before .before .before .before .before .before .before .before .before .before .before .before .before .before .before .before .pre .0) in omega arith
 
 put-literal-requires-2 : tie.Need-put-literal-requires-2
-put-literal-requires-2 c κs = ((c .before .before .before .before .before .before .before .before .before .before .before .before .before .before .before .before .before .pre .0), (string-read _ _ _ (c .before .before .before .before .before .before .before .before .before .before .before .before .before .before .before .before .before .pre .1 .1) (sym (c .before .before .before .before .before .before .before .before .before .is-spelled .ensures) ∙ c .before .before .before .before .before .before .before .before .if1 .left) (sym (c .before .before .before .before .before .is-spelled2 .ensures) ∙ c .before .before .before .before .if2 .left) (misses _ _ _ 18 (c .before .before .before .before .before .before .before .kind-at .ensures) (c .before .before .before .if4 .left)) (sees _ _ _ 23 (c .before .before .before .before .before .before .before .kind-at .ensures) (c .before .before .if5 .taken)) .0, ((c .before .before .before .before .before .before .before .before .before .before .before .before .before .before .before .before .before .pre .1 .0) .strings _ (sees _ _ _ 23 (c .before .before .before .before .before .before .before .kind-at .ensures) (c .before .before .if5 .taken)), room-same (string-read _ _ _ (c .before .before .before .before .before .before .before .before .before .before .before .before .before .before .before .before .before .pre .1 .1) (sym (c .before .before .before .before .before .before .before .before .before .is-spelled .ensures) ∙ c .before .before .before .before .before .before .before .before .if1 .left) (sym (c .before .before .before .before .before .is-spelled2 .ensures) ∙ c .before .before .before .before .if2 .left) (misses _ _ _ 18 (c .before .before .before .before .before .before .before .kind-at .ensures) (c .before .before .before .if4 .left)) (sees _ _ _ 23 (c .before .before .before .before .before .before .before .kind-at .ensures) (c .before .before .if5 .taken)) .1) (c .before .before .before .before .before .before .before .before .before .before .before .before .before .before .before .before .before .pre .1 .1))))
+put-literal-requires-2 c κs = ((c .before .before .before .before .before .before .before .before .before .before .before .before .before .before .before .before .before .pre .0), (string-read _ _ _ (c .before .before .before .before .before .before .before .before .before .before .before .before .before .before .before .before .before .pre .1 .1) (sym (c .before .before .before .before .before .before .before .before .before .spelled .ensures) ∙ c .before .before .before .before .before .before .before .before .if1 .left) (sym (c .before .before .before .before .before .spelled2 .ensures) ∙ c .before .before .before .before .if2 .left) (misses _ _ _ 18 (c .before .before .before .before .before .before .before .kind-at .ensures) (c .before .before .before .if4 .left)) (sees _ _ _ 23 (c .before .before .before .before .before .before .before .kind-at .ensures) (c .before .before .if5 .taken)) .0, ((c .before .before .before .before .before .before .before .before .before .before .before .before .before .before .before .before .before .pre .1 .0) .strings _ (sees _ _ _ 23 (c .before .before .before .before .before .before .before .kind-at .ensures) (c .before .before .if5 .taken)), room-same (string-read _ _ _ (c .before .before .before .before .before .before .before .before .before .before .before .before .before .before .before .before .before .pre .1 .1) (sym (c .before .before .before .before .before .before .before .before .before .spelled .ensures) ∙ c .before .before .before .before .before .before .before .before .if1 .left) (sym (c .before .before .before .before .before .spelled2 .ensures) ∙ c .before .before .before .before .if2 .left) (misses _ _ _ 18 (c .before .before .before .before .before .before .before .kind-at .ensures) (c .before .before .before .if4 .left)) (sees _ _ _ 23 (c .before .before .before .before .before .before .before .kind-at .ensures) (c .before .before .if5 .taken)) .1) (c .before .before .before .before .before .before .before .before .before .before .before .before .before .before .before .before .before .pre .1 .1))))
 
 same-length-9 : tie.Need-same-length-9
 same-length-9 c = search needs
@@ -116,13 +116,13 @@ same-length-10 : tie.Need-same-length-10
 same-length-10 c = search needs
 
 returns-5 : tie.Need-returns-5
-returns-5 c = built-same (string-read _ _ _ (c .before .before .before .before .before .before .before .before .before .before .before .before .before .before .before .before .before .before .before .before .before .before .pre .1 .1) (sym (c .before .before .before .before .before .before .before .before .before .before .before .before .before .before .is-spelled .ensures) ∙ c .before .before .before .before .before .before .before .before .before .before .before .before .before .if1 .left) (sym (c .before .before .before .before .before .before .before .before .before .before .is-spelled2 .ensures) ∙ c .before .before .before .before .before .before .before .before .before .if2 .left) (misses _ _ _ 18 (c .before .before .before .before .before .before .before .before .before .before .before .before .kind-at .ensures) (c .before .before .before .before .before .before .before .before .if4 .left)) (sees _ _ _ 23 (c .before .before .before .before .before .before .before .before .before .before .before .before .kind-at .ensures) (c .before .before .before .before .before .before .before .if5 .taken)) .1) (c .before .before .before .before .put-literal2 .ensures)
+returns-5 c = built-same (string-read _ _ _ (c .before .before .before .before .before .before .before .before .before .before .before .before .before .before .before .before .before .before .before .before .before .before .pre .1 .1) (sym (c .before .before .before .before .before .before .before .before .before .before .before .before .before .before .spelled .ensures) ∙ c .before .before .before .before .before .before .before .before .before .before .before .before .before .if1 .left) (sym (c .before .before .before .before .before .before .before .before .before .before .spelled2 .ensures) ∙ c .before .before .before .before .before .before .before .before .before .if2 .left) (misses _ _ _ 18 (c .before .before .before .before .before .before .before .before .before .before .before .before .kind-at .ensures) (c .before .before .before .before .before .before .before .before .if4 .left)) (sees _ _ _ 23 (c .before .before .before .before .before .before .before .before .before .before .before .before .kind-at .ensures) (c .before .before .before .before .before .before .before .if5 .taken)) .1) (c .before .before .before .before .put-literal2 .ensures)
 
 add-put-literal-8 : tie.Need-add-put-literal-8
-add-put-literal-8 c = let w = insens-read _ _ _ (c .before .before .before .before .before .before .before .before .before .before .before .before .before .before .before .before .before .before .pre .1 .1) (sym (c .before .before .before .before .before .before .before .before .before .before .is-spelled .ensures) ∙ c .before .before .before .before .before .before .before .before .before .if1 .left) (sym (c .before .before .before .before .before .before .is-spelled2 .ensures) ∙ c .before .before .before .before .before .if2 .left) (misses _ _ _ 18 (c .before .before .before .before .before .before .before .before .kind-at .ensures) (c .before .before .before .before .if4 .left)) (misses _ _ _ 23 (c .before .before .before .before .before .before .before .before .kind-at .ensures) (c .before .before .before .if5 .left)) (sees _ _ _ 24 (c .before .before .before .before .before .before .before .before .kind-at .ensures) (c .before .before .if6 .taken)) .0 in let n = not-many _ _ _ _ (c .before .before .before .before .before .before .before .before .before .before .before .before .before .before .before .before .before .before .pre .0) in omega arith
+add-put-literal-8 c = let w = insens-read _ _ _ (c .before .before .before .before .before .before .before .before .before .before .before .before .before .before .before .before .before .before .pre .1 .1) (sym (c .before .before .before .before .before .before .before .before .before .before .spelled .ensures) ∙ c .before .before .before .before .before .before .before .before .before .if1 .left) (sym (c .before .before .before .before .before .before .spelled2 .ensures) ∙ c .before .before .before .before .before .if2 .left) (misses _ _ _ 18 (c .before .before .before .before .before .before .before .before .kind-at .ensures) (c .before .before .before .before .if4 .left)) (misses _ _ _ 23 (c .before .before .before .before .before .before .before .before .kind-at .ensures) (c .before .before .before .if5 .left)) (sees _ _ _ 24 (c .before .before .before .before .before .before .before .before .kind-at .ensures) (c .before .before .if6 .taken)) .0 in let n = sizes _ _ _ _ (c .before .before .before .before .before .before .before .before .before .before .before .before .before .before .before .before .before .before .pre .0) in omega arith
 
 put-literal-requires-3 : tie.Need-put-literal-requires-3
-put-literal-requires-3 c κs = ((c .before .before .before .before .before .before .before .before .before .before .before .before .before .before .before .before .before .before .pre .0), (insens-read _ _ _ (c .before .before .before .before .before .before .before .before .before .before .before .before .before .before .before .before .before .before .pre .1 .1) (sym (c .before .before .before .before .before .before .before .before .before .before .is-spelled .ensures) ∙ c .before .before .before .before .before .before .before .before .before .if1 .left) (sym (c .before .before .before .before .before .before .is-spelled2 .ensures) ∙ c .before .before .before .before .before .if2 .left) (misses _ _ _ 18 (c .before .before .before .before .before .before .before .before .kind-at .ensures) (c .before .before .before .before .if4 .left)) (misses _ _ _ 23 (c .before .before .before .before .before .before .before .before .kind-at .ensures) (c .before .before .before .if5 .left)) (sees _ _ _ 24 (c .before .before .before .before .before .before .before .before .kind-at .ensures) (c .before .before .if6 .taken)) .0, ((c .before .before .before .before .before .before .before .before .before .before .before .before .before .before .before .before .before .before .pre .1 .0) .insens _ (sees _ _ _ 24 (c .before .before .before .before .before .before .before .before .kind-at .ensures) (c .before .before .if6 .taken)), room-same (insens-read _ _ _ (c .before .before .before .before .before .before .before .before .before .before .before .before .before .before .before .before .before .before .pre .1 .1) (sym (c .before .before .before .before .before .before .before .before .before .before .is-spelled .ensures) ∙ c .before .before .before .before .before .before .before .before .before .if1 .left) (sym (c .before .before .before .before .before .before .is-spelled2 .ensures) ∙ c .before .before .before .before .before .if2 .left) (misses _ _ _ 18 (c .before .before .before .before .before .before .before .before .kind-at .ensures) (c .before .before .before .before .if4 .left)) (misses _ _ _ 23 (c .before .before .before .before .before .before .before .before .kind-at .ensures) (c .before .before .before .if5 .left)) (sees _ _ _ 24 (c .before .before .before .before .before .before .before .before .kind-at .ensures) (c .before .before .if6 .taken)) .1) (c .before .before .before .before .before .before .before .before .before .before .before .before .before .before .before .before .before .before .pre .1 .1))))
+put-literal-requires-3 c κs = ((c .before .before .before .before .before .before .before .before .before .before .before .before .before .before .before .before .before .before .pre .0), (insens-read _ _ _ (c .before .before .before .before .before .before .before .before .before .before .before .before .before .before .before .before .before .before .pre .1 .1) (sym (c .before .before .before .before .before .before .before .before .before .before .spelled .ensures) ∙ c .before .before .before .before .before .before .before .before .before .if1 .left) (sym (c .before .before .before .before .before .before .spelled2 .ensures) ∙ c .before .before .before .before .before .if2 .left) (misses _ _ _ 18 (c .before .before .before .before .before .before .before .before .kind-at .ensures) (c .before .before .before .before .if4 .left)) (misses _ _ _ 23 (c .before .before .before .before .before .before .before .before .kind-at .ensures) (c .before .before .before .if5 .left)) (sees _ _ _ 24 (c .before .before .before .before .before .before .before .before .kind-at .ensures) (c .before .before .if6 .taken)) .0, ((c .before .before .before .before .before .before .before .before .before .before .before .before .before .before .before .before .before .before .pre .1 .0) .insens _ (sees _ _ _ 24 (c .before .before .before .before .before .before .before .before .kind-at .ensures) (c .before .before .if6 .taken)), room-same (insens-read _ _ _ (c .before .before .before .before .before .before .before .before .before .before .before .before .before .before .before .before .before .before .pre .1 .1) (sym (c .before .before .before .before .before .before .before .before .before .before .spelled .ensures) ∙ c .before .before .before .before .before .before .before .before .before .if1 .left) (sym (c .before .before .before .before .before .before .spelled2 .ensures) ∙ c .before .before .before .before .before .if2 .left) (misses _ _ _ 18 (c .before .before .before .before .before .before .before .before .kind-at .ensures) (c .before .before .before .before .if4 .left)) (misses _ _ _ 23 (c .before .before .before .before .before .before .before .before .kind-at .ensures) (c .before .before .before .if5 .left)) (sees _ _ _ 24 (c .before .before .before .before .before .before .before .before .kind-at .ensures) (c .before .before .if6 .taken)) .1) (c .before .before .before .before .before .before .before .before .before .before .before .before .before .before .before .before .before .before .pre .1 .1))))
 
 same-length-11 : tie.Need-same-length-11
 same-length-11 c = search needs
@@ -131,10 +131,10 @@ same-length-12 : tie.Need-same-length-12
 same-length-12 c = search needs
 
 returns-6 : tie.Need-returns-6
-returns-6 c = built-same (insens-read _ _ _ (c .before .before .before .before .before .before .before .before .before .before .before .before .before .before .before .before .before .before .before .before .before .before .before .pre .1 .1) (sym (c .before .before .before .before .before .before .before .before .before .before .before .before .before .before .before .is-spelled .ensures) ∙ c .before .before .before .before .before .before .before .before .before .before .before .before .before .before .if1 .left) (sym (c .before .before .before .before .before .before .before .before .before .before .before .is-spelled2 .ensures) ∙ c .before .before .before .before .before .before .before .before .before .before .if2 .left) (misses _ _ _ 18 (c .before .before .before .before .before .before .before .before .before .before .before .before .before .kind-at .ensures) (c .before .before .before .before .before .before .before .before .before .if4 .left)) (misses _ _ _ 23 (c .before .before .before .before .before .before .before .before .before .before .before .before .before .kind-at .ensures) (c .before .before .before .before .before .before .before .before .if5 .left)) (sees _ _ _ 24 (c .before .before .before .before .before .before .before .before .before .before .before .before .before .kind-at .ensures) (c .before .before .before .before .before .before .before .if6 .taken)) .1) (c .before .before .before .before .put-literal3 .ensures)
+returns-6 c = built-same (insens-read _ _ _ (c .before .before .before .before .before .before .before .before .before .before .before .before .before .before .before .before .before .before .before .before .before .before .before .pre .1 .1) (sym (c .before .before .before .before .before .before .before .before .before .before .before .before .before .before .before .spelled .ensures) ∙ c .before .before .before .before .before .before .before .before .before .before .before .before .before .before .if1 .left) (sym (c .before .before .before .before .before .before .before .before .before .before .before .spelled2 .ensures) ∙ c .before .before .before .before .before .before .before .before .before .before .if2 .left) (misses _ _ _ 18 (c .before .before .before .before .before .before .before .before .before .before .before .before .before .kind-at .ensures) (c .before .before .before .before .before .before .before .before .before .if4 .left)) (misses _ _ _ 23 (c .before .before .before .before .before .before .before .before .before .before .before .before .before .kind-at .ensures) (c .before .before .before .before .before .before .before .before .if5 .left)) (sees _ _ _ 24 (c .before .before .before .before .before .before .before .before .before .before .before .before .before .kind-at .ensures) (c .before .before .before .before .before .before .before .if6 .taken)) .1) (c .before .before .before .before .put-literal3 .ensures)
 
 put-range-requires : tie.Need-put-range-requires
-put-range-requires c κs = ((c .before .before .before .before .before .before .before .before .before .before .before .before .before .before .before .before .before .before .pre .0), (ranged-read _ _ _ (c .before .before .before .before .before .before .before .before .before .before .before .before .before .before .before .before .before .before .pre .1 .1) (sym (c .before .before .before .before .before .before .before .before .before .before .is-spelled .ensures) ∙ c .before .before .before .before .before .before .before .before .before .if1 .left) (sym (c .before .before .before .before .before .before .is-spelled2 .ensures) ∙ c .before .before .before .before .before .if2 .left) (misses _ _ _ 18 (c .before .before .before .before .before .before .before .before .kind-at .ensures) (c .before .before .before .before .if4 .left)) (misses _ _ _ 23 (c .before .before .before .before .before .before .before .before .kind-at .ensures) (c .before .before .before .if5 .left)) (misses _ _ _ 24 (c .before .before .before .before .before .before .before .before .kind-at .ensures) (c .before .before .if6 .left)) .0, room-same (ranged-read _ _ _ (c .before .before .before .before .before .before .before .before .before .before .before .before .before .before .before .before .before .before .pre .1 .1) (sym (c .before .before .before .before .before .before .before .before .before .before .is-spelled .ensures) ∙ c .before .before .before .before .before .before .before .before .before .if1 .left) (sym (c .before .before .before .before .before .before .is-spelled2 .ensures) ∙ c .before .before .before .before .before .if2 .left) (misses _ _ _ 18 (c .before .before .before .before .before .before .before .before .kind-at .ensures) (c .before .before .before .before .if4 .left)) (misses _ _ _ 23 (c .before .before .before .before .before .before .before .before .kind-at .ensures) (c .before .before .before .if5 .left)) (misses _ _ _ 24 (c .before .before .before .before .before .before .before .before .kind-at .ensures) (c .before .before .if6 .left)) .1) (c .before .before .before .before .before .before .before .before .before .before .before .before .before .before .before .before .before .before .pre .1 .1)))
+put-range-requires c κs = ((c .before .before .before .before .before .before .before .before .before .before .before .before .before .before .before .before .before .before .pre .0), (ranged-read _ _ _ (c .before .before .before .before .before .before .before .before .before .before .before .before .before .before .before .before .before .before .pre .1 .1) (sym (c .before .before .before .before .before .before .before .before .before .before .spelled .ensures) ∙ c .before .before .before .before .before .before .before .before .before .if1 .left) (sym (c .before .before .before .before .before .before .spelled2 .ensures) ∙ c .before .before .before .before .before .if2 .left) (misses _ _ _ 18 (c .before .before .before .before .before .before .before .before .kind-at .ensures) (c .before .before .before .before .if4 .left)) (misses _ _ _ 23 (c .before .before .before .before .before .before .before .before .kind-at .ensures) (c .before .before .before .if5 .left)) (misses _ _ _ 24 (c .before .before .before .before .before .before .before .before .kind-at .ensures) (c .before .before .if6 .left)) .0, room-same (ranged-read _ _ _ (c .before .before .before .before .before .before .before .before .before .before .before .before .before .before .before .before .before .before .pre .1 .1) (sym (c .before .before .before .before .before .before .before .before .before .before .spelled .ensures) ∙ c .before .before .before .before .before .before .before .before .before .if1 .left) (sym (c .before .before .before .before .before .before .spelled2 .ensures) ∙ c .before .before .before .before .before .if2 .left) (misses _ _ _ 18 (c .before .before .before .before .before .before .before .before .kind-at .ensures) (c .before .before .before .before .if4 .left)) (misses _ _ _ 23 (c .before .before .before .before .before .before .before .before .kind-at .ensures) (c .before .before .before .if5 .left)) (misses _ _ _ 24 (c .before .before .before .before .before .before .before .before .kind-at .ensures) (c .before .before .if6 .left)) .1) (c .before .before .before .before .before .before .before .before .before .before .before .before .before .before .before .before .before .before .pre .1 .1)))
 
 same-length-13 : tie.Need-same-length-13
 same-length-13 c = search needs
@@ -143,14 +143,14 @@ same-length-14 : tie.Need-same-length-14
 same-length-14 c = search needs
 
 returns-7 : tie.Need-returns-7
-returns-7 c = built-same (ranged-read _ _ _ (c .before .before .before .before .before .before .before .before .before .before .before .before .before .before .before .before .before .before .before .before .before .before .before .pre .1 .1) (sym (c .before .before .before .before .before .before .before .before .before .before .before .before .before .before .before .is-spelled .ensures) ∙ c .before .before .before .before .before .before .before .before .before .before .before .before .before .before .if1 .left) (sym (c .before .before .before .before .before .before .before .before .before .before .before .is-spelled2 .ensures) ∙ c .before .before .before .before .before .before .before .before .before .before .if2 .left) (misses _ _ _ 18 (c .before .before .before .before .before .before .before .before .before .before .before .before .before .kind-at .ensures) (c .before .before .before .before .before .before .before .before .before .if4 .left)) (misses _ _ _ 23 (c .before .before .before .before .before .before .before .before .before .before .before .before .before .kind-at .ensures) (c .before .before .before .before .before .before .before .before .if5 .left)) (misses _ _ _ 24 (c .before .before .before .before .before .before .before .before .before .before .before .before .before .kind-at .ensures) (c .before .before .before .before .before .before .before .if6 .left)) .1) (c .before .before .before .before .put-range .ensures)
+returns-7 c = built-same (ranged-read _ _ _ (c .before .before .before .before .before .before .before .before .before .before .before .before .before .before .before .before .before .before .before .before .before .before .before .pre .1 .1) (sym (c .before .before .before .before .before .before .before .before .before .before .before .before .before .before .before .spelled .ensures) ∙ c .before .before .before .before .before .before .before .before .before .before .before .before .before .before .if1 .left) (sym (c .before .before .before .before .before .before .before .before .before .before .before .spelled2 .ensures) ∙ c .before .before .before .before .before .before .before .before .before .before .if2 .left) (misses _ _ _ 18 (c .before .before .before .before .before .before .before .before .before .before .before .before .before .kind-at .ensures) (c .before .before .before .before .before .before .before .before .before .if4 .left)) (misses _ _ _ 23 (c .before .before .before .before .before .before .before .before .before .before .before .before .before .kind-at .ensures) (c .before .before .before .before .before .before .before .before .if5 .left)) (misses _ _ _ 24 (c .before .before .before .before .before .before .before .before .before .before .before .before .before .kind-at .ensures) (c .before .before .before .before .before .before .before .if6 .left)) .1) (c .before .before .before .before .put-range .ensures)
 
 pub put-leaf-spec : {M : Type 1} → statement M
 put-leaf-spec =
     tie.close
     (tie.spec
-    slice-aggregate-is-spelled
-    is-spelled-requires
+    slice-aggregate-spelled
+    spelled-requires
     add-put-literal
     add-put-literal-2
     add-put-literal-3
@@ -162,8 +162,8 @@ put-leaf-spec =
     same-length-2
     returns
     kind-at-requires
-    slice-aggregate-is-spelled-2
-    is-spelled-requires-2
+    slice-aggregate-spelled-2
+    spelled-requires-2
     add-kind-at
     kind-at-requires-2
     add-put-slice

@@ -1,5 +1,5 @@
 use native.Mathlib.Omega.{arith}
-use Rattle.reader.proofs.Orders.{not-many}
+use Rattle.structure.proofs.Arrays.{sizes}
 use Rattle.reader.proofs.Leaves.{range-read, bare-fits, range-built}
 use borrow.Author.Needs.{needs}
 use Rattle.reader.proofs.inner.leaves.put_range.Statement.{statement}
@@ -10,10 +10,10 @@ use Rattle.structure.proofs.inner.tokens.end_at.Reads as end-at-reads
 use Rattle.structure.proofs.inner.tokens.start_at.Reads as start-at-reads
 
 add-i : tie.Need-add-i
-add-i c = let w = range-read _ _ (c .before .before .before .before .before .before .pre .1 .1) in let n = not-many _ _ _ _ (c .before .before .before .before .before .before .pre .0) in omega arith
+add-i c = let w = range-read _ _ (c .before .before .before .before .before .before .pre .1 .1) in let n = sizes _ _ _ _ (c .before .before .before .before .before .before .pre .0) in omega arith
 
 add-i-2 : tie.Need-add-i-2
-add-i-2 c = let w = range-read _ _ (c .before .before .before .before .before .before .pre .1 .1) in let n = not-many _ _ _ _ (c .before .before .before .before .before .before .pre .0) in omega arith
+add-i-2 c = let w = range-read _ _ (c .before .before .before .before .before .before .pre .1 .1) in let n = sizes _ _ _ _ (c .before .before .before .before .before .before .pre .0) in omega arith
 
 start-at-requires : tie.Need-start-at-requires
 start-at-requires c κs = search needs
@@ -37,7 +37,7 @@ put-record-requires : tie.Need-put-record-requires
 put-record-requires c κs = bare-fits _ _ _ _ (c .before .before .before .before .before .before .before .before .before .before .before .pre .0 .short) _ _ _ _ (c .before .before .before .before .start-at .ensures) (c .before .before .before .end-at .ensures) _ _ _ _ _ _ (range-read _ _ (c .before .before .before .before .before .before .before .before .before .before .before .pre .1 .1) .2) (c .before .before .before .before .before .before .before .before .before .before .before .pre .1 .1) (omega arith) (omega arith) (omega arith)
 
 add-t15 : tie.Need-add-t15
-add-t15 c = let w = range-read _ _ (c .before .before .before .before .before .before .before .before .before .before .before .before .before .before .pre .1 .1) in let n = not-many _ _ _ _ (c .before .before .before .before .before .before .before .before .before .before .before .before .before .before .pre .0) in omega arith
+add-t15 c = let w = range-read _ _ (c .before .before .before .before .before .before .before .before .before .before .before .before .before .before .pre .1 .1) in let n = sizes _ _ _ _ (c .before .before .before .before .before .before .before .before .before .before .before .before .before .before .pre .0) in omega arith
 
 add-t19 : tie.Need-add-t19
 add-t19 c = let f = c .before .before .before .before .before .before .before .before .before .before .before .before .before .before .pre .1 .1 .few in omega arith

@@ -1,6 +1,6 @@
 use native.Mathlib.Omega.{arith}
 use mathlib.Core.Path.{sym, _∙_}
-use Rattle.reader.proofs.Orders.{not-many}
+use Rattle.structure.proofs.Arrays.{sizes}
 use Rattle.reader.proofs.Leaves.{to-read, open-read, bare-fits, slice-built, slice-to-built}
 use borrow.Author.Needs.{needs}
 use Rattle.reader.proofs.inner.leaves.put_slice_to.Statement.{statement}
@@ -18,10 +18,13 @@ is-integer-requires : tie.Need-is-integer-requires
 is-integer-requires c κs = search needs
 
 integer-at-requires : tie.Need-integer-at-requires
-integer-at-requires c κs = search needs
+integer-at-requires c κs =
+    let start = c .before .before .before .before .before .before .before .before .before in
+    let w = to-read _ _ _ _ (start .pre .1) (sym (c .before .is-integer .ensures) ∙ c .if1 .taken) .0 in
+    (start .pre .0, omega arith)
 
 add-end-at : tie.Need-add-end-at
-add-end-at c = let w = to-read _ _ _ _ (c .before .before .before .before .before .before .before .before .before .before .pre .1) (sym (c .before .before .is-integer .ensures) ∙ c .before .if1 .taken) .0 in let n = not-many _ _ _ _ (c .before .before .before .before .before .before .before .before .before .before .pre .0) in omega arith
+add-end-at c = let w = to-read _ _ _ _ (c .before .before .before .before .before .before .before .before .before .before .pre .1) (sym (c .before .before .is-integer .ensures) ∙ c .before .if1 .taken) .0 in let n = sizes _ _ _ _ (c .before .before .before .before .before .before .before .before .before .before .pre .0) in omega arith
 
 end-at-requires : tie.Need-end-at-requires
 end-at-requires c κs = search needs
@@ -33,10 +36,10 @@ put-record-requires : tie.Need-put-record-requires
 put-record-requires c κs = bare-fits _ _ _ _ (c .before .before .before .before .before .before .before .before .before .before .before .before .pre .0 .short) _ _ _ _ (c .before .before .before .before .before .start-at .ensures) (c .before .end-at .ensures) _ _ _ _ _ _ (to-read _ _ _ _ (c .before .before .before .before .before .before .before .before .before .before .before .before .pre .1) (sym (c .before .before .before .before .is-integer .ensures) ∙ c .before .before .before .if1 .taken) .1) (c .before .before .before .before .before .before .before .before .before .before .before .before .pre .1) (omega arith) (omega arith) (omega arith)
 
 add-t17 : tie.Need-add-t17
-add-t17 c = let w = to-read _ _ _ _ (c .before .before .before .before .before .before .before .before .before .before .before .before .before .before .before .pre .1) (sym (c .before .before .before .before .before .before .before .is-integer .ensures) ∙ c .before .before .before .before .before .before .if1 .taken) .0 in let n = not-many _ _ _ _ (c .before .before .before .before .before .before .before .before .before .before .before .before .before .before .before .pre .0) in omega arith
+add-t17 c = let w = to-read _ _ _ _ (c .before .before .before .before .before .before .before .before .before .before .before .before .before .before .before .pre .1) (sym (c .before .before .before .before .before .before .before .is-integer .ensures) ∙ c .before .before .before .before .before .before .if1 .taken) .0 in let n = sizes _ _ _ _ (c .before .before .before .before .before .before .before .before .before .before .before .before .before .before .before .pre .0) in omega arith
 
 add-t21 : tie.Need-add-t21
-add-t21 c = let w = to-read _ _ _ _ (c .before .before .before .before .before .before .before .before .before .before .before .before .before .before .before .pre .1) (sym (c .before .before .before .before .before .before .before .is-integer .ensures) ∙ c .before .before .before .before .before .before .if1 .taken) .0 in let n = not-many _ _ _ _ (c .before .before .before .before .before .before .before .before .before .before .before .before .before .before .before .pre .0) in omega arith
+add-t21 c = let w = to-read _ _ _ _ (c .before .before .before .before .before .before .before .before .before .before .before .before .before .before .before .pre .1) (sym (c .before .before .before .before .before .before .before .is-integer .ensures) ∙ c .before .before .before .before .before .before .if1 .taken) .0 in let n = sizes _ _ _ _ (c .before .before .before .before .before .before .before .before .before .before .before .before .before .before .before .pre .0) in omega arith
 
 add-t22 : tie.Need-add-t22
 add-t22 c = search needs
@@ -54,7 +57,7 @@ put-record-requires-2 : tie.Need-put-record-requires-2
 put-record-requires-2 c κs = bare-fits _ _ _ _ (c .before .before .before .before .before .before .before .before .before .before .before .pre .0 .short) _ _ _ _ (c .before .before .before .before .start-at .ensures) (c .before .end-at2 .ensures) _ _ _ _ _ _ (open-read _ _ _ _ (c .before .before .before .before .before .before .before .before .before .before .before .pre .1) (sym (c .before .before .before .is-integer .ensures) ∙ c .before .before .if1 .left) .1) (c .before .before .before .before .before .before .before .before .before .before .before .pre .1) (omega arith) (omega arith) (omega arith)
 
 add-t26 : tie.Need-add-t26
-add-t26 c = let w = open-read _ _ _ _ (c .before .before .before .before .before .before .before .before .before .before .before .before .before .before .pre .1) (sym (c .before .before .before .before .before .before .is-integer .ensures) ∙ c .before .before .before .before .before .if1 .left) .0 in let n = not-many _ _ _ _ (c .before .before .before .before .before .before .before .before .before .before .before .before .before .before .pre .0) in omega arith
+add-t26 c = let w = open-read _ _ _ _ (c .before .before .before .before .before .before .before .before .before .before .before .before .before .before .pre .1) (sym (c .before .before .before .before .before .before .is-integer .ensures) ∙ c .before .before .before .before .before .if1 .left) .0 in let n = sizes _ _ _ _ (c .before .before .before .before .before .before .before .before .before .before .before .before .before .before .pre .0) in omega arith
 
 add-t27 : tie.Need-add-t27
 add-t27 c = search needs

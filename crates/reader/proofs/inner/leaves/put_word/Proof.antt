@@ -1,4 +1,4 @@
-use Rattle.reader.proofs.Orders.{not-many}
+use Rattle.structure.proofs.Arrays.{sizes}
 use native.Mathlib.Omega.{arith}
 use Rattle.reader.proofs.Leaves.{word-inside, word-room, word-fits, word-few, word-built}
 use borrow.Author.Needs.{needs}
@@ -25,7 +25,7 @@ put-text-requires : tie.Need-put-text-requires
 put-text-requires c κs = word-fits _ _ _ _ _ _ (c .before .before .before .before .before .before .before .before .before .before .before .before .before .pre .0 .short) (c .before .before .before .before .before .before .before .before .before .before .before .before .before .pre .1 .0) (c .before .before .before .before .before .before .before .before .before .before .before .before .before .pre .1 .1) _ _ (c .before .before .before .before .before .before .start-at .ensures) (c .before .before .before .before .before .end-at .ensures)
 
 add-t19 : tie.Need-add-t19
-add-t19 c = let p = c .before .before .before .before .before .before .before .before .before .before .before .before .before .before .before .before .pre .1 .0 in let n = not-many _ _ _ _ (c .before .before .before .before .before .before .before .before .before .before .before .before .before .before .before .before .pre .0) in omega arith
+add-t19 c = let p = c .before .before .before .before .before .before .before .before .before .before .before .before .before .before .before .before .pre .1 .0 in let n = sizes _ _ _ _ (c .before .before .before .before .before .before .before .before .before .before .before .before .before .before .before .before .pre .0) in omega arith
 
 add-t20 : tie.Need-add-t20
 add-t20 c = search needs

@@ -1,7 +1,6 @@
 use native.Mathlib.Omega.{arith}
 use Rattle.structure.specs.Tokens.{part}
 use Rattle.reader.proofs.Leaves.{none-wrote}
-use Rattle.reader.proofs.Orders.{part-none}
 use borrow.Author.Needs.{needs}
 use Rattle.reader.proofs.inner.records.put_string.Statement.{statement}
 use Rattle.reader.proofs.inner.records.put_string.Tie as tie

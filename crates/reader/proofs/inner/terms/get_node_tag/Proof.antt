@@ -1,5 +1,5 @@
 use native.Mathlib.Omega.{arith}
-use Rattle.reader.proofs.Orders.{not-many}
+use Rattle.structure.proofs.Arrays.{sizes}
 use Rattle.reader.proofs.Terms.{no-tag, tag-inside, plain-tag, tag-bytes, tagged-tag}
 use borrow.Author.Needs.{needs}
 use Rattle.reader.proofs.inner.terms.get_node_tag.Statement.{statement}
@@ -31,19 +31,19 @@ put-bytes-requires : tie.Need-put-bytes-requires
 put-bytes-requires c κs = tag-bytes _ _ _ _ _ (c .before .before .before .before .before .before .kind-at .ensures) (c .before .before .before .before .before .if1 .left) _ _ (c .before .before .start-at .ensures) (c .before .end-at .ensures) (c .before .before .before .enum-told .given .1) (c .before .before .before .before .before .before .before .before .before .before .before .before .pre .1)
 
 add-t15 : tie.Need-add-t15
-add-t15 c = let t = tag-inside (c .before .before .before .before .before .before .before .before .before .before .before .before .before .before .before .args .text .now) (c .before .before .before .before .before .before .before .before .before .before .before .before .before .before .before .args .store .now) (c .before .before .before .before .before .before .before .before .before .before .before .before .before .before .before .args .at) (c .before .before .before .before .before .before .before .before .before .before .before .before .before .before .before .args .free) _ (c .before .before .before .before .before .before .before .before .before .kind-at .ensures) (c .before .before .before .before .before .before .before .before .if1 .left) in let n = not-many _ _ _ _ (c .before .before .before .before .before .before .before .before .before .before .before .before .before .before .before .pre .0) in omega arith
+add-t15 c = let t = tag-inside (c .before .before .before .before .before .before .before .before .before .before .before .before .before .before .before .args .text .now) (c .before .before .before .before .before .before .before .before .before .before .before .before .before .before .before .args .store .now) (c .before .before .before .before .before .before .before .before .before .before .before .before .before .before .before .args .at) (c .before .before .before .before .before .before .before .before .before .before .before .before .before .before .before .args .free) _ (c .before .before .before .before .before .before .before .before .before .kind-at .ensures) (c .before .before .before .before .before .before .before .before .if1 .left) in let n = sizes _ _ _ _ (c .before .before .before .before .before .before .before .before .before .before .before .before .before .before .before .pre .0) in omega arith
 
 add-t18 : tie.Need-add-t18
-add-t18 c = let t = tag-inside (c .before .before .before .before .before .before .before .before .before .before .before .before .before .before .before .args .text .now) (c .before .before .before .before .before .before .before .before .before .before .before .before .before .before .before .args .store .now) (c .before .before .before .before .before .before .before .before .before .before .before .before .before .before .before .args .at) (c .before .before .before .before .before .before .before .before .before .before .before .before .before .before .before .args .free) _ (c .before .before .before .before .before .before .before .before .before .kind-at .ensures) (c .before .before .before .before .before .before .before .before .if1 .left) in let n = not-many _ _ _ _ (c .before .before .before .before .before .before .before .before .before .before .before .before .before .before .before .pre .0) in omega arith
+add-t18 c = let t = tag-inside (c .before .before .before .before .before .before .before .before .before .before .before .before .before .before .before .args .text .now) (c .before .before .before .before .before .before .before .before .before .before .before .before .before .before .before .args .store .now) (c .before .before .before .before .before .before .before .before .before .before .before .before .before .before .before .args .at) (c .before .before .before .before .before .before .before .before .before .before .before .before .before .before .before .args .free) _ (c .before .before .before .before .before .before .before .before .before .kind-at .ensures) (c .before .before .before .before .before .before .before .before .if1 .left) in let n = sizes _ _ _ _ (c .before .before .before .before .before .before .before .before .before .before .before .before .before .before .before .pre .0) in omega arith
 
 enum-told-2 : tie.Need-enum-told-2
 enum-told-2 c = search needs
 
 add-t19 : tie.Need-add-t19
-add-t19 c = let t = tag-inside (c .before .before .before .before .before .before .before .before .before .args .text .now) (c .before .before .before .before .before .before .before .before .before .args .store .now) (c .before .before .before .before .before .before .before .before .before .args .at) (c .before .before .before .before .before .before .before .before .before .args .free) _ (c .before .before .before .kind-at .ensures) (c .before .before .if1 .left) in let n = not-many _ _ _ _ (c .before .before .before .before .before .before .before .before .before .pre .0) in omega arith
+add-t19 c = let t = tag-inside (c .before .before .before .before .before .before .before .before .before .args .text .now) (c .before .before .before .before .before .before .before .before .before .args .store .now) (c .before .before .before .before .before .before .before .before .before .args .at) (c .before .before .before .before .before .before .before .before .before .args .free) _ (c .before .before .before .kind-at .ensures) (c .before .before .if1 .left) in let n = sizes _ _ _ _ (c .before .before .before .before .before .before .before .before .before .pre .0) in omega arith
 
 add-t20 : tie.Need-add-t20
-add-t20 c = let t = tag-inside (c .before .before .before .before .before .before .before .before .before .args .text .now) (c .before .before .before .before .before .before .before .before .before .args .store .now) (c .before .before .before .before .before .before .before .before .before .args .at) (c .before .before .before .before .before .before .before .before .before .args .free) _ (c .before .before .before .kind-at .ensures) (c .before .before .if1 .left) in let n = not-many _ _ _ _ (c .before .before .before .before .before .before .before .before .before .pre .0) in omega arith
+add-t20 c = let t = tag-inside (c .before .before .before .before .before .before .before .before .before .args .text .now) (c .before .before .before .before .before .before .before .before .before .args .store .now) (c .before .before .before .before .before .before .before .before .before .args .at) (c .before .before .before .before .before .before .before .before .before .args .free) _ (c .before .before .before .kind-at .ensures) (c .before .before .if1 .left) in let n = sizes _ _ _ _ (c .before .before .before .before .before .before .before .before .before .pre .0) in omega arith
 
 same-length : tie.Need-same-length
 same-length c = search needs

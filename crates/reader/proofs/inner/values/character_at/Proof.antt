@@ -1,6 +1,6 @@
 use native.Mathlib.Omega.{arith}
 use Rattle.structure.proofs.Steps.{inside-is}
-use Rattle.reader.proofs.Orders.{low, spans}
+use Rattle.structure.proofs.Arrays.{low, spans}
 use Rattle.reader.proofs.Worths.{character-is, character-none}
 use borrow.Author.Needs.{needs}
 use Rattle.reader.proofs.inner.values.character_at.Statement.{statement}

@@ -1,0 +1,2 @@
+-- The cursor: the definitions that the contracts of this crate cite.
+pub mod Cursors

@@ -1,0 +1,365 @@
+-- The phases of a reading: what each of them answers, and what it leaves in the lent buffers.
+use Prim.Native.Nat.{ℕ, zero, suc, _+_, _*_, _≤_, _<_, _/_, min}
+use mathlib.Core.Path.{_≡_, refl, sym, ap, _∙_}
+use mathlib.Core.Bool.{Bool, true, false}
+use mathlib.Core.List.{List, [], _∷_, _++_}
+use mathlib.Core.Logic.{⊎-elim}
+use native.Mathlib.Nat.{eq-or-lt-of-le}
+use native.Mathlib.Omega.{arith}
+use lib.Dec.{leb, ltb}
+use denote.Enum.Declared.{tagOf}
+use types.Run.{OneOf}
+use lib.ListN.{length, take, length-append, length-take}
+use borrow.Author.Tests.{le-leb, lt-leb, leb-true, ltb-true, eqb-true}
+use Rattle.text.specs.Choice.{choose, and, or}
+use Rattle.text.specs.Utf8.{firstBad}
+use Rattle.text.specs.declared.Check.{Check}
+use Rattle.text.specs.declared.Check.the-variants as Check
+use Rattle.literal.specs.Escapes.{badEscape}
+use Rattle.token.specs.Lists.{kindOf, startOf, endOf, tokensOf, filledOf, Space, Holds}
+use Rattle.token.specs.declared.Filled.{Filled}
+use Rattle.token.specs.declared.Filled.the-variants as Filled
+use Rattle.token.proofs.Lists.{few}
+use Rattle.token.proofs.Fills.{used, filled-all, filled-none}
+use Rattle.text.proofs.Splices.{length-fronted}
+use Rattle.token.proofs.Lists.{length-each}
+use Rattle.table.specs.Tree.{Span, Rule, count, counts, ruleStored, rulesStored}
+use Rattle.table.specs.Record.{nodesIn, rulesIn}
+use Rattle.table.specs.Flat.{nodesOf, recordsOf}
+use Rattle.structure.specs.declared.Level.{Level}
+use Rattle.structure.specs.declared.Fault.{Fault}
+use Rattle.structure.specs.declared.Fault.the-variants as Fault
+use Rattle.structure.specs.declared.Refusal.{Refusal}
+use Rattle.structure.specs.declared.Refusal.the-variants as Refusal
+use Rattle.structure.specs.declared.Counted.{Counted}
+use Rattle.structure.specs.declared.Counted.the-variants as Counted
+use Rattle.structure.specs.Tokens as Tokens
+use Rattle.structure.specs.Tokens.{toks, is}
+use Rattle.structure.specs.Values.{inside, literalFault, faultAt, orFault, faultsFrom, faults}
+use Rattle.structure.specs.Structure.{Ruled, rules, unruled, ruleAt, grammar, docs}
+use Rattle.structure.specs.Structure as Structure
+use Rattle.structure.specs.Answers.{Lent, summaries}
+use Rattle.structure.proofs.Sizes as Sizes
+use Rattle.text.proofs.Tests.{lt-or-ge}
+use Rattle.structure.proofs.Steps.{choose-true, choose-false, split, inside-is, another, and-left, or-first, or-second}
+use Rattle.structure.proofs.Rules.{rule-went, rules-end, rules-doc}
+use Rattle.reader.specs.declared.Reading.{Reading}
+use Rattle.reader.specs.declared.Reading.the-variants as Reading
+use Rattle.reader.proofs.Reading.{the-type}
+use Rattle.reader.specs.Read.{roomForNodes, roomForRules, roomBy, faulty, checkedBy, unreadable, ruledBy, judgedOf, listedOf, readOf, ruledOf, rulesOf, leftIn, numbered, reported, Leaves}
+use Rattle.reader.specs.Build.{most, Scalars}
+use Rattle.reader.specs.Rules.{RulesRoom, RulesBuilt}
+use Rattle.reader.proofs.Rules.{NextRule, next-rule, no-rules}
+
+-- ---- room
+
+module _ (k c z n r b : ℕ) where
+  pub no-rules-room : r < k → Reading.RulesRoom ≡ roomBy k c z n r b
+  unfolding roomBy
+  no-rules-room h = rw (lt-leb k r h)
+
+  module _ (h : k ≤ r) where
+    pub no-nodes-room : n < c → Reading.NodesRoom ≡ roomBy k c z n r b
+    unfolding roomBy
+    no-nodes-room g = rw (le-leb k r h, lt-leb c n g)
+
+    pub no-store-room : c ≤ n → b < z → Reading.StoreRoom ≡ roomBy k c z n r b
+    unfolding roomBy
+    no-store-room g f = rw (le-leb k r h, le-leb c n g, lt-leb z b f)
+
+    pub room : c ≤ n → z ≤ b → Reading.Read c k z ≡ roomBy k c z n r b
+    unfolding roomBy
+    room g f = rw (le-leb k r h, le-leb c n g, le-leb z b f)
+
+  -- what is read has room
+  pub has-room : {x y w : ℕ} → roomBy k c z n r b ≡ Reading.Read x y w → (k ≤ r) × (c ≤ n) × (z ≤ b)
+  unfolding roomBy
+  has-room =
+      split (leb k r) _ _
+      (λ e. split (leb c n) _ _
+      (λ f. split (leb z b) _ _ (λ g q. (leb-true k r e, leb-true c n f, leb-true z b g)) (λ g q. let z : _≡_ {A = ℕ} 0 1 = cc in absurd (omega arith)))
+      (λ f q. let z : _≡_ {A = ℕ} 0 1 = cc in absurd (omega arith)))
+      (λ e q. let z : _≡_ {A = ℕ} 0 1 = cc in absurd (omega arith))
+
+-- ---- structure, values, room
+
+counted-refused : (m : Ruled) (r : Counted) (x : Refusal) → r ≡ summaries m → r ≡ Counted.Refused x → m ≡ unruled x
+unfolding summaries
+counted-refused (rules us) r x e q = let z : _≡_ {A = ℕ} 0 1 = cc in absurd (omega arith)
+counted-refused (unruled y) r x e q = cc
+
+counted-rules : (m : Ruled) (r : Counted) (a b c : ℕ) → r ≡ summaries m → r ≡ Counted.Rules a b c
+    → (us : List (Rule Span)) × (m ≡ rules us) × (length us ≡ a) × (counts us ≡ b) × (length (rulesStored us) ≡ c)
+unfolding summaries
+counted-rules (rules us) r a b c e q = (us, refl, cc, cc, cc)
+counted-rules (unruled y) r a b c e q = let z : _≡_ {A = ℕ} 0 1 = cc in absurd (omega arith)
+
+module _ (level : Level) (s : List ℕ) (n r b : ℕ) (c : Counted) (e : c ≡ summaries (grammar level s)) where
+  pub judge-refused : (x y : Refusal) → c ≡ Counted.Refused x → x ≡ y → unreadable y ≡ judgedOf level s n r b
+  unfolding judgedOf
+  judge-refused x y q w = sym (ap (λ (m : Ruled). ruledBy m (λ us. faulty (faults level s) (λ u. roomBy (length us) (counts us) (length (rulesStored us)) n r b))) (counted-refused (grammar level s) c x e q) ∙ ap unreadable w)
+
+  module _ (k l z : ℕ) (q : c ≡ Counted.Rules k l z) (f : Fault) (g : f ≡ faults level s) where
+    pub judge-by : (y : Fault) → f ≡ y → faulty y (λ u. roomBy k l z n r b) ≡ judgedOf level s n r b
+    unfolding judgedOf
+    judge-by y w =
+        let (us, m, e₁, e₂, e₃) = counted-rules (grammar level s) c k l z e q in
+        sym (ap (λ (m : Ruled). ruledBy m (λ us. faulty (faults level s) (λ u. roomBy (length us) (counts us) (length (rulesStored us)) n r b))) m
+        ∙ ap (λ (x : Fault). faulty x (λ u. roomBy (length us) (counts us) (length (rulesStored us)) n r b)) (sym g ∙ w)
+        ∙ rw (e₁, e₂, e₃))
+
+    pub judge-room : f ≡ Fault.Sound → (y : Reading) → y ≡ roomBy k l z n r b → y ≡ judgedOf level s n r b
+    judge-room w y h = h ∙ judge-by Fault.Sound w
+
+-- ---- a text whose values are sound
+
+or-sound : (f : Fault) (g : Unit {0} → Fault) → orFault f g ≡ Fault.Sound → (f ≡ Fault.Sound) × (g tt ≡ Fault.Sound)
+or-sound Fault.Sound g e = (refl, e)
+or-sound (Fault.Over p) g e = let z : _≡_ {A = ℕ} 0 1 = cc in absurd (omega arith)
+or-sound (Fault.Zero p) g e = let z : _≡_ {A = ℕ} 0 1 = cc in absurd (omega arith)
+or-sound (Fault.PeekRange p) g e = let z : _≡_ {A = ℕ} 0 1 = cc in absurd (omega arith)
+or-sound (Fault.NotScalar p) g e = let z : _≡_ {A = ℕ} 0 1 = cc in absurd (omega arith)
+or-sound (Fault.NotPlain p) g e = let z : _≡_ {A = ℕ} 0 1 = cc in absurd (omega arith)
+
+literal-good : (s : List ℕ) (i : ℕ) (c : Check) → literalFault s i c ≡ Fault.Sound → c ≡ Check.Good
+literal-good s i Check.Good e = refl
+literal-good s i (Check.Bad k) e = let z : _≡_ {A = ℕ} 0 1 = cc in absurd (omega arith)
+
+module _ (level : Level) (s : List ℕ) where
+  sound-at : (before i n j : ℕ) → faultsFrom level s before i n ≡ Fault.Sound → i ≤ j → j < i + n → (k : ℕ) × (faultAt level s k j ≡ Fault.Sound)
+  unfolding faultsFrom
+  sound-at before i zero j e h l = absurd (omega arith)
+  sound-at before i (suc n) j e h l =
+      let p = or-sound (faultAt level s before i) _ e in
+      ⊎-elim
+      (λ q. (before, ap (faultAt level s before) (sym q) ∙ p .0))
+      (λ m. sound-at (Tokens.kind s i) (i + 1) n j (p .1) (omega arith) (omega arith))
+      (eq-or-lt-of-le h)
+
+  strings-good : (i : ℕ) (k : ℕ) → faultAt level s k i ≡ Fault.Sound → is s i 18 ≡ false → is s i 20 ≡ false → is s i 21 ≡ false → or (is s i 23) (or (is s i 24) (is s i 25)) ≡ true
+      → badEscape (inside s i) ≡ Check.Good
+  unfolding faultAt
+  strings-good i k e a b c d =
+      literal-good s i (badEscape (inside s i))
+      (sym (choose-false (is s i 18) _ _ a ∙ choose-false (is s i 20) _ _ b ∙ choose-false (is s i 21) _ _ c ∙ choose-true (or (is s i 23) (or (is s i 24) (is s i 25))) _ _ d) ∙ e)
+
+  sound-literal : faults level s ≡ Fault.Sound → (i x : ℕ) → 22 < x → is s i x ≡ true → or (is s i 23) (or (is s i 24) (is s i 25)) ≡ true → badEscape (inside s i) ≡ Check.Good
+  unfolding faults is
+  sound-literal e i x h q d =
+      let l = inside-is s i x (omega arith) q in
+      let (k, f) = sound-at 0 0 (length (toks s)) i e (omega arith) (omega arith) in
+      let w : Tokens.kind s i ≡ x = eqb-true (Tokens.kind s i) x q in
+      strings-good i k f (another s i (Tokens.kind s i) x 18 refl w (λ m. omega arith)) (another s i (Tokens.kind s i) x 20 refl w (λ m. omega arith))
+      (another s i (Tokens.kind s i) x 21 refl w (λ m. omega arith)) d
+
+  -- every string of a text whose values are sound means characters
+  pub sound-scalars : faults level s ≡ Fault.Sound → Scalars s
+  sound-scalars e = record {
+    strings = λ i q. sound-literal e i 23 (omega arith) q (or-first (is s i 23) (or (is s i 24) (is s i 25)) q);
+    insens = λ i q. sound-literal e i 24 (omega arith) q (or-second (is s i 23) (or (is s i 24) (is s i 25)) (or-first (is s i 24) (is s i 25) q));
+  }
+
+  -- ---- the texts of rules aren't large
+
+  small-in : length s ≤ 65536 → (k i : ℕ) (us : List (Rule Span)) → Structure.rulesIn level s k i ≡ rules us → length (rulesStored us) ≤ Sizes.most * (counts us + length us)
+  unfolding Structure.rulesIn counts rulesStored
+  small-in h zero i us e =
+      let z : us ≡ [] = cc in
+      let a = ap (λ (x : List (Rule Span)). length (rulesStored x)) z in
+      omega arith
+  small-in h (suc k) i us e = ⊎-elim
+      (λ l.
+      split (is s i 27) _ _ (λ v w. small-in h k (i + 1) us w)
+      (λ v w.
+      let n = next-rule level s k i us l v e in
+      let p = small-in h k (n .next) (n .later) (n .rest) in
+      let g = rule-went level s i (n .rule) (n .next) h (n .read) in
+      let a = ap (length {A = Rule Span}) (n .are) in
+      let b = ap (counts {P = Span}) (n .are) in
+      let c = ap (λ (y : List (Rule Span)). length (rulesStored y)) (n .are) ∙ length-append (ruleStored (n .rule)) (rulesStored (n .later)) in
+      omega arith) (sym (choose-false (leb (length (toks s)) i) _ _ (lt-leb (length (toks s)) i l)) ∙ e))
+      (λ l.
+      let z : us ≡ [] = no-rules us [] (sym e ∙ rules-end level s (suc k) i l) in
+      let a = ap (λ (x : List (Rule Span)). length (rulesStored x)) z in
+      omega arith)
+      (lt-or-ge i (length (toks s)))
+
+  small : length s ≤ 65536 → (us : List (Rule Span)) → grammar level s ≡ rules us → length (rulesStored us) ≤ Sizes.most * (counts us + length us)
+  unfolding grammar
+  small h us e =
+      split (leb (length (toks s)) (docs s)) _ _ (λ v w. let z : _≡_ {A = ℕ} 0 1 = cc in absurd (omega arith)) (λ v w. small-in h (length (toks s)) (docs s) us w) e
+
+-- ---- what is read is built
+
+faulty-read : (f : Fault) (g : Unit {0} → Reading) {x y z : ℕ} → faulty f g ≡ Reading.Read x y z → (f ≡ Fault.Sound) × (g tt ≡ Reading.Read x y z)
+faulty-read Fault.Sound g e = (refl, e)
+faulty-read (Fault.Over p) g e = let z : _≡_ {A = ℕ} 0 1 = cc in absurd (omega arith)
+faulty-read (Fault.Zero p) g e = let z : _≡_ {A = ℕ} 0 1 = cc in absurd (omega arith)
+faulty-read (Fault.PeekRange p) g e = let z : _≡_ {A = ℕ} 0 1 = cc in absurd (omega arith)
+faulty-read (Fault.NotScalar p) g e = let z : _≡_ {A = ℕ} 0 1 = cc in absurd (omega arith)
+faulty-read (Fault.NotPlain p) g e = let z : _≡_ {A = ℕ} 0 1 = cc in absurd (omega arith)
+
+unreadable-read : (r : Refusal) {x y z : ℕ} {P : Type 0} → unreadable r ≡ Reading.Read x y z → P
+unreadable-read (Refusal.NotAllowed p) e = let z : _≡_ {A = ℕ} 0 1 = cc in absurd (omega arith)
+unreadable-read (Refusal.TooDeep p) e = let z : _≡_ {A = ℕ} 0 1 = cc in absurd (omega arith)
+
+ruled-read : (m : Ruled) (f : List (Rule Span) → Reading) {x y z : ℕ} → ruledBy m f ≡ Reading.Read x y z → (m ≡ rules (ruledOf m)) × (f (ruledOf m) ≡ Reading.Read x y z)
+ruled-read (rules us) f e = (refl, e)
+ruled-read (unruled r) f e = unreadable-read r e
+
+module _ (level : Level) (s ns rs st : List ℕ) where
+  pub build-ready : length s ≤ 65536 → {x y z : ℕ} → judgedOf level s (roomForNodes ns) (roomForRules rs) (length st) ≡ Reading.Read x y z
+      → Scalars s × RulesRoom (grammar level s) (rulesOf level s) ns rs st
+  unfolding judgedOf
+  build-ready h e =
+      let (m, e₁) = ruled-read (grammar level s) _ e in
+      let (f, e₂) = faulty-read (faults level s) _ e₁ in
+      let (a, b, c) = has-room (length (rulesOf level s)) (counts (rulesOf level s)) (length (rulesStored (rulesOf level s))) (roomForNodes ns) (roomForRules rs) (length st) e₂ in
+      let d = small level s h (rulesOf level s) m in
+      (sound-scalars level s f, record { read = m; rows = omega arith; room = omega arith; few = omega arith; fits = c; low = omega arith })
+
+  pub read-left : (x y z : ℕ) (ns′ rs′ st′ : List ℕ) → RulesBuilt (rulesOf level s) ns rs st ns′ rs′ st′ → Leaves level s (Reading.Read x y z) ns rs st ns′ rs′ st′
+  unfolding leftIn
+  read-left x y z ns′ rs′ st′ b = record { nodes = b .nodes-is; rules = b .rules-is; store = b .store-is }
+
+and-right : (b c : Bool) → and b c ≡ true → c ≡ true
+and-right true c h = h
+and-right false c h = let z : _≡_ {A = ℕ} 0 1 = cc in absurd (omega arith)
+
+-- a case that is none of the first kind
+abbrev positives : List ℕ → Bool
+positives [] = true
+positives (k ∷ ks) = and (ltb 0 k) (positives ks)
+
+positive : (k : ℕ) (ks : List ℕ) {x : ℕ} → positives (k ∷ ks) ≡ true → OneOf (k ∷ ks) x → 0 < x
+positive k [] t h = let l = ltb-true 0 k (and-left (ltb 0 k) true t) in omega arith
+positive k (j ∷ ks) t h = ⊎-elim
+    (λ e. let l = ltb-true 0 k (and-left (ltb 0 k) (positives (j ∷ ks)) t) in omega arith)
+    (λ m. positive j ks (and-right (ltb 0 k) (positives (j ∷ ks)) t) m) h
+
+-- the cases after the second
+abbrev pub later : List ℕ
+later = 2 ∷ 3 ∷ 4 ∷ 5 ∷ 6 ∷ 7 ∷ 8 ∷ 9 ∷ 10 ∷ 11 ∷ 12 ∷ 13 ∷ []
+
+-- a refusal changes nothing
+pub kept : (level : Level) (s ns rs st : List ℕ) (r : Reading) → 0 < tagOf the-type r → Leaves level s r ns rs st ns rs st
+unfolding leftIn
+kept level s ns rs st (Reading.Read x y z) h = absurd (omega arith)
+kept level s ns rs st Reading.TooLong h = record { nodes = refl; rules = refl; store = refl }
+kept level s ns rs st (Reading.NotUtf8 p) h = record { nodes = refl; rules = refl; store = refl }
+kept level s ns rs st (Reading.NoToken p) h = record { nodes = refl; rules = refl; store = refl }
+kept level s ns rs st (Reading.NotAllowed p) h = record { nodes = refl; rules = refl; store = refl }
+kept level s ns rs st (Reading.TooDeep p) h = record { nodes = refl; rules = refl; store = refl }
+kept level s ns rs st (Reading.Over p) h = record { nodes = refl; rules = refl; store = refl }
+kept level s ns rs st (Reading.Zero p) h = record { nodes = refl; rules = refl; store = refl }
+kept level s ns rs st (Reading.PeekRange p) h = record { nodes = refl; rules = refl; store = refl }
+kept level s ns rs st (Reading.NotScalar p) h = record { nodes = refl; rules = refl; store = refl }
+kept level s ns rs st (Reading.NotPlain p) h = record { nodes = refl; rules = refl; store = refl }
+kept level s ns rs st Reading.RulesRoom h = record { nodes = refl; rules = refl; store = refl }
+kept level s ns rs st Reading.NodesRoom h = record { nodes = refl; rules = refl; store = refl }
+kept level s ns rs st Reading.StoreRoom h = record { nodes = refl; rules = refl; store = refl }
+
+module _ (level : Level) (s ns rs st : List ℕ) (x : Reading) (n r : ℕ) (e : x ≡ judgedOf level s n r (length st)) (p : n ≡ roomForNodes ns) (q : r ≡ roomForRules rs) where
+  judged-is : x ≡ judgedOf level s (roomForNodes ns) (roomForRules rs) (length st)
+  judged-is = e ∙ ap (λ (k : ℕ). judgedOf level s k r (length st)) p ∙ ap (λ (k : ℕ). judgedOf level s (roomForNodes ns) k (length st)) q
+
+  pub build-kept : OneOf (1 ∷ later) (tagOf the-type x) → (x ≡ judgedOf level s (roomForNodes ns) (roomForRules rs) (length st)) × Leaves level s x ns rs st ns rs st
+  build-kept h = (judged-is, kept level s ns rs st x (positive 1 later refl h))
+
+  module _ {a b c : ℕ} (w : x ≡ Reading.Read a b c) where
+    pub build-room : length s ≤ 65536 → Scalars s × RulesRoom (grammar level s) (rulesOf level s) ns rs st
+    build-room h = build-ready level s ns rs st h (sym judged-is ∙ w)
+
+    pub build-read : (ns′ rs′ st′ : List ℕ) → RulesBuilt (rulesOf level s) ns rs st ns′ rs′ st′
+        → (x ≡ judgedOf level s (roomForNodes ns) (roomForRules rs) (length st)) × Leaves level s x ns rs st ns′ rs′ st′
+    build-read ns′ rs′ st′ d = (judged-is, rw w (read-left level s ns rs st a b c ns′ rs′ st′ d))
+
+-- ---- tokens in the arrays
+
+module _ (s : List ℕ) (f : Filled) (e : f ≡ filledOf s) where
+  pub work-stopped : (level : Level) (ns rs st : List ℕ) (n r b p : ℕ) → f ≡ Filled.NoToken p → (Reading.NoToken p ≡ listedOf level s n r b) × Leaves level s (Reading.NoToken p) ns rs st ns rs st
+  unfolding listedOf
+  work-stopped level ns rs st n r b p q =
+      (sym (ap (λ (x : Check). checkedBy x Reading.NoToken (λ u. judgedOf level s n r b)) (filled-none s p (sym e ∙ q))), kept level s ns rs st (Reading.NoToken p) (omega arith))
+
+  module _ (n : ℕ) (q : f ≡ Filled.All n) where
+    many : n ≡ length (toks s)
+    many = filled-all s n (sym e ∙ q) .0
+
+    pub work-filled : (level : Level) (x : Reading) (k r b : ℕ) → x ≡ judgedOf level s k r b → x ≡ listedOf level s k r b
+    unfolding listedOf
+    work-filled level x k r b h = h ∙ sym (ap (λ (y : Check). checkedBy y Reading.NoToken (λ u. judgedOf level s k r b)) (filled-all s n (sym e ∙ q) .1))
+
+    module _ (k₀ s₀ e₀ k₁ s₁ e₁ : List ℕ) (w : Space s k₀ s₀ e₀) (h : Holds (tokensOf s .list) k₀ s₀ e₀ k₁ s₁ e₁) where
+      pub room-in : (n ≤ length k₁) × (n ≤ length s₁) × (n ≤ length e₁)
+      room-in =
+          let m = few s in
+          let z = many in
+          let w₁ = w .kinds in
+          let w₂ = w .starts in
+          let w₃ = w .ends in
+          let l₁ = length-each kindOf (toks s) in
+          let l₂ = length-each startOf (toks s) in
+          let l₃ = length-each endOf (toks s) in
+          let a = ap length (h .kinds) ∙ length-fronted _ k₀ (omega arith) in
+          let b = ap length (h .starts) ∙ length-fronted _ s₀ (omega arith) in
+          let c = ap length (h .ends) ∙ length-fronted _ e₀ (omega arith) in
+          (omega arith, omega arith, omega arith)
+
+      pub takes : (n ≡ length (take n k₁)) × (n ≡ length (take n s₁)) × (n ≡ length (take n e₁))
+      takes =
+          let r = room-in in
+          let a = length-take n k₁ in
+          let b = length-take n s₁ in
+          let c = length-take n e₁ in
+          (omega arith, omega arith, omega arith)
+
+      pub lent : Lent s (take n k₁) (take n s₁) (take n e₁)
+      lent = record {
+        short = w .short;
+        kinds = used kindOf (toks s) k₀ k₁ n (h .kinds) many;
+        starts = used startOf (toks s) s₀ s₁ n (h .starts) many;
+        ends = used endOf (toks s) e₀ e₁ n (h .ends) many;
+      }
+
+-- ---- the whole
+
+-- what the promise of `read` says of an answer and of what the buffers hold afterwards
+pub record Meets (level : Level) (s ns rs st : List ℕ) (r : Reading) (ns′ rs′ st′ : List ℕ) : Type 0 where
+  pub answer : r ≡ readOf level s (roomForNodes ns) (roomForRules rs) (length st)
+  pub report : numbered r ≡ reported level s (roomForNodes ns) (roomForRules rs) (length st)
+  pub left : Leaves level s r ns rs st ns′ rs′ st′
+
+-- two results that meet it are equal
+pub read-unique : {level : Level} {s ns rs st a b c x y z : List ℕ} {r q : Reading} → Meets level s ns rs st r a b c → Meets level s ns rs st q x y z → (r ≡ q) × (a ≡ x) × (b ≡ y) × (c ≡ z)
+read-unique {level} {s} {ns} {rs} {st} v w =
+    let e = v .answer ∙ sym (w .answer) in (
+      e,
+      v .left .nodes ∙ ap (λ (k : Reading). leftIn k (nodesOf (rulesOf level s)) ns) e ∙ sym (w .left .nodes),
+      v .left .rules ∙ ap (λ (k : Reading). leftIn k (recordsOf (rulesOf level s)) rs) e ∙ sym (w .left .rules),
+      v .left .store ∙ ap (λ (k : Reading). leftIn k (rulesStored (rulesOf level s)) st) e ∙ sym (w .left .store),
+    )
+
+module _ (level : Level) (s ns rs st : List ℕ) where
+  met : {r : Reading} {ns′ rs′ st′ : List ℕ} → r ≡ readOf level s (roomForNodes ns) (roomForRules rs) (length st) → Leaves level s r ns rs st ns′ rs′ st′ → Meets level s ns rs st r ns′ rs′ st′
+  unfolding reported
+  met e l = record { answer = e; report = ap numbered e; left = l }
+
+  pub read-long : 65536 < length s → Meets level s ns rs st Reading.TooLong ns rs st
+  unfolding readOf
+  read-long h = met (sym (choose-false (leb (length s) 65536) _ _ (lt-leb (length s) 65536 h))) (kept level s ns rs st Reading.TooLong (omega arith))
+
+  module _ (h : length s ≤ 65536) (c : Check) (e : c ≡ firstBad s) where
+    by-check : {y : Check} → c ≡ y
+        → checkedBy y Reading.NotUtf8 (λ u. listedOf level s (roomForNodes ns) (roomForRules rs) (length st)) ≡ readOf level s (roomForNodes ns) (roomForRules rs) (length st)
+    unfolding readOf
+    by-check q =
+        sym (choose-true (leb (length s) 65536) _ _ (le-leb (length s) 65536 h)
+        ∙ ap (λ (x : Check). checkedBy x Reading.NotUtf8 (λ u. listedOf level s (roomForNodes ns) (roomForRules rs) (length st))) (sym e ∙ q))
+
+    pub read-bad : (p : ℕ) → c ≡ Check.Bad p → Meets level s ns rs st (Reading.NotUtf8 p) ns rs st
+    read-bad p q = met (by-check q) (kept level s ns rs st (Reading.NotUtf8 p) (omega arith))
+
+    pub read-good : c ≡ Check.Good → (r : Reading) (ns′ rs′ st′ : List ℕ) → r ≡ listedOf level s (roomForNodes ns) (roomForRules rs) (length st) → Leaves level s r ns rs st ns′ rs′ st′
+        → Meets level s ns rs st r ns′ rs′ st′
+    read-good q r ns′ rs′ st′ w l = met (w ∙ by-check q) l

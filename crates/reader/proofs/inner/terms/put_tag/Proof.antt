@@ -1,0 +1,61 @@
+use native.Mathlib.Omega.{arith}
+use Rattle.reader.proofs.Terms.{tie-none, tie-plain, tag-fits, tie-tagged}
+use borrow.Author.Needs.{needs}
+use Rattle.reader.proofs.inner.terms.put_tag.Statement.{statement}
+use Rattle.reader.proofs.inner.terms.put_tag.Tie as tie
+use Rattle.reader.proofs.inner.records.put_record.Reads as put-record-reads
+use Rattle.structure.proofs.inner.tokens.kind_at.Reads as kind-at-reads
+use Rattle.structure.proofs.inner.tokens.start_at.Reads as start-at-reads
+
+kind-at-requires : tie.Need-kind-at-requires
+kind-at-requires c κs = search needs
+
+returns : tie.Need-returns
+returns c = tie-none _ _ _ _ _ _ _ (c .before .kind-at .ensures) _ (c .if1 .taken)
+
+enum-told : tie.Need-enum-told
+enum-told c = search needs
+
+enum-told-2 : tie.Need-enum-told-2
+enum-told-2 c = search needs
+
+start-at-requires : tie.Need-start-at-requires
+start-at-requires c κs = search needs
+
+sub-put-record : tie.Need-sub-put-record
+sub-put-record c = search needs
+
+sub-put-record-2 : tie.Need-sub-put-record-2
+sub-put-record-2 c = search needs
+
+put-record-requires : tie.Need-put-record-requires
+put-record-requires c κs = tag-fits _ _ _ _ _ _ _ (c .before .before .before .before .before .kind-at .ensures) (c .before .before .before .before .if1 .left) (c .before .before .before .before .before .before .before .before .before .before .before .pre .0 .short) _ (c .before .start-at .ensures) (c .before .before .enum-told2 .given .1) (c .before .before .before .before .before .before .before .before .before .before .before .pre .1) .0
+
+add-t19 : tie.Need-add-t19
+add-t19 c = let f = tag-fits _ _ _ _ _ _ _ (c .before .before .before .before .before .before .before .before .kind-at .ensures) (c .before .before .before .before .before .before .before .if1 .left) (c .before .before .before .before .before .before .before .before .before .before .before .before .before .before .pre .0 .short) _ (c .before .before .before .before .start-at .ensures) (c .before .before .before .before .before .enum-told2 .given .1) (c .before .before .before .before .before .before .before .before .before .before .before .before .before .before .pre .1) .1 in omega arith
+
+returns-2 : tie.Need-returns-2
+returns-2 c = tie-plain _ _ _ _ _ _ _ (c .before .before .before .kind-at .ensures) (c .before .before .if1 .left) (c .enum-told .given .1)
+
+same-length : tie.Need-same-length
+same-length c = search needs
+
+returns-3 : tie.Need-returns-3
+returns-3 c = tie-tagged _ _ _ _ _ _ _ (c .before .before .before .before .before .before .before .before .kind-at .ensures) (c .before .before .before .before .before .before .before .if1 .left) (c .before .before .before .before .before .before .before .before .before .before .before .before .before .before .pre .0 .short) _ (c .before .before .before .before .start-at .ensures) (c .before .before .before .before .before .enum-told2 .given .1) _ (c .before .before .put-record .ensures)
+
+pub put-tag-spec : {M : Type 1} → statement M
+put-tag-spec =
+    tie.close
+    (tie.spec
+    kind-at-requires
+    returns
+    enum-told
+    enum-told-2
+    start-at-requires
+    sub-put-record
+    sub-put-record-2
+    put-record-requires
+    add-t19
+    returns-2
+    same-length
+    returns-3)

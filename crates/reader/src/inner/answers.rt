@@ -1,0 +1,137 @@
+// What a text gets, phase by phase, and the room there is.
+use super::rules::consume_rules_with_spans;
+use crate::Reading;
+use structure::Counted;
+use structure::Fault;
+use structure::Level;
+use structure::Refusal;
+use structure::inner::rules::check_grammar;
+use structure::inner::values::faults;
+use token::Filled;
+use token::inner::fill;
+ghost use mathlib.Core.Path.{_≡_};
+ghost use Prim.Native.Nat.{_/_, min};
+ghost use lib.ListN.{length};
+ghost use Rattle.text.specs.Classes.{classes};
+ghost use Rattle.token.specs.Lists.{Space};
+ghost use Rattle.structure.specs.Answers.{Lent};
+ghost use Rattle.reader.specs.Read.{roomForNodes, roomForRules, roomBy, judgedOf, listedOf, Leaves};
+
+// How many whole records there may be: the lower of what is lent and a limit.
+fn whole(numbers: usize, limit: usize) -> usize
+    ensures { λ r. ⌜ r ≡ min (numbers / 6) limit ⌝ }
+{
+    let lent = numbers / 6;
+    if lent < limit { lent } else { limit }
+}
+
+// The counts of what was read, if there is room for it.
+fn room_for(rules: usize, nodes: usize, bytes: usize, n: usize, r: usize, b: usize) -> Reading
+    ensures { λ r₁. ⌜ r₁ ≡ roomBy rules nodes bytes n r b ⌝ }
+{
+    if r < rules {
+        return Reading::RulesRoom;
+    }
+    if n < nodes {
+        return Reading::NodesRoom;
+    }
+    if b < bytes {
+        return Reading::StoreRoom;
+    }
+    Reading::Read(nodes, rules, bytes)
+}
+
+// What a text of tokens gets: structure, then values, then room.
+fn judge(
+    text: &[u8],
+    kinds: &[u8],
+    starts: &[u32],
+    ends: &[u32],
+    level: Level,
+    n: usize,
+    r: usize,
+    b: usize,
+) -> Reading
+    requires { ⌜ Lent (now text) (now kinds) (now starts) (now ends) ⌝ }
+    ensures { λ x. ⌜ x ≡ judgedOf level (now (text .entry)) n r b ⌝ }
+{
+    let counted = check_grammar(text, kinds, starts, ends, level);
+    match counted {
+        Counted::Refused(refusal) => match refusal {
+            Refusal::NotAllowed(place) => Reading::NotAllowed(place),
+            Refusal::TooDeep(place) => Reading::TooDeep(place),
+        },
+        Counted::Rules {
+            rules,
+            nodes,
+            bytes,
+        } => {
+            let fault = faults(text, kinds, starts, ends, level);
+            match fault {
+                Fault::Sound => room_for(rules, nodes, bytes, n, r, b),
+                Fault::Over(place) => Reading::Over(place),
+                Fault::Zero(place) => Reading::Zero(place),
+                Fault::PeekRange(place) => Reading::PeekRange(place),
+                Fault::NotScalar(place) => Reading::NotScalar(place),
+                Fault::NotPlain(place) => Reading::NotPlain(place),
+            }
+        }
+    }
+}
+
+// Judges a text of tokens, and writes its rules if there is nothing to refuse.
+fn build(
+    text: &[u8],
+    kinds: &[u8],
+    starts: &[u32],
+    ends: &[u32],
+    level: Level,
+    nodes: &mut [u32],
+    rules: &mut [u32],
+    store: &mut [u8],
+) -> Reading
+    requires { ⌜ Lent (now text) (now kinds) (now starts) (now ends) ⌝ }
+    ensures answer { λ r. ⌜ r ≡ judgedOf level (now (text .entry)) (roomForNodes (now (nodes .entry))) (roomForRules (now (rules .entry))) (length (now (store .entry))) ⌝ }
+    ensures left { λ r. ⌜ Leaves level (now (text .entry)) r (now (nodes .entry)) (now (rules .entry)) (now (store .entry)) (now (nodes .exit)) (now (rules .exit)) (now (store .exit)) ⌝ }
+{
+    let n = whole(nodes.len(), 4096);
+    let r = whole(rules.len(), 1024);
+    let answer = judge(text, kinds, starts, ends, level, n, r, store.len());
+    if let Reading::Read(_, _, _) = answer {
+        consume_rules_with_spans(text, kinds, starts, ends, nodes, rules, store, level);
+    }
+    answer
+}
+
+// Lists a text's tokens in lent arrays, and goes on with those.
+pub fn work(
+    t: &[u8; 256],
+    text: &[u8],
+    kinds: &mut [u8],
+    starts: &mut [u32],
+    ends: &mut [u32],
+    level: Level,
+    nodes: &mut [u32],
+    rules: &mut [u32],
+    store: &mut [u8],
+) -> Reading
+    requires { ⌜ now t ≡ classes ⌝ }
+    requires { ⌜ Space (now text) (now kinds) (now starts) (now ends) ⌝ }
+    ensures answer { λ r. ⌜ r ≡ listedOf level (now (text .entry)) (roomForNodes (now (nodes .entry))) (roomForRules (now (rules .entry))) (length (now (store .entry))) ⌝ }
+    ensures left { λ r. ⌜ Leaves level (now (text .entry)) r (now (nodes .entry)) (now (rules .entry)) (now (store .entry)) (now (nodes .exit)) (now (rules .exit)) (now (store .exit)) ⌝ }
+{
+    let filled = fill(t, text, kinds, starts, ends);
+    match filled {
+        Filled::NoToken(place) => Reading::NoToken(place),
+        Filled::All(n) => build(
+            text,
+            &kinds[..n],
+            &starts[..n],
+            &ends[..n],
+            level,
+            nodes,
+            rules,
+            store,
+        ),
+    }
+}
