@@ -8,20 +8,17 @@ pub mod Laid
 pub mod Lays
 pub mod Pushes
 pub mod Text
-
 -- from those tokens to the rules
 pub mod Leaves
 pub mod Shapes
 pub mod Tree
 pub mod Rules
-
 -- from tables to tables
 pub mod Spread
 pub mod Narrow
 pub mod Asides
 pub mod Round
 pub mod Sample
-
 -- the twelve examples, uniqueness, wrong programs
 pub mod Twelve
 pub mod Unique

@@ -30,7 +30,7 @@ use Rattle.structure.specs.Values.{faults}
 use Rattle.reader.specs.declared.Reading.{Reading}
 use Rattle.reader.specs.declared.Reading.the-variants as Reading
 use Rattle.reader.specs.Read as Read
-use Rattle.reader.specs.Read.{readOf, roomFor, faulty, ruledOf}
+use Rattle.reader.specs.Read.{readOf, listedOf, judgedOf, roomBy, roomFor, faulty, ruledOf}
 use Rattle.promises.specs.Pieces.{rulesPieces, firstPushLiteral, Stand}
 use Rattle.promises.specs.Round.{countedRules, depths, holdsPushLiteral, seen, Printable, ReadAs}
 use Rattle.promises.proofs.Narrow.{tables-counted}
@@ -43,12 +43,12 @@ use Rattle.promises.proofs.Asides.{counted-asides, depths-asides, pushi
 
 module _ (level : Level) (s : List ℕ) (us : List (Rule Span)) (h : length s ≤ 65536) (e₁ : firstBad s ≡ Good) (e₂ : tokensOf s .fault ≡ Good) (e₃ : grammar level s ≡ rules us) where
   past-structure : (f : Fault) → faults level s ≡ f → (n r b : ℕ) → readOf level s n r b ≡ faulty f (λ u. roomFor us n r b)
-  unfolding readOf
+  unfolding readOf listedOf judgedOf
   past-structure f e n r b = rw (le-leb (length s) 65536 h, e₁, e₂, e₃, e)
 
   past-values : faults level s ≡ Fault.Sound → (n r b : ℕ) → counts us ≤ n → length us ≤ r → length (rulesStored us) ≤ b
       → readOf level s n r b ≡ Reading.Read (counts us) (length us) (length (rulesStored us))
-  unfolding roomFor
+  unfolding roomBy
   past-values e n r b x y z = past-structure Fault.Sound e n r b ∙ rw (le-leb (length us) r y, le-leb (counts us) n x, le-leb (length (rulesStored us)) b z)
 
 -- ---- tables

@@ -29,7 +29,7 @@ use Rattle.table.specs.declared.TableCheck.{TableCheck}
 use Rattle.printer.specs.Answers.{printOf, printIn}
 use Rattle.printer.specs.declared.Printed.{Printed}
 use Rattle.structure.specs.declared.Level.{Level}
-use Rattle.reader.specs.Read.{readOf, rulesOf, leftIn, roomForNodes, roomForRules}
+use Rattle.reader.specs.Read.{readOf, rulesOf, leftIn, roomForNodes, roomForRules, Leaves}
 use Rattle.reader.specs.declared.Reading.{Reading}
 
 module _ {A : Type 0} {d x y : A} (e : x ≡ d) (f : y ≡ d) where
@@ -100,16 +100,10 @@ print ns rs st out o p x y e f h k = (one e f, kept e f (printIn ns rs st out) h
 
 -- ---- reader
 
--- what a reading of s leaves in the three lent buffers
-pub record Left (level : Level) (s ns rs st : List ℕ) (r : Reading) (ns′ rs′ st′ : List ℕ) : Type 0 where
-  pub nodes : ns′ ≡ leftIn r (nodesOf (rulesOf level s)) ns
-  pub rules : rs′ ≡ leftIn r (recordsOf (rulesOf level s)) rs
-  pub store : st′ ≡ leftIn r (rulesStored (rulesOf level s)) st
-
 module _ (level : Level) (s ns rs st : List ℕ) {x y : Reading}
     (e : x ≡ readOf level s (roomForNodes ns) (roomForRules rs) (length st))
     (f : y ≡ readOf level s (roomForNodes ns) (roomForRules rs) (length st)) where
-  pub read : {n₁ r₁ s₁ n₂ r₂ s₂ : List ℕ} → Left level s ns rs st x n₁ r₁ s₁ → Left level s ns rs st y n₂ r₂ s₂
+  pub read : {n₁ r₁ s₁ n₂ r₂ s₂ : List ℕ} → Leaves level s x ns rs st n₁ r₁ s₁ → Leaves level s y ns rs st n₂ r₂ s₂
       → (x ≡ y) × (n₁ ≡ n₂) × (r₁ ≡ r₂) × (s₁ ≡ s₂)
   read h k = (
     one e f,
