@@ -1,28 +1,26 @@
 -- The steps of an expression's loop: the choices so far and the last sequence, in the buffers.
-use Prim.Native.Nat.{ℕ, zero, suc, _+_, _-_, _*_, _≤_, _<_}
+use Prim.Native.Nat.{ℕ, _+_, _-_, _≤_, _<_}
 use mathlib.Core.Path.{_≡_, refl, sym, ap, _∙_}
 use mathlib.Core.Bool.{Bool, true, false}
-use mathlib.Core.List.{List, [], _∷_, _++_}
+use mathlib.Core.List.{List}
 use mathlib.Core.Option.{Option, none, some}
 use native.Mathlib.Omega.{arith}
 use lib.ListN.{length}
 use lib.Seq.{sets}
-use Rattle.table.specs.declared.Join.{Join}
 use Rattle.table.specs.declared.Join.the-variants.{Seq, Choice}
 use Rattle.table.specs.declared.Node.the-variants.{Two}
 use Rattle.table.specs.Tree.{Span, Tree, below, count, size, stored, placeOf}
-use Rattle.table.specs.Record.{nodeSize}
 use Rattle.table.specs.Flat.{recordOf, flat}
 use Rattle.structure.specs.declared.Level.{Level}
 use Rattle.structure.specs.Tokens.{toks, is}
-use Rattle.structure.specs.Structure.{Parsed, got, next, join, closed, expr, term, chain, Run}
+use Rattle.structure.specs.Structure.{got, next, join, closed, expr, term, chain, Run}
 use Rattle.structure.proofs.Steps.{choose-true, choose-false, inside-is, next-got, next-good}
 use Rattle.structure.proofs.Sizes.{count-join, size-join, count-closed, size-closed, count-more, size-more}
-use Rattle.structure.proofs.Fuel.{Went, went}
+use Rattle.structure.proofs.Fuel.{went}
 use Rattle.structure.proofs.Grammar.{expr-law, chain-law}
 use Rattle.reader.specs.declared.Placed.{Placed}
 use Rattle.reader.specs.Build.{written, most, Room, Laid, Built, Over, chosenEnd, chosenOf, ChoiceRoom}
-use Rattle.reader.proofs.Patches.{spanned, length-written}
+use Rattle.reader.proofs.Patches.{spanned}
 use Rattle.reader.proofs.Lays.{laid-long, two-laid}
 
 -- ---- in the buffers

@@ -1,8 +1,8 @@
 -- Leaves in the buffers.
-use Prim.Native.Nat.{ℕ, zero, suc, _+_, _-_, _*_, _≤_, _<_}
+use Prim.Native.Nat.{ℕ, _+_, _-_, _*_, _≤_, _<_}
 use mathlib.Core.Path.{_≡_, refl, sym, ap, _∙_}
 use mathlib.Core.Bool.{Bool, true, false}
-use mathlib.Core.List.{List, [], _∷_, _++_}
+use mathlib.Core.List.{List, [], _∷_}
 use native.Mathlib.Omega.{arith}
 use lib.ListN.{length}
 use lib.Seq.{sets}
@@ -14,20 +14,20 @@ use Rattle.literal.specs.Escapes.{badEscape, unescaped}
 use Rattle.table.specs.declared.Sort.{Sort}
 use Rattle.table.specs.declared.Sort.the-variants.{Str, Insens, Ident, PushLiteral}
 use Rattle.table.specs.declared.End.the-variants.{Open, At}
-use Rattle.table.specs.declared.Leaf.the-variants.{Text, Range, PeekSlice}
+use Rattle.table.specs.declared.Leaf.the-variants.{Text}
 use Rattle.table.specs.declared.Node.the-variants.{Tip}
-use Rattle.table.specs.Tree.{Span, Atom, text, range, peekSlice, atomStored, Tree, leaf, below, count, size, stored, placeOf}
+use Rattle.table.specs.Tree.{Span, Atom, text, range, peekSlice, atomStored, leaf, below, count, size, stored}
 use Rattle.table.specs.Record.{nodeSize}
 use Rattle.table.specs.Flat.{recordOf, numbersOf}
 use Rattle.table.specs.Flat as Flat
 use Rattle.text.specs.Choice.{choose, and}
 use Rattle.structure.specs.declared.Refusal.the-variants.{NotAllowed}
-use Rattle.structure.specs.Tokens.{toks, kind, start, end, is, across, part, word, same, spells, peek, pushLiteral}
+use Rattle.structure.specs.Tokens.{toks, start, end, is, across, part, word, same, spells, peek, pushLiteral}
 use Rattle.structure.specs.Values.{isInteger, integer, opening, inside, string, character}
 use Rattle.structure.specs.Structure.{Parsed, got, refused, sliceTo, slice, pushed, ranged, leafAt}
 use Rattle.structure.proofs.Steps.{choose-true, choose-false, split, inside-is, want-true, no-tree, want-got, opened-got, opened-false}
 use Rattle.reader.specs.declared.Placed.{Placed}
-use Rattle.reader.specs.Build.{written, most, Fits, Room, Laid, Built, wordLeaf, stringLeaf}
+use Rattle.reader.specs.Build.{written, most, Fits, Room, Built, wordLeaf, stringLeaf}
 use Rattle.reader.proofs.Patches.{spanned}
 use Rattle.reader.proofs.Lays.{leaf-laid}
 use Rattle.structure.proofs.Arrays.{low, spans, word-is, part-length}

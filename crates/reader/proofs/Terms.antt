@@ -1,20 +1,19 @@
 -- A term's tag, the bracket that moves its start, and where it starts.
-use Prim.Native.Nat.{ℕ, zero, suc, _+_, _-_, _*_, _≤_, _<_}
+use Prim.Native.Nat.{ℕ, _+_, _-_, _≤_, _<_}
 use mathlib.Core.Path.{_≡_, refl, sym, ap, _∙_}
-use mathlib.Core.Bool.{Bool, true, false}
-use mathlib.Core.List.{List, [], _∷_, _++_}
+use mathlib.Core.Bool.{true, false}
+use mathlib.Core.List.{List, [], _∷_}
 use native.Mathlib.Omega.{arith}
 use lib.ListN.{length}
 use lib.Dec.{ltb}
 use lib.Seq.{sets}
 use borrow.Author.Tests.{lt-ltb, le-ltb}
-use Rattle.text.specs.Choice.{choose}
 use Rattle.text.specs.Splice.{Wrote}
 use Rattle.text.specs.Splice as Splice
 use Rattle.text.proofs.Splices.{wrote-none}
 use Rattle.table.specs.declared.Op.the-variants.{NodeTag}
 use Rattle.table.specs.declared.Node.the-variants.{One}
-use Rattle.table.specs.Tree.{Span, nodeTag, Tree, below, count, size, stored, placeOf}
+use Rattle.table.specs.Tree.{Span, nodeTag, Tree, stored, placeOf}
 use Rattle.table.specs.Flat.{numbersOf, recordOf, flat}
 use Rattle.structure.specs.declared.Level.{Level}
 use Rattle.structure.specs.declared.Level.the-variants as Level

@@ -6,12 +6,6 @@ use Rattle.reader.proofs.Leaves.{spelled-word, push-read, peek-read, pe
 use borrow.Author.Needs.{needs}
 use Rattle.reader.proofs.inner.leaves.put_leaf.Statement.{statement}
 use Rattle.reader.proofs.inner.leaves.put_leaf.Tie as tie
-use Rattle.reader.proofs.inner.leaves.put_literal.Reads as put-literal-reads
-use Rattle.reader.proofs.inner.leaves.put_range.Reads as put-range-reads
-use Rattle.reader.proofs.inner.leaves.put_slice.Reads as put-slice-reads
-use Rattle.reader.proofs.inner.leaves.put_word.Reads as put-word-reads
-use Rattle.structure.proofs.inner.tokens.spelled.Reads as spelled-reads
-use Rattle.structure.proofs.inner.tokens.kind_at.Reads as kind-at-reads
 
 slice-aggregate-spelled : tie.Need-slice-aggregate-spelled
 slice-aggregate-spelled c = search needs

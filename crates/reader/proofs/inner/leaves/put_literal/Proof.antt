@@ -3,11 +3,6 @@ use Rattle.reader.proofs.Leaves.{string-inside, string-good, string-roo
 use borrow.Author.Needs.{needs}
 use Rattle.reader.proofs.inner.leaves.put_literal.Statement.{statement}
 use Rattle.reader.proofs.inner.leaves.put_literal.Tie as tie
-use Rattle.reader.proofs.inner.records.put_string.Reads as put-string-reads
-use Rattle.reader.proofs.inner.records.put_text.Reads as put-text-reads
-use Rattle.reader.proofs.inner.values.opening_of.Reads as opening-of-reads
-use Rattle.structure.proofs.inner.tokens.end_at.Reads as end-at-reads
-use Rattle.structure.proofs.inner.tokens.start_at.Reads as start-at-reads
 
 start-at-requires : tie.Need-start-at-requires
 start-at-requires c κs = search needs

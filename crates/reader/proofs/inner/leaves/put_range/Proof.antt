@@ -4,10 +4,6 @@ use Rattle.reader.proofs.Leaves.{range-read, bare-fits, range-built}
 use borrow.Author.Needs.{needs}
 use Rattle.reader.proofs.inner.leaves.put_range.Statement.{statement}
 use Rattle.reader.proofs.inner.leaves.put_range.Tie as tie
-use Rattle.reader.proofs.inner.records.put_record.Reads as put-record-reads
-use Rattle.reader.proofs.inner.values.character_at.Reads as character-at-reads
-use Rattle.structure.proofs.inner.tokens.end_at.Reads as end-at-reads
-use Rattle.structure.proofs.inner.tokens.start_at.Reads as start-at-reads
 
 add-i : tie.Need-add-i
 add-i c = let w = range-read _ _ (c .before .before .before .before .before .before .pre .1 .1) in let n = sizes _ _ _ _ (c .before .before .before .before .before .before .pre .0) in omega arith

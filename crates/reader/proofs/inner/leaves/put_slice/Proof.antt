@@ -5,9 +5,6 @@ use Rattle.reader.proofs.Leaves.{from-read, start-read, room-same, buil
 use borrow.Author.Needs.{needs}
 use Rattle.reader.proofs.inner.leaves.put_slice.Statement.{statement}
 use Rattle.reader.proofs.inner.leaves.put_slice.Tie as tie
-use Rattle.reader.proofs.inner.leaves.put_slice_to.Reads as put-slice-to-reads
-use Rattle.reader.proofs.inner.values.integer_at.Reads as integer-at-reads
-use Rattle.reader.proofs.inner.values.is_integer.Reads as is-integer-reads
 
 is-integer-requires : tie.Need-is-integer-requires
 is-integer-requires c κs = search needs

@@ -5,11 +5,6 @@ use Rattle.reader.proofs.Leaves.{to-read, open-read, bare-fits, slice-b
 use borrow.Author.Needs.{needs}
 use Rattle.reader.proofs.inner.leaves.put_slice_to.Statement.{statement}
 use Rattle.reader.proofs.inner.leaves.put_slice_to.Tie as tie
-use Rattle.reader.proofs.inner.records.put_record.Reads as put-record-reads
-use Rattle.reader.proofs.inner.values.integer_at.Reads as integer-at-reads
-use Rattle.reader.proofs.inner.values.is_integer.Reads as is-integer-reads
-use Rattle.structure.proofs.inner.tokens.end_at.Reads as end-at-reads
-use Rattle.structure.proofs.inner.tokens.start_at.Reads as start-at-reads
 
 start-at-requires : tie.Need-start-at-requires
 start-at-requires c κs = search needs

@@ -1,13 +1,9 @@
 use Rattle.structure.proofs.Arrays.{sizes}
 use native.Mathlib.Omega.{arith}
-use Rattle.reader.proofs.Leaves.{word-inside, word-room, word-fits, word-few, word-built}
+use Rattle.reader.proofs.Leaves.{word-inside, word-room, word-fits, word-built}
 use borrow.Author.Needs.{needs}
 use Rattle.reader.proofs.inner.leaves.put_word.Statement.{statement}
 use Rattle.reader.proofs.inner.leaves.put_word.Tie as tie
-use Rattle.reader.proofs.inner.records.put_bytes.Reads as put-bytes-reads
-use Rattle.reader.proofs.inner.records.put_text.Reads as put-text-reads
-use Rattle.structure.proofs.inner.tokens.end_at.Reads as end-at-reads
-use Rattle.structure.proofs.inner.tokens.start_at.Reads as start-at-reads
 
 start-at-requires : tie.Need-start-at-requires
 start-at-requires c κs = search needs

@@ -3,12 +3,9 @@ use lib.ListN.{length}
 use Prim.Native.Nat.{_-_}
 use native.Mathlib.Omega.{arith}
 use Rattle.structure.specs.Tokens.{toks}
-use Rattle.reader.proofs.Loops.{PostsInv, posts-start, post-past, post-over, posts-more, posts-done, posts-bad}
+use Rattle.reader.proofs.Loops.{PostsInv, posts-start, post-past, post-over, posts-more, posts-sound, posts-done}
 use Rattle.reader.proofs.inner.loops.put_postfixes.Statement.{statement}
 use Rattle.reader.proofs.inner.loops.put_postfixes.Tie as tie
-use Rattle.reader.proofs.inner.records.put_unary.Reads as put-unary-reads
-use Rattle.reader.proofs.inner.values.suffix_at.Reads as suffix-at-reads
-use Rattle.structure.proofs.inner.tokens.end_at.Reads as end-at-reads
 
 abbrev Inv-loop : tie.InvT-loop
 Inv-loop text kinds starts ends nodes₀ at used from to i₀ u₀ z₀ nodes i u z = PostsInv text nodes₀ at used from to nodes i u z
@@ -20,7 +17,9 @@ loop-holds : tie.Need-loop-holds Inv-loop μ-loop
 loop-holds c = posts-start _ _ _ _ _ _ (c .before .before .before .before .before .pre .1 .stop)
 
 suffix-at-requires : tie.Need-suffix-at-requires Inv-loop μ-loop
-suffix-at-requires c κs = c .before .before .before .before .before .before .pre .0
+suffix-at-requires c κs =
+    let start = c .before .before .before .before .before .before in
+    (start .pre .0, posts-sound _ _ _ _ _ _ (start .pre .0 .short) (start .pre .1) _ _ _ _ (c .loop .inv))
 
 enum-known-suffix : tie.Need-enum-known-suffix Inv-loop μ-loop
 enum-known-suffix c = search needs
@@ -50,16 +49,7 @@ same-length : tie.Need-same-length Inv-loop μ-loop
 same-length c = (c .before .before .before .loop .inv) .long
 
 returns : tie.Need-returns Inv-loop μ-loop
-returns c = posts-bad _ _ _ _ _ _ (c .before .before .before .before .before .before .before .before .before .pre .0 .short) (c .before .before .before .before .before .before .before .before .before .pre .1) _ _ _ _ (c .before .before .before .loop .inv) _ (c .before .before .suffix-at .ensures) (c .enum-told .given .1)
-
-enum-told-2 : tie.Need-enum-told-2 Inv-loop μ-loop
-enum-told-2 c = search needs
-
-same-length-2 : tie.Need-same-length-2 Inv-loop μ-loop
-same-length-2 c = (c .before .before .before .loop .inv) .long
-
-returns-2 : tie.Need-returns-2 Inv-loop μ-loop
-returns-2 c = posts-done _ _ _ _ _ _ (c .before .before .before .before .before .before .before .before .before .pre .0 .short) (c .before .before .before .before .before .before .before .before .before .pre .1) _ _ _ _ (c .before .before .before .loop .inv) _ (c .before .before .suffix-at .ensures) (c .enum-told2 .given .1)
+returns c = posts-done _ _ _ _ _ _ (c .before .before .before .before .before .before .before .before .before .pre .0 .short) (c .before .before .before .before .before .before .before .before .before .pre .1) _ _ _ _ (c .before .before .before .loop .inv) _ (c .before .before .suffix-at .ensures) (c .enum-told .given .1)
 
 pub put-postfixes-spec : {M : Type 1} → statement M
 put-postfixes-spec =
@@ -78,7 +68,4 @@ put-postfixes-spec =
     loop-again
     enum-told
     same-length
-    returns
-    enum-told-2
-    same-length-2
-    returns-2)
+    returns)

@@ -3,9 +3,6 @@ use native.Mathlib.Omega.{arith}
 use Rattle.reader.proofs.Loops.{SignsInv, signs-start, signs-over, signs-more, signs-done}
 use Rattle.reader.proofs.inner.loops.put_signs.Statement.{statement}
 use Rattle.reader.proofs.inner.loops.put_signs.Tie as tie
-use Rattle.reader.proofs.inner.loops.sign_at.Reads as sign-at-reads
-use Rattle.reader.proofs.inner.records.put_unary.Reads as put-unary-reads
-use Rattle.structure.proofs.inner.tokens.start_at.Reads as start-at-reads
 
 abbrev Inv-loop : tie.InvT-loop
 Inv-loop text kinds starts ends nodes₀ at last used z i₀ u₀ nodes i u = SignsInv text nodes₀ at last z used nodes i u

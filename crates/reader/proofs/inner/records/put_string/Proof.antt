@@ -1,10 +1,8 @@
-use native.Mathlib.Omega.{arith}
 use Rattle.structure.specs.Tokens.{part}
 use Rattle.reader.proofs.Leaves.{none-wrote}
 use borrow.Author.Needs.{needs}
 use Rattle.reader.proofs.inner.records.put_string.Statement.{statement}
 use Rattle.reader.proofs.inner.records.put_string.Tie as tie
-use Rattle.literal.proofs.inner.escapes.put_unescaped.Reads as put-unescaped-reads
 
 returns : tie.Need-returns
 returns c = none-wrote _ _ _ _ _ (c .if1 .taken)

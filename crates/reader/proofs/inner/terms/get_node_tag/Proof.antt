@@ -4,10 +4,6 @@ use Rattle.reader.proofs.Terms.{no-tag, tag-inside, plain-tag, tag-byte
 use borrow.Author.Needs.{needs}
 use Rattle.reader.proofs.inner.terms.get_node_tag.Statement.{statement}
 use Rattle.reader.proofs.inner.terms.get_node_tag.Tie as tie
-use Rattle.reader.proofs.inner.records.put_bytes.Reads as put-bytes-reads
-use Rattle.structure.proofs.inner.tokens.end_at.Reads as end-at-reads
-use Rattle.structure.proofs.inner.tokens.kind_at.Reads as kind-at-reads
-use Rattle.structure.proofs.inner.tokens.start_at.Reads as start-at-reads
 
 kind-at-requires : tie.Need-kind-at-requires
 kind-at-requires c κs = search needs

@@ -4,9 +4,6 @@ use Rattle.reader.proofs.Terms.{opened-yes, opened-no}
 use borrow.Author.Needs.{needs}
 use Rattle.reader.proofs.inner.terms.open_at.Statement.{statement}
 use Rattle.reader.proofs.inner.terms.open_at.Tie as tie
-use Rattle.reader.proofs.inner.records.move_start.Reads as move-start-reads
-use Rattle.structure.proofs.inner.tokens.kind_at.Reads as kind-at-reads
-use Rattle.structure.proofs.inner.tokens.start_at.Reads as start-at-reads
 
 kind-at-requires : tie.Need-kind-at-requires
 kind-at-requires c κs = search needs

@@ -3,9 +3,6 @@ use Rattle.reader.proofs.Terms.{tie-none, tie-plain, tag-fits, tie-tagg
 use borrow.Author.Needs.{needs}
 use Rattle.reader.proofs.inner.terms.put_tag.Statement.{statement}
 use Rattle.reader.proofs.inner.terms.put_tag.Tie as tie
-use Rattle.reader.proofs.inner.records.put_record.Reads as put-record-reads
-use Rattle.structure.proofs.inner.tokens.kind_at.Reads as kind-at-reads
-use Rattle.structure.proofs.inner.tokens.start_at.Reads as start-at-reads
 
 kind-at-requires : tie.Need-kind-at-requires
 kind-at-requires c κs = search needs

@@ -5,9 +5,6 @@ use Rattle.reader.proofs.Worths.{character-is, character-none}
 use borrow.Author.Needs.{needs}
 use Rattle.reader.proofs.inner.values.character_at.Statement.{statement}
 use Rattle.reader.proofs.inner.values.character_at.Tie as tie
-use Rattle.reader.proofs.inner.values.meant.Reads as meant-reads
-use Rattle.structure.proofs.inner.tokens.end_at.Reads as end-at-reads
-use Rattle.structure.proofs.inner.tokens.start_at.Reads as start-at-reads
 
 start-at-requires : tie.Need-start-at-requires
 start-at-requires c κs = search needs

@@ -2,8 +2,6 @@ use Rattle.reader.proofs.Worths.{meant-escape, meant-raw, meant-broken}
 use borrow.Author.Needs.{needs}
 use Rattle.reader.proofs.inner.values.meant.Statement.{statement}
 use Rattle.reader.proofs.inner.values.meant.Tie as tie
-use Rattle.literal.proofs.escape_at.Reads as escape-at-reads
-use Rattle.text.proofs.char_at.Reads as char-at-reads
 
 escape-at-requires : tie.Need-escape-at-requires
 escape-at-requires c κs = search needs
