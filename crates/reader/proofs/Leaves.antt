@@ -6,7 +6,6 @@ use mathlib.Core.List.{List, [], _∷_}
 use native.Mathlib.Omega.{arith}
 use lib.ListN.{length}
 use lib.Seq.{sets}
-use Rattle.text.specs.Scans.{spelled}
 use Rattle.text.specs.Splice.{Wrote}
 use Rattle.text.specs.Splice as Splice
 use Rattle.text.specs.declared.Check.the-variants as Check
@@ -31,14 +30,6 @@ use Rattle.reader.specs.Build.{written, most, Fits, Room, Built, wordLea
 use Rattle.reader.proofs.Patches.{spanned}
 use Rattle.reader.proofs.Lays.{leaf-laid}
 use Rattle.structure.proofs.Arrays.{low, spans, word-is, part-length}
-use Rattle.reader.proofs.Parts.{part-none}
-
--- no bytes lie between a place and one before it
-pub none-wrote : (s store : List ℕ) (a z free : ℕ) → z < a → Wrote store free (unescaped (part s a z)) store free
-unfolding unescaped spelled
-none-wrote s store a z free h =
-    let e : unescaped (part s a z) ≡ [] = ap unescaped (part-none s a z (omega arith)) in
-    record { now = sym (ap (sets store free) e); next = let n = ap length e in omega arith }
 
 -- what room for a leaf is
 pub record LeafRoom (table store : List ℕ) (used free n : ℕ) : Type 0 where
@@ -127,10 +118,10 @@ opening-small s i k e = e-small (is s i 24) k e
     e-small true n q = omega arith
     e-small false n q = omega arith
 
-module _ (s table store : List ℕ) (at next used free : ℕ) (sort : Sort) (short : length s ≤ 65536) (inside₀ : at < length (toks s)) (good : badEscape (inside s at) ≡ Check.Good)
+module _ (s table store : List ℕ) (at next used free : ℕ) (sort : Sort) (short : length s ≤ 65536) (long : start s at + opening s at < end s at) (good : badEscape (inside s at) ≡ Check.Good)
     (g : Room (got (leaf (across s at at) (text sort (string s at))) next) table store used free) (a z k : ℕ) (e₁ : a ≡ start s at) (e₂ : z ≡ end s at) (e₃ : k ≡ opening s at) where
-  pub string-inside : (1 ≤ z) × (z ≤ 65536) × (z - 1 ≤ length s) × (a ≤ 65536)
-  string-inside = let p = spans s at inside₀ in (omega arith, omega arith, omega arith, omega arith)
+  pub string-inside : (1 ≤ z) × (z ≤ 65536) × (z - 1 ≤ length s) × (a ≤ 65536) × (a + k ≤ z - 1)
+  string-inside = let p = low s at in (omega arith, omega arith, omega arith, omega arith, omega arith)
 
   string-part : part s (a + k) (z - 1) ≡ inside s at
   string-part =

@@ -25,7 +25,6 @@ use Rattle.structure.proofs.Steps.{choose-true, choose-false, sees, misses, wan
 use Rattle.reader.specs.declared.Suffix.{Suffix}
 use Rattle.reader.specs.declared.Suffix.the-variants as Suffix
 use Rattle.reader.specs.Build.{Sound, suffixOf}
-use Rattle.reader.proofs.Parts.{part-none}
 
 pub negated-is : (n : ℕ) → (n ≡ 0 → ⊥) → 4294967295 - (n - 1) ≡ negated n
 negated-is zero h = absurd (h refl)
@@ -79,10 +78,6 @@ module _ (s : List ℕ) (i a z : ℕ) (v : is s i 25 ≡ true) (e₁ : a ≡ sta
   pub character-is : (r : ℕ) → r ≡ charBy (escapeOf (take (z - 1 - (a + 1)) (drop (a + 1) s))) (take (z - 1 - (a + 1)) (drop (a + 1) s)) → r ≡ character s i
   unfolding character part
   character-is r q = q ∙ ap (λ (xs : List ℕ). charBy (escapeOf xs) xs) inside-is
-
-  pub character-none : z - 1 < a + 1 → 0 ≡ character s i
-  unfolding character escapeOf charOf
-  character-none h = sym (ap (λ (xs : List ℕ). charBy (escapeOf xs) xs) (sym inside-is ∙ part-none s (a + 1) (z - 1) (omega arith)))
 
 -- ---- postfixes
 

@@ -109,9 +109,6 @@ pub fn character_at(text: &[u8], kinds: &[u8], starts: &[u32], ends: &[u32], at:
 {
     let a = start_at(text, kinds, starts, ends, at) + 1;
     let z = end_at(text, kinds, starts, ends, at) - 1;
-    if z < a {
-        return 0;
-    }
     meant(&text[a..z])
 }
 

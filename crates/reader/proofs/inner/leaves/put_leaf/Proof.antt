@@ -1,3 +1,4 @@
+use Rattle.reader.proofs.Parts.{string-long, insens-long}
 use native.Mathlib.Omega.{arith}
 use mathlib.Core.Path.{sym, _∙_}
 use Rattle.structure.proofs.Arrays.{sizes}
@@ -32,7 +33,15 @@ add-put-literal-6 : tie.Need-add-put-literal-6
 add-put-literal-6 c = let w = push-read _ _ _ (c .before .before .before .before .before .before .before .before .before .before .before .pre .1 .1) (sym (c .before .before .before .spelled .ensures) ∙ c .before .before .if1 .taken) .1 in let n = sizes _ _ _ _ (c .before .before .before .before .before .before .before .before .before .before .before .pre .0) in omega arith
 
 put-literal-requires : tie.Need-put-literal-requires
-put-literal-requires c κs = ((c .before .before .before .before .before .before .before .before .before .before .before .pre .0), (push-read _ _ _ (c .before .before .before .before .before .before .before .before .before .before .before .pre .1 .1) (sym (c .before .before .before .spelled .ensures) ∙ c .before .before .if1 .taken) .1, ((c .before .before .before .before .before .before .before .before .before .before .before .pre .1 .0) .strings _ (push-read _ _ _ (c .before .before .before .before .before .before .before .before .before .before .before .pre .1 .1) (sym (c .before .before .before .spelled .ensures) ∙ c .before .before .if1 .taken) .0), room-same (push-read _ _ _ (c .before .before .before .before .before .before .before .before .before .before .before .pre .1 .1) (sym (c .before .before .before .spelled .ensures) ∙ c .before .before .if1 .taken) .2) (c .before .before .before .before .before .before .before .before .before .before .before .pre .1 .1))))
+put-literal-requires c κs =
+    let at-if1 = c .before .before in
+    let at-spelled = at-if1 .before in
+    let start = at-spelled .before .before .before .before .before .before .before .before in
+    let lent = start .pre .0 in
+    let room = start .pre .1 .1 in
+    let pushed = push-read _ _ _ room (sym (at-spelled .spelled .ensures) ∙ at-if1 .if1 .taken) in
+    let scalars = start .pre .1 .0 in
+    (lent, (string-long _ _ (pushed .0), (scalars .strings _ (pushed .0), room-same (pushed .2) room)))
 
 same-length : tie.Need-same-length
 same-length c = search needs
@@ -101,7 +110,24 @@ add-put-literal-7 : tie.Need-add-put-literal-7
 add-put-literal-7 c = let w = string-read _ _ _ (c .before .before .before .before .before .before .before .before .before .before .before .before .before .before .before .before .before .pre .1 .1) (sym (c .before .before .before .before .before .before .before .before .before .spelled .ensures) ∙ c .before .before .before .before .before .before .before .before .if1 .left) (sym (c .before .before .before .before .before .spelled2 .ensures) ∙ c .before .before .before .before .if2 .left) (misses _ _ _ 18 (c .before .before .before .before .before .before .before .kind-at .ensures) (c .before .before .before .if4 .left)) (sees _ _ _ 23 (c .before .before .before .before .before .before .before .kind-at .ensures) (c .before .before .if5 .taken)) .0 in let n = sizes _ _ _ _ (c .before .before .before .before .before .before .before .before .before .before .before .before .before .before .before .before .before .pre .0) in omega arith
 
 put-literal-requires-2 : tie.Need-put-literal-requires-2
-put-literal-requires-2 c κs = ((c .before .before .before .before .before .before .before .before .before .before .before .before .before .before .before .before .before .pre .0), (string-read _ _ _ (c .before .before .before .before .before .before .before .before .before .before .before .before .before .before .before .before .before .pre .1 .1) (sym (c .before .before .before .before .before .before .before .before .before .spelled .ensures) ∙ c .before .before .before .before .before .before .before .before .if1 .left) (sym (c .before .before .before .before .before .spelled2 .ensures) ∙ c .before .before .before .before .if2 .left) (misses _ _ _ 18 (c .before .before .before .before .before .before .before .kind-at .ensures) (c .before .before .before .if4 .left)) (sees _ _ _ 23 (c .before .before .before .before .before .before .before .kind-at .ensures) (c .before .before .if5 .taken)) .0, ((c .before .before .before .before .before .before .before .before .before .before .before .before .before .before .before .before .before .pre .1 .0) .strings _ (sees _ _ _ 23 (c .before .before .before .before .before .before .before .kind-at .ensures) (c .before .before .if5 .taken)), room-same (string-read _ _ _ (c .before .before .before .before .before .before .before .before .before .before .before .before .before .before .before .before .before .pre .1 .1) (sym (c .before .before .before .before .before .before .before .before .before .spelled .ensures) ∙ c .before .before .before .before .before .before .before .before .if1 .left) (sym (c .before .before .before .before .before .spelled2 .ensures) ∙ c .before .before .before .before .if2 .left) (misses _ _ _ 18 (c .before .before .before .before .before .before .before .kind-at .ensures) (c .before .before .before .if4 .left)) (sees _ _ _ 23 (c .before .before .before .before .before .before .before .kind-at .ensures) (c .before .before .if5 .taken)) .1) (c .before .before .before .before .before .before .before .before .before .before .before .before .before .before .before .before .before .pre .1 .1))))
+put-literal-requires-2 c κs =
+    let at-if5 = c .before .before in
+    let at-if4 = at-if5 .before in
+    let at-if2 = at-if4 .before in
+    let at-spelled2 = at-if2 .before in
+    let at-kind-at = at-spelled2 .before .before in
+    let at-if1 = at-kind-at .before in
+    let at-spelled = at-if1 .before in
+    let start = at-spelled .before .before .before .before .before .before .before .before in
+    let lent = start .pre .0 in
+    let quoted = sees _ _ _ 23 (at-kind-at .kind-at .ensures) (at-if5 .if5 .taken) in
+    let scalars = start .pre .1 .0 in
+    let room = start .pre .1 .1 in
+    let not-push = sym (at-spelled .spelled .ensures) ∙ at-if1 .if1 .left in
+    let not-peek = sym (at-spelled2 .spelled2 .ensures) ∙ at-if2 .if2 .left in
+    let not-word = misses _ _ _ 18 (at-kind-at .kind-at .ensures) (at-if4 .if4 .left) in
+    let string = string-read _ _ _ room not-push not-peek not-word quoted in
+    (lent, (string-long _ _ quoted, (scalars .strings _ quoted, room-same (string .1) room)))
 
 same-length-9 : tie.Need-same-length-9
 same-length-9 c = search needs
@@ -116,7 +142,26 @@ add-put-literal-8 : tie.Need-add-put-literal-8
 add-put-literal-8 c = let w = insens-read _ _ _ (c .before .before .before .before .before .before .before .before .before .before .before .before .before .before .before .before .before .before .pre .1 .1) (sym (c .before .before .before .before .before .before .before .before .before .before .spelled .ensures) ∙ c .before .before .before .before .before .before .before .before .before .if1 .left) (sym (c .before .before .before .before .before .before .spelled2 .ensures) ∙ c .before .before .before .before .before .if2 .left) (misses _ _ _ 18 (c .before .before .before .before .before .before .before .before .kind-at .ensures) (c .before .before .before .before .if4 .left)) (misses _ _ _ 23 (c .before .before .before .before .before .before .before .before .kind-at .ensures) (c .before .before .before .if5 .left)) (sees _ _ _ 24 (c .before .before .before .before .before .before .before .before .kind-at .ensures) (c .before .before .if6 .taken)) .0 in let n = sizes _ _ _ _ (c .before .before .before .before .before .before .before .before .before .before .before .before .before .before .before .before .before .before .pre .0) in omega arith
 
 put-literal-requires-3 : tie.Need-put-literal-requires-3
-put-literal-requires-3 c κs = ((c .before .before .before .before .before .before .before .before .before .before .before .before .before .before .before .before .before .before .pre .0), (insens-read _ _ _ (c .before .before .before .before .before .before .before .before .before .before .before .before .before .before .before .before .before .before .pre .1 .1) (sym (c .before .before .before .before .before .before .before .before .before .before .spelled .ensures) ∙ c .before .before .before .before .before .before .before .before .before .if1 .left) (sym (c .before .before .before .before .before .before .spelled2 .ensures) ∙ c .before .before .before .before .before .if2 .left) (misses _ _ _ 18 (c .before .before .before .before .before .before .before .before .kind-at .ensures) (c .before .before .before .before .if4 .left)) (misses _ _ _ 23 (c .before .before .before .before .before .before .before .before .kind-at .ensures) (c .before .before .before .if5 .left)) (sees _ _ _ 24 (c .before .before .before .before .before .before .before .before .kind-at .ensures) (c .before .before .if6 .taken)) .0, ((c .before .before .before .before .before .before .before .before .before .before .before .before .before .before .before .before .before .before .pre .1 .0) .insens _ (sees _ _ _ 24 (c .before .before .before .before .before .before .before .before .kind-at .ensures) (c .before .before .if6 .taken)), room-same (insens-read _ _ _ (c .before .before .before .before .before .before .before .before .before .before .before .before .before .before .before .before .before .before .pre .1 .1) (sym (c .before .before .before .before .before .before .before .before .before .before .spelled .ensures) ∙ c .before .before .before .before .before .before .before .before .before .if1 .left) (sym (c .before .before .before .before .before .before .spelled2 .ensures) ∙ c .before .before .before .before .before .if2 .left) (misses _ _ _ 18 (c .before .before .before .before .before .before .before .before .kind-at .ensures) (c .before .before .before .before .if4 .left)) (misses _ _ _ 23 (c .before .before .before .before .before .before .before .before .kind-at .ensures) (c .before .before .before .if5 .left)) (sees _ _ _ 24 (c .before .before .before .before .before .before .before .before .kind-at .ensures) (c .before .before .if6 .taken)) .1) (c .before .before .before .before .before .before .before .before .before .before .before .before .before .before .before .before .before .before .pre .1 .1))))
+put-literal-requires-3 c κs =
+    let at-if6 = c .before .before in
+    let at-if5 = at-if6 .before in
+    let at-if4 = at-if5 .before in
+    let at-if2 = at-if4 .before in
+    let at-spelled2 = at-if2 .before in
+    let at-kind-at = at-spelled2 .before .before in
+    let at-if1 = at-kind-at .before in
+    let at-spelled = at-if1 .before in
+    let start = at-spelled .before .before .before .before .before .before .before .before in
+    let lent = start .pre .0 in
+    let insens = sees _ _ _ 24 (at-kind-at .kind-at .ensures) (at-if6 .if6 .taken) in
+    let scalars = start .pre .1 .0 in
+    let room = start .pre .1 .1 in
+    let not-push = sym (at-spelled .spelled .ensures) ∙ at-if1 .if1 .left in
+    let not-peek = sym (at-spelled2 .spelled2 .ensures) ∙ at-if2 .if2 .left in
+    let not-word = misses _ _ _ 18 (at-kind-at .kind-at .ensures) (at-if4 .if4 .left) in
+    let not-quoted = misses _ _ _ 23 (at-kind-at .kind-at .ensures) (at-if5 .if5 .left) in
+    let other = insens-read _ _ _ room not-push not-peek not-word not-quoted insens in
+    (lent, (insens-long _ _ insens, (scalars .insens _ insens, room-same (other .1) room)))
 
 same-length-11 : tie.Need-same-length-11
 same-length-11 c = search needs

@@ -20,7 +20,13 @@ sub-put-string : tie.Need-sub-put-string
 sub-put-string c = let p = string-inside _ _ _ _ _ _ _ _ (c .before .before .before .before .before .before .before .before .before .before .pre .0 .short) (c .before .before .before .before .before .before .before .before .before .before .pre .1 .0) (c .before .before .before .before .before .before .before .before .before .before .pre .1 .1 .0) (c .before .before .before .before .before .before .before .before .before .before .pre .1 .1 .1) _ _ _ (c .before .before .before .start-at .ensures) (c .before .before .end-at .ensures) (c .before .opening-of .ensures) in omega arith
 
 put-string-requires : tie.Need-put-string-requires
-put-string-requires c κs = (string-inside _ _ _ _ _ _ _ _ (c .before .before .before .before .before .before .before .before .before .before .pre .0 .short) (c .before .before .before .before .before .before .before .before .before .before .pre .1 .0) (c .before .before .before .before .before .before .before .before .before .before .pre .1 .1 .0) (c .before .before .before .before .before .before .before .before .before .before .pre .1 .1 .1) _ _ _ (c .before .before .before .start-at .ensures) (c .before .before .end-at .ensures) (c .before .opening-of .ensures) .2, (string-good _ _ _ _ _ _ _ _ (c .before .before .before .before .before .before .before .before .before .before .pre .0 .short) (c .before .before .before .before .before .before .before .before .before .before .pre .1 .0) (c .before .before .before .before .before .before .before .before .before .before .pre .1 .1 .0) (c .before .before .before .before .before .before .before .before .before .before .pre .1 .1 .1) _ _ _ (c .before .before .before .start-at .ensures) (c .before .before .end-at .ensures) (c .before .opening-of .ensures), string-room _ _ _ _ _ _ _ _ (c .before .before .before .before .before .before .before .before .before .before .pre .0 .short) (c .before .before .before .before .before .before .before .before .before .before .pre .1 .0) (c .before .before .before .before .before .before .before .before .before .before .pre .1 .1 .0) (c .before .before .before .before .before .before .before .before .before .before .pre .1 .1 .1) _ _ _ (c .before .before .before .start-at .ensures) (c .before .before .end-at .ensures) (c .before .opening-of .ensures)))
+put-string-requires c κs =
+    let at-opening-of = c .before in
+    let at-end-at = at-opening-of .before in
+    let at-start-at = at-end-at .before in
+    let start = at-start-at .before .before .before .before .before .before .before in
+    let quotes = string-inside _ _ _ _ _ _ _ _ (start .pre .0 .short) (start .pre .1 .0) (start .pre .1 .1 .0) (start .pre .1 .1 .1) _ _ _ (at-start-at .start-at .ensures) (at-end-at .end-at .ensures) (at-opening-of .opening-of .ensures) in
+    ((quotes .4, quotes .2), (string-good _ _ _ _ _ _ _ _ (start .pre .0 .short) (start .pre .1 .0) (start .pre .1 .1 .0) (start .pre .1 .1 .1) _ _ _ (at-start-at .start-at .ensures) (at-end-at .end-at .ensures) (at-opening-of .opening-of .ensures), string-room _ _ _ _ _ _ _ _ (start .pre .0 .short) (start .pre .1 .0) (start .pre .1 .1 .0) (start .pre .1 .1 .1) _ _ _ (at-start-at .start-at .ensures) (at-end-at .end-at .ensures) (at-opening-of .opening-of .ensures)))
 
 sub-put-text : tie.Need-sub-put-text
 sub-put-text c = string-fits _ _ _ _ _ _ _ _ (c .before .before .before .before .before .before .before .before .before .before .before .before .before .before .pre .0 .short) (c .before .before .before .before .before .before .before .before .before .before .before .before .before .before .pre .1 .0) (c .before .before .before .before .before .before .before .before .before .before .before .before .before .before .pre .1 .1 .0) (c .before .before .before .before .before .before .before .before .before .before .before .before .before .before .pre .1 .1 .1) _ _ _ (c .before .before .before .before .before .before .before .start-at .ensures) (c .before .before .before .before .before .before .end-at .ensures) (c .before .before .before .before .before .opening-of .ensures) _ _ (c .before .before .before .put-string .ensures) .0
