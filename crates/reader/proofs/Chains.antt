@@ -134,6 +134,10 @@ bar-held t r table store used free tbl st tbl₁ st₁ u f h e₁ e₂ d =
       };
     }
 
+chosen-more : (c : Bool) (n : ℕ) → n ≤ chosenEnd c n
+chosen-more true n = omega arith
+chosen-more false n = omega arith
+
 -- ---- the loop
 
 pub record BuildInv (level : Level) (s : List ℕ) (o at used free : ℕ) (table store : List ℕ) (i u f a b z : ℕ) (chosen : Bool) (left : ℕ) (tbl st : List ℕ) : Type 0 where
@@ -217,10 +221,6 @@ module _ (level : Level) (s : List ℕ) (o at used free : ℕ) (table store : Li
         let h₂ = g .few in
         let m = chosen-more chosen u in
         record { room = omega arith; few = omega arith; child = v .low; from = v .short .0; to = v .short .2; after = omega arith }
-      where
-        chosen-more : (c : Bool) (n : ℕ) → n ≤ chosenEnd c n
-        chosen-more true n = omega arith
-        chosen-more false n = omega arith
 
     module _ (u′ : ℕ) (tbl′ : List ℕ) (q₁ : u′ ≡ chosenEnd chosen u) (q₂ : tbl′ ≡ written tbl u (chosenOf chosen left u a z)) where
       whole-laid : Laid whole table store used free tbl′ st
@@ -324,12 +324,8 @@ module _ (level : Level) (s : List ℕ) (o at used free : ℕ) (table store : Li
           let c₂ = size-closed (v .c) (v .l) t in
           let x = closed-count (v .c) (v .l) chosen left used u (v .marked) (v .used-is) in
           let y = closed-size (v .c) (v .l) free f (v .free-is) in
-          let w = chosen-up chosen u in
+          let w = chosen-more chosen u in
           (t, n, e₁, omega arith, omega arith)
-        where
-          chosen-up : (c : Bool) (n : ℕ) → n ≤ chosenEnd c n
-          chosen-up true n = omega arith
-          chosen-up false n = omega arith
 
       pub seq-room : Room (Run level s (term o (i + 1))) tbl st u f
       seq-room =

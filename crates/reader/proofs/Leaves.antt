@@ -111,13 +111,6 @@ module _ (s table store : List ℕ) (at used free : ℕ) (short : length s ≤ 6
 
 -- ---- a string, of any sort
 
-pub opening-small : (s : List ℕ) (i k : ℕ) → k ≡ opening s i → k ≤ 2
-opening-small s i k e = e-small (is s i 24) k e
-  where
-    e-small : (b : Bool) (n : ℕ) → n ≡ choose b (λ u. 2) (λ u. 1) → n ≤ 2
-    e-small true n q = omega arith
-    e-small false n q = omega arith
-
 module _ (s table store : List ℕ) (at next used free : ℕ) (sort : Sort) (short : length s ≤ 65536) (long : start s at + opening s at < end s at) (good : badEscape (inside s at) ≡ Check.Good)
     (g : Room (got (leaf (across s at at) (text sort (string s at))) next) table store used free) (a z k : ℕ) (e₁ : a ≡ start s at) (e₂ : z ≡ end s at) (e₃ : k ≡ opening s at) where
   pub string-inside : (1 ≤ z) × (z ≤ 65536) × (z - 1 ≤ length s) × (a ≤ 65536) × (a + k ≤ z - 1)

@@ -20,6 +20,7 @@ use Rattle.structure.specs.Answers.{signOf, signs}
 use Rattle.structure.specs.Structure.{got, before, after, posts, Run, Postfix, post, notPost, noPost, postfixAt, postsBy}
 use Rattle.structure.proofs.Steps.{sees, misses, no-tree}
 use Rattle.structure.proofs.Fuel.{went, postfix-past}
+use Rattle.structure.proofs.Checks.{grown-signs}
 use Rattle.structure.proofs.Grammar.{posts-law}
 use Rattle.reader.specs.declared.Suffix.{Suffix}
 use Rattle.reader.specs.declared.Suffix.the-variants as Suffix
@@ -46,11 +47,6 @@ pub stop-signs : (s : List ℕ) (at k : ℕ) (t : Tree Span) → placeOf (signs 
 unfolding signs before
 stop-signs s at zero t = refl
 stop-signs s at (suc k) t = stop-signs s (at + 1) k t
-
-pub count-signs : (s : List ℕ) (at k : ℕ) (t : Tree Span) → count (signs s at k t) ≡ k + count t
-unfolding signs before below
-count-signs s at zero t = omega arith
-count-signs s at (suc k) t = let e = count-signs s (at + 1) k t in omega arith
 
 abbrev pub SignsInv : List ℕ → List ℕ → ℕ → ℕ → ℕ → ℕ → List ℕ → ℕ → ℕ → Type 0
 SignsInv s table at last z used tbl i u = (at ≤ i) × (i ≤ last) × (u ≡ used + (last - i)) × SignsPut s i last z used table tbl
@@ -96,7 +92,7 @@ module _ (s table : List ℕ) (at last z used : ℕ) (short : length s ≤ 65536
           long = ap length q ∙ length-written tbl u (recordOf (spanned a z) (One (Plain p) (u - 1))) ∙ v .3 .long;
           same = λ o t f free e k b.
               let t′ = signs s i (last - i) t in
-              let c = count-signs s i (last - i) t in
+              let c = grown-signs s i (last - i) t .counts in
               let d = stop-signs s i (last - i) t in
               let r : tbl′ ≡ written tbl u (recordOf (spanned (start s (i - 1)) (placeOf t′ .stop)) (One (Plain (signOf s (i - 1))) (u - 1))) =
               q ∙ ap (λ (j : ℕ). written tbl u (recordOf (spanned j z) (One (Plain p) (u - 1)))) e₁

@@ -20,7 +20,6 @@ use Rattle.structure.specs.Tokens.{toks, start, end, is, spells}
 use Rattle.structure.specs.Structure.{got, refused, next, want, limit, endsAt, before, expr, node, Run, leafAt}
 use Rattle.structure.proofs.Steps.{choose-true, choose-false, inside-is, next-got, next-good, want-true, want-got, opened-got, opened-false}
 use Rattle.structure.proofs.Sizes.{stored-placed, grown-ends, grown-before}
-use Rattle.structure.proofs.Arrays.{low}
 use Rattle.structure.proofs.Grammar.{node-law}
 use Rattle.reader.specs.declared.Placed.{Placed}
 use Rattle.reader.specs.Build.{written, most, Room, Built, Over, EndMoved}
@@ -31,12 +30,6 @@ pub place-placed : (p : Span) (t : Tree Span) → placeOf (placed p t) ≡ p
 place-placed p (leaf _ a) = refl
 place-placed p (one _ o t) = refl
 place-placed p (two _ j a b) = refl
-
-pub start-low : (s : List ℕ) (i a : ℕ) → length s ≤ 65536 → a ≡ start s i → a ≤ most
-start-low s i a h e = let l = low s i in omega arith
-
-pub end-low : (s : List ℕ) (i z : ℕ) → length s ≤ 65536 → z ≡ end s i → z ≤ most
-end-low s i z h e = let l = low s i in omega arith
 
 module _ (level : Level) (s : List ℕ) (o at used free : ℕ) (table store : List ℕ) (g : Room (Run level s (node o at)) table store used free) where
   -- ---- `(` expression `)`

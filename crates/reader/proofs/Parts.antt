@@ -12,6 +12,8 @@ use Rattle.token.proofs.Lists.{inside-at}
 use Rattle.structure.specs.Tokens.{toks, tokenOf, kind, start, end, is, part, label}
 use Rattle.structure.specs.Values.{opening}
 use Rattle.structure.proofs.Steps.{inside-is}
+use Rattle.structure.proofs.Arrays.{low}
+use Rattle.reader.specs.Build.{most}
 
 pub label-is : (s : List ℕ) (i a z : ℕ) → a ≡ start s i + 1 → z ≡ end s i → part s a z ≡ label s i
 unfolding label
@@ -56,3 +58,11 @@ module _ (s : List ℕ) (i : ℕ) where
       let l = long-at s i (inside-is s i 25 (omega arith) v) in
       let n : least (kind s i) ≡ 3 = ap least (is-kind s i 25 v) in
       omega arith
+
+-- ---- places fit 32 bits
+
+pub start-low : (s : List ℕ) (i a : ℕ) → length s ≤ 65536 → a ≡ start s i → a ≤ most
+start-low s i a h e = let l = low s i in omega arith
+
+pub end-low : (s : List ℕ) (i z : ℕ) → length s ≤ 65536 → z ≡ end s i → z ≤ most
+end-low s i z h e = let l = low s i in omega arith

@@ -26,7 +26,7 @@ use Rattle.structure.proofs.Grammar.{term-law}
 use Rattle.reader.specs.declared.Placed.{Placed}
 use Rattle.reader.specs.Build.{written, most, Fits, Room, Built, StartMoved, Opened, bracketed, labelled, tagText, pastTag, headAt, TagRoom, Tied, tagCount}
 use Rattle.structure.proofs.Arrays.{low, spans}
-use Rattle.reader.proofs.Parts.{label-is}
+use Rattle.reader.proofs.Parts.{label-is, start-low}
 use Rattle.reader.proofs.Patches.{spanned, length-written}
 use Rattle.reader.proofs.Lays.{tag-laid}
 
@@ -168,9 +168,6 @@ module _ (s : List ℕ) (at free mid : ℕ) (p : Placed) (table : List ℕ) (x :
         }
 
     module _ (short : length s ≤ 65536) (a : ℕ) (e₁ : a ≡ start s at) where
-      low-start : a ≤ most
-      low-start = let l = low s at in omega arith
-
       pub tag-fits : {level : Level} → level ≡ Level.Tagged → TagRoom level s table at free mid p → Fits table (p .used) a (p .to) (p .used - 1) free (mid - free) × (p .used < most)
       tag-fits {level} v g =
           let n : tagCount level s at ≡ 1 = choose-true (is s at 19) _ _ tagged-at ∙ ap (λ (l : Level). tagNodes l) v in
@@ -178,7 +175,7 @@ module _ (s : List ℕ) (at free mid : ℕ) (p : Placed) (table : List ℕ) (x :
           let h₂ = g .few in
           let h₃ = g .past in
           let h₄ = g .low in
-          (record { room = omega arith; from = low-start; to = g .to; first = omega arith; second = omega arith; third = omega arith }, omega arith)
+          (record { room = omega arith; from = start-low s at a short e₁; to = g .to; first = omega arith; second = omega arith; third = omega arith }, omega arith)
 
       pub tie-tagged : {level : Level} → level ≡ Level.Tagged → (table′ : List ℕ) → table′ ≡ written table (p .used) (19 ∷ a ∷ p .to ∷ (p .used - 1) ∷ free ∷ (mid - free) ∷ [])
           → Tied level s at free mid p table (record { next = p .next; used = p .used + 1; free = p .free; from = a; to = p .to }) table′
@@ -204,7 +201,7 @@ module _ (s : List ℕ) (at free mid : ℕ) (p : Placed) (table : List ℕ) (x :
                   free-is = omega arith;
                   from-is = e₁;
                   to-is = d .to-is;
-                  short = (low-start, d .short .1);
+                  short = (start-low s at a short e₁, d .short .1);
                   laid = tag-laid o store used free t store₁ table st table′ (spanned (start s at) (placeOf t .stop)) b mid (p .used) (p .used - 1) (mid - free)
                       (w .now ∙ ap (sets store free) n) (omega arith) (d .laid) (d .used-is) (omega arith) (omega arith)
                       (q ∙ ap (λ (j : ℕ). written table (p .used) (recordOf (spanned j (p .to)) (One (NodeTag free (mid - free)) (p .used - 1)))) e₁

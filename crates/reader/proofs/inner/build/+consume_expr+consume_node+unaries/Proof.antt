@@ -1,5 +1,6 @@
 use Rattle.reader.proofs.Finishes.{built-long, tag-room, node-falls, node-room, posts-room, open-room, signs-room, tie-room, term-built}
-use Rattle.reader.proofs.Nodes.{start-low, end-low, group-in, group-deep, group-room, group-last, group-built, push-in, push-room, push-over, push-built, leaf-read}
+use Rattle.reader.proofs.Parts.{start-low, end-low}
+use Rattle.reader.proofs.Nodes.{group-in, group-deep, group-room, group-last, group-built, push-in, push-room, push-over, push-built, leaf-read}
 use Rattle.reader.proofs.Chains.{LoopInv, first-room, build-start, choice-room, build-done, bar-inside, bar-room, bar-more, seq-inside, seq-room, seq-over, seq-more}
 use Rattle.reader.proofs.Leaves.{room-same, built-same}
 use Rattle.structure.proofs.Steps.{sees, misses}

@@ -1,5 +1,5 @@
 use native.Mathlib.Omega.{arith}
-use Rattle.reader.proofs.Leaves.{string-inside, string-good, string-room, string-fits, string-few, string-built, opening-small}
+use Rattle.reader.proofs.Leaves.{string-inside, string-good, string-room, string-fits, string-few, string-built}
 use borrow.Author.Needs.{needs}
 use Rattle.reader.proofs.inner.leaves.put_literal.Statement.{statement}
 use Rattle.reader.proofs.inner.leaves.put_literal.Tie as tie
@@ -14,7 +14,13 @@ opening-of-requires : tie.Need-opening-of-requires
 opening-of-requires c κs = search needs
 
 add-put-string : tie.Need-add-put-string
-add-put-string c = let p = string-inside _ _ _ _ _ _ _ _ (c .before .before .before .before .before .before .before .before .before .before .pre .0 .short) (c .before .before .before .before .before .before .before .before .before .before .pre .1 .0) (c .before .before .before .before .before .before .before .before .before .before .pre .1 .1 .0) (c .before .before .before .before .before .before .before .before .before .before .pre .1 .1 .1) _ _ _ (c .before .before .before .start-at .ensures) (c .before .before .end-at .ensures) (c .before .opening-of .ensures) in let q = opening-small _ _ _ (c .before .opening-of .ensures) in omega arith
+add-put-string c =
+    let at-opening-of = c .before in
+    let at-end-at = at-opening-of .before in
+    let at-start-at = at-end-at .before in
+    let start = at-start-at .before .before .before .before .before .before .before in
+    let quotes = string-inside _ _ _ _ _ _ _ _ (start .pre .0 .short) (start .pre .1 .0) (start .pre .1 .1 .0) (start .pre .1 .1 .1) _ _ _ (at-start-at .start-at .ensures) (at-end-at .end-at .ensures) (at-opening-of .opening-of .ensures) in
+    omega (arith, quotes)
 
 sub-put-string : tie.Need-sub-put-string
 sub-put-string c = let p = string-inside _ _ _ _ _ _ _ _ (c .before .before .before .before .before .before .before .before .before .before .pre .0 .short) (c .before .before .before .before .before .before .before .before .before .before .pre .1 .0) (c .before .before .before .before .before .before .before .before .before .before .pre .1 .1 .0) (c .before .before .before .before .before .before .before .before .before .before .pre .1 .1 .1) _ _ _ (c .before .before .before .start-at .ensures) (c .before .before .end-at .ensures) (c .before .opening-of .ensures) in omega arith
