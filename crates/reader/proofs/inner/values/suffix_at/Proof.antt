@@ -43,7 +43,12 @@ returns-3 : tie.Need-returns-3
 returns-3 c = suffix-once _ _ _ (c .before .before .before .kind-at .ensures) (c .before .before .if1 .left) (c .before .if2 .left) (c .if3 .taken)
 
 returns-4 : tie.Need-returns-4
-returns-4 c = suffix-none _ _ _ (c .before .before .before .before .kind-at .ensures) (c .before .before .before .if1 .left) (c .before .before .if2 .left) (c .before .if3 .left) (c .if4 .taken)
+returns-4 c =
+    let at-if3 = c .before in
+    let at-if2 = at-if3 .before in
+    let at-if1 = at-if2 .before in
+    let at-kind-at = at-if1 .before in
+    suffix-none _ _ _ (at-kind-at .kind-at .ensures) (at-if1 .if1 .left) (at-if2 .if2 .left) (at-if3 .if3 .left) (c .if4 .taken)
 
 add-i : tie.Need-add-i
 add-i c =
