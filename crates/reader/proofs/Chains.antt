@@ -1,28 +1,26 @@
 -- The steps of an expression's loop: the choices so far and the last sequence, in the buffers.
-use Prim.Native.Nat.{ℕ, zero, suc, _+_, _-_, _*_, _≤_, _<_}
+use Prim.Native.Nat.{ℕ, _+_, _-_, _≤_, _<_}
 use mathlib.Core.Path.{_≡_, refl, sym, ap, _∙_}
 use mathlib.Core.Bool.{Bool, true, false}
-use mathlib.Core.List.{List, [], _∷_, _++_}
+use mathlib.Core.List.{List}
 use mathlib.Core.Option.{Option, none, some}
 use native.Mathlib.Omega.{arith}
 use lib.ListN.{length}
 use lib.Seq.{sets}
-use Rattle.table.specs.declared.Join.{Join}
 use Rattle.table.specs.declared.Join.the-variants.{Seq, Choice}
 use Rattle.table.specs.declared.Node.the-variants.{Two}
 use Rattle.table.specs.Tree.{Span, Tree, below, count, size, stored, placeOf}
-use Rattle.table.specs.Record.{nodeSize}
 use Rattle.table.specs.Flat.{recordOf, flat}
 use Rattle.structure.specs.declared.Level.{Level}
 use Rattle.structure.specs.Tokens.{toks, is}
-use Rattle.structure.specs.Structure.{Parsed, got, next, join, closed, expr, term, chain, Run}
+use Rattle.structure.specs.Structure.{got, next, join, closed, expr, term, chain, Run}
 use Rattle.structure.proofs.Steps.{choose-true, choose-false, inside-is, next-got, next-good}
 use Rattle.structure.proofs.Sizes.{count-join, size-join, count-closed, size-closed, count-more, size-more}
-use Rattle.structure.proofs.Fuel.{Went, went}
+use Rattle.structure.proofs.Fuel.{went}
 use Rattle.structure.proofs.Grammar.{expr-law, chain-law}
 use Rattle.reader.specs.declared.Placed.{Placed}
 use Rattle.reader.specs.Build.{written, most, Room, Laid, Built, Over, chosenEnd, chosenOf, ChoiceRoom}
-use Rattle.reader.proofs.Patches.{spanned, length-written}
+use Rattle.reader.proofs.Patches.{spanned}
 use Rattle.reader.proofs.Lays.{laid-long, two-laid}
 
 -- ---- in the buffers
@@ -136,6 +134,10 @@ bar-held t r table store used free tbl st tbl₁ st₁ u f h e₁ e₂ d =
       };
     }
 
+chosen-more : (c : Bool) (n : ℕ) → n ≤ chosenEnd c n
+chosen-more true n = omega arith
+chosen-more false n = omega arith
+
 -- ---- the loop
 
 pub record BuildInv (level : Level) (s : List ℕ) (o at used free : ℕ) (table store : List ℕ) (i u f a b z : ℕ) (chosen : Bool) (left : ℕ) (tbl st : List ℕ) : Type 0 where
@@ -219,10 +221,6 @@ module _ (level : Level) (s : List ℕ) (o at used free : ℕ) (table store : Li
         let h₂ = g .few in
         let m = chosen-more chosen u in
         record { room = omega arith; few = omega arith; child = v .low; from = v .short .0; to = v .short .2; after = omega arith }
-      where
-        chosen-more : (c : Bool) (n : ℕ) → n ≤ chosenEnd c n
-        chosen-more true n = omega arith
-        chosen-more false n = omega arith
 
     module _ (u′ : ℕ) (tbl′ : List ℕ) (q₁ : u′ ≡ chosenEnd chosen u) (q₂ : tbl′ ≡ written tbl u (chosenOf chosen left u a z)) where
       whole-laid : Laid whole table store used free tbl′ st
@@ -326,12 +324,8 @@ module _ (level : Level) (s : List ℕ) (o at used free : ℕ) (table store : Li
           let c₂ = size-closed (v .c) (v .l) t in
           let x = closed-count (v .c) (v .l) chosen left used u (v .marked) (v .used-is) in
           let y = closed-size (v .c) (v .l) free f (v .free-is) in
-          let w = chosen-up chosen u in
+          let w = chosen-more chosen u in
           (t, n, e₁, omega arith, omega arith)
-        where
-          chosen-up : (c : Bool) (n : ℕ) → n ≤ chosenEnd c n
-          chosen-up true n = omega arith
-          chosen-up false n = omega arith
 
       pub seq-room : Room (Run level s (term o (i + 1))) tbl st u f
       seq-room =

@@ -2,7 +2,7 @@
 use Prim.Native.Nat.{ℕ, zero, suc, _+_, _-_, _*_, _≤_, _<_}
 use mathlib.Core.Path.{_≡_, refl, sym, ap, _∙_, subst}
 use mathlib.Core.Bool.{Bool, true, false}
-use mathlib.Core.List.{List, [], _∷_, _++_}
+use mathlib.Core.List.{List}
 use native.Mathlib.Omega.{arith}
 use native.Mathlib.Decide.{decLt}
 use lib.Dec.{ltb}
@@ -13,15 +13,14 @@ use Rattle.text.specs.Choice.{choose}
 use Rattle.text.specs.Splice.{Wrote}
 use Rattle.text.specs.Splice as Splice
 use Rattle.text.proofs.Splices.{wrote-length}
-use Rattle.table.specs.Tree.{Span, Tree, below, count, size, stored, placeOf}
+use Rattle.table.specs.Tree.{Span, Tree, count, size, stored, placeOf}
 use Rattle.table.specs.Record.{nodeSize}
-use Rattle.table.specs.Flat.{flat}
 use Rattle.structure.specs.declared.Level.{Level}
 use Rattle.structure.specs.declared.Level.the-variants as Level
 use Rattle.structure.specs.declared.Opening.the-variants.{From}
-use Rattle.structure.specs.Tokens.{toks, start, is, label}
+use Rattle.structure.specs.Tokens.{start, is, label}
 use Rattle.structure.specs.Answers.{Lent, unread, openingOf, tagNodes, tagBytes, signs, Signed}
-use Rattle.structure.specs.Structure.{Parsed, got, refused, next, startsAt, before, term, signed, node, posts, Run}
+use Rattle.structure.specs.Structure.{Parsed, got, next, startsAt, before, term, signed, node, posts, Run}
 use Rattle.structure.proofs.Steps.{choose-true, choose-false, next-got, next-good, next-assoc, next-fun, next-on, want-got}
 use Rattle.structure.proofs.Sizes.{Grown, grown-none, grown-starts, stored-placed}
 use Rattle.structure.proofs.Fuel.{went}
@@ -31,11 +30,11 @@ use Rattle.structure.proofs.Checks as Checks
 use Rattle.structure.proofs.Cycle.{falls-term}
 use Rattle.reader.specs.declared.Placed.{Placed}
 use Rattle.reader.specs.declared.Trailed.{Trailed}
-use Rattle.reader.specs.Build.{written, most, Room, Laid, Built, SignsRoom, SignsPut, PostsRoom, PostsPut, Trails, labelled, tagText, pastTag, bracketed, Opened, headAt, tagCount, TagRoom, Tied}
+use Rattle.reader.specs.Build.{most, Room, Built, SignsRoom, SignsPut, PostsRoom, PostsPut, Trails, labelled, tagText, pastTag, bracketed, Opened, headAt, tagCount, TagRoom, Tied}
 use Rattle.structure.proofs.Arrays.{low}
 use Rattle.reader.proofs.Patches.{spanned}
 use Rattle.reader.proofs.Lays.{laid-long}
-use Rattle.reader.proofs.Loops.{stop-signs, count-signs}
+use Rattle.reader.proofs.Loops.{stop-signs}
 use Rattle.reader.proofs.Nodes.{place-placed}
 
 -- ---- a bracket and predicates around a tree

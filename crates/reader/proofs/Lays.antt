@@ -1,7 +1,7 @@
 -- Trees in the buffers, from their parts in the buffers.
-use Prim.Native.Nat.{ℕ, zero, suc, _+_, _-_, _*_, _≤_, _<_}
-use mathlib.Core.Path.{_≡_, refl, sym, ap, _∙_}
-use mathlib.Core.List.{List, [], _∷_, _++_, append-assoc}
+use Prim.Native.Nat.{ℕ, _+_, _-_, _*_}
+use mathlib.Core.Path.{_≡_, sym, ap, _∙_}
+use mathlib.Core.List.{List, _++_, append-assoc}
 use native.Mathlib.Omega.{arith}
 use native.Mathlib.Nat.{add-zero}
 use lib.ListN.{length, length-append}
@@ -10,9 +10,9 @@ use Rattle.table.specs.declared.Join.{Join}
 use Rattle.table.specs.declared.Unary.{Unary}
 use Rattle.table.specs.declared.Op.the-variants.{Plain, NodeTag}
 use Rattle.table.specs.declared.Node.the-variants.{Tip, One, Two}
-use Rattle.table.specs.Tree.{Span, Atom, atomStored, Wrap, plain, nodeTag, Tree, leaf, one, two, below, count, size, stored, wrapStored}
+use Rattle.table.specs.Tree.{Span, Atom, atomStored, plain, nodeTag, Tree, leaf, one, two, below, count, size, stored}
 use Rattle.table.specs.Record.{nodeSize}
-use Rattle.table.specs.Flat.{recordOf, leafAt, opAt, flat}
+use Rattle.table.specs.Flat.{recordOf, leafAt, flat}
 use Rattle.table.proofs.Flats.{length-flat}
 use Rattle.reader.specs.Build.{written, Laid}
 use Rattle.reader.proofs.Patches.{length-written, sets-on, written-on}

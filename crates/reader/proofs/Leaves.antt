@@ -1,12 +1,11 @@
 -- Leaves in the buffers.
-use Prim.Native.Nat.{ℕ, zero, suc, _+_, _-_, _*_, _≤_, _<_}
+use Prim.Native.Nat.{ℕ, _+_, _-_, _*_, _≤_, _<_}
 use mathlib.Core.Path.{_≡_, refl, sym, ap, _∙_}
 use mathlib.Core.Bool.{Bool, true, false}
-use mathlib.Core.List.{List, [], _∷_, _++_}
+use mathlib.Core.List.{List, [], _∷_}
 use native.Mathlib.Omega.{arith}
 use lib.ListN.{length}
 use lib.Seq.{sets}
-use Rattle.text.specs.Scans.{spelled}
 use Rattle.text.specs.Splice.{Wrote}
 use Rattle.text.specs.Splice as Splice
 use Rattle.text.specs.declared.Check.the-variants as Check
@@ -14,31 +13,23 @@ use Rattle.literal.specs.Escapes.{badEscape, unescaped}
 use Rattle.table.specs.declared.Sort.{Sort}
 use Rattle.table.specs.declared.Sort.the-variants.{Str, Insens, Ident, PushLiteral}
 use Rattle.table.specs.declared.End.the-variants.{Open, At}
-use Rattle.table.specs.declared.Leaf.the-variants.{Text, Range, PeekSlice}
+use Rattle.table.specs.declared.Leaf.the-variants.{Text}
 use Rattle.table.specs.declared.Node.the-variants.{Tip}
-use Rattle.table.specs.Tree.{Span, Atom, text, range, peekSlice, atomStored, Tree, leaf, below, count, size, stored, placeOf}
+use Rattle.table.specs.Tree.{Span, Atom, text, range, peekSlice, atomStored, leaf, below, count, size, stored}
 use Rattle.table.specs.Record.{nodeSize}
 use Rattle.table.specs.Flat.{recordOf, numbersOf}
 use Rattle.table.specs.Flat as Flat
 use Rattle.text.specs.Choice.{choose, and}
 use Rattle.structure.specs.declared.Refusal.the-variants.{NotAllowed}
-use Rattle.structure.specs.Tokens.{toks, kind, start, end, is, across, part, word, same, spells, peek, pushLiteral}
+use Rattle.structure.specs.Tokens.{toks, start, end, is, across, part, word, same, spells, peek, pushLiteral}
 use Rattle.structure.specs.Values.{isInteger, integer, opening, inside, string, character}
 use Rattle.structure.specs.Structure.{Parsed, got, refused, sliceTo, slice, pushed, ranged, leafAt}
 use Rattle.structure.proofs.Steps.{choose-true, choose-false, split, inside-is, want-true, no-tree, want-got, opened-got, opened-false}
 use Rattle.reader.specs.declared.Placed.{Placed}
-use Rattle.reader.specs.Build.{written, most, Fits, Room, Laid, Built, wordLeaf, stringLeaf}
+use Rattle.reader.specs.Build.{written, most, Fits, Room, Built, wordLeaf, stringLeaf}
 use Rattle.reader.proofs.Patches.{spanned}
 use Rattle.reader.proofs.Lays.{leaf-laid}
 use Rattle.structure.proofs.Arrays.{low, spans, word-is, part-length}
-use Rattle.reader.proofs.Parts.{part-none}
-
--- no bytes lie between a place and one before it
-pub none-wrote : (s store : List ℕ) (a z free : ℕ) → z < a → Wrote store free (unescaped (part s a z)) store free
-unfolding unescaped spelled
-none-wrote s store a z free h =
-    let e : unescaped (part s a z) ≡ [] = ap unescaped (part-none s a z (omega arith)) in
-    record { now = sym (ap (sets store free) e); next = let n = ap length e in omega arith }
 
 -- what room for a leaf is
 pub record LeafRoom (table store : List ℕ) (used free n : ℕ) : Type 0 where
@@ -120,17 +111,10 @@ module _ (s table store : List ℕ) (at used free : ℕ) (short : length s ≤ 6
 
 -- ---- a string, of any sort
 
-pub opening-small : (s : List ℕ) (i k : ℕ) → k ≡ opening s i → k ≤ 2
-opening-small s i k e = e-small (is s i 24) k e
-  where
-    e-small : (b : Bool) (n : ℕ) → n ≡ choose b (λ u. 2) (λ u. 1) → n ≤ 2
-    e-small true n q = omega arith
-    e-small false n q = omega arith
-
-module _ (s table store : List ℕ) (at next used free : ℕ) (sort : Sort) (short : length s ≤ 65536) (inside₀ : at < length (toks s)) (good : badEscape (inside s at) ≡ Check.Good)
+module _ (s table store : List ℕ) (at next used free : ℕ) (sort : Sort) (short : length s ≤ 65536) (long : start s at + opening s at < end s at) (good : badEscape (inside s at) ≡ Check.Good)
     (g : Room (got (leaf (across s at at) (text sort (string s at))) next) table store used free) (a z k : ℕ) (e₁ : a ≡ start s at) (e₂ : z ≡ end s at) (e₃ : k ≡ opening s at) where
-  pub string-inside : (1 ≤ z) × (z ≤ 65536) × (z - 1 ≤ length s) × (a ≤ 65536)
-  string-inside = let p = spans s at inside₀ in (omega arith, omega arith, omega arith, omega arith)
+  pub string-inside : (1 ≤ z) × (z ≤ 65536) × (z - 1 ≤ length s) × (a ≤ 65536) × (a + k ≤ z - 1)
+  string-inside = let p = low s at in (omega arith, omega arith, omega arith, omega arith, omega arith)
 
   string-part : part s (a + k) (z - 1) ≡ inside s at
   string-part =

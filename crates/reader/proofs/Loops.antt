@@ -2,11 +2,10 @@
 use Prim.Native.Nat.{ℕ, zero, suc, _+_, _-_, _*_, _≤_, _<_}
 use mathlib.Core.Path.{_≡_, refl, sym, ap, _∙_}
 use mathlib.Core.Bool.{Bool, true, false}
-use mathlib.Core.List.{List, [], _∷_, _++_}
+use mathlib.Core.List.{List, []}
 use native.Mathlib.Omega.{arith}
 use lib.ListN.{length}
 use lib.Seq.{sets}
-use Rattle.text.specs.Choice.{choose}
 use Rattle.table.specs.declared.Unary.{Unary}
 use Rattle.table.specs.declared.Unary.the-variants.{PosPred, NegPred}
 use Rattle.table.specs.declared.Op.the-variants.{Plain}
@@ -16,16 +15,16 @@ use Rattle.table.specs.Tree.{Span, plain, Tree, one, below, count, stored, plac
 use Rattle.table.specs.Record.{nodeSize}
 use Rattle.table.specs.Flat.{recordOf, flat}
 use Rattle.structure.specs.declared.Level.{Level}
-use Rattle.structure.specs.Tokens.{toks, kind, start, end, is}
+use Rattle.structure.specs.Tokens.{toks, kind, start, end}
 use Rattle.structure.specs.Answers.{signOf, signs}
-use Rattle.structure.specs.Structure.{Parsed, got, refused, before, after, posts, Run, Postfix, post, notPost, noPost, postfixAt, postsBy}
+use Rattle.structure.specs.Structure.{got, before, after, posts, Run, Postfix, post, notPost, noPost, postfixAt, postsBy}
 use Rattle.structure.proofs.Steps.{sees, misses, no-tree}
 use Rattle.structure.proofs.Fuel.{went, postfix-past}
+use Rattle.structure.proofs.Checks.{grown-signs}
 use Rattle.structure.proofs.Grammar.{posts-law}
 use Rattle.reader.specs.declared.Suffix.{Suffix}
 use Rattle.reader.specs.declared.Suffix.the-variants as Suffix
-use Rattle.reader.specs.declared.Trailed.{Trailed}
-use Rattle.reader.specs.Build.{written, most, Laid, Over, SignsRoom, SignsPut, PostsRoom, PostsPut, Trails, suffixOf, chosenEnd, chosenOf, ChoiceRoom}
+use Rattle.reader.specs.Build.{written, most, Over, SignsRoom, SignsPut, PostsRoom, PostsPut, Sound, suffixOf, chosenEnd, chosenOf, ChoiceRoom}
 use Rattle.reader.proofs.Patches.{spanned, length-written}
 use Rattle.reader.proofs.Lays.{one-laid}
 use Rattle.structure.proofs.Arrays.{low}
@@ -48,11 +47,6 @@ pub stop-signs : (s : List ℕ) (at k : ℕ) (t : Tree Span) → placeOf (signs 
 unfolding signs before
 stop-signs s at zero t = refl
 stop-signs s at (suc k) t = stop-signs s (at + 1) k t
-
-pub count-signs : (s : List ℕ) (at k : ℕ) (t : Tree Span) → count (signs s at k t) ≡ k + count t
-unfolding signs before below
-count-signs s at zero t = omega arith
-count-signs s at (suc k) t = let e = count-signs s (at + 1) k t in omega arith
 
 abbrev pub SignsInv : List ℕ → List ℕ → ℕ → ℕ → ℕ → ℕ → List ℕ → ℕ → ℕ → Type 0
 SignsInv s table at last z used tbl i u = (at ≤ i) × (i ≤ last) × (u ≡ used + (last - i)) × SignsPut s i last z used table tbl
@@ -98,7 +92,7 @@ module _ (s table : List ℕ) (at last z used : ℕ) (short : length s ≤ 65536
           long = ap length q ∙ length-written tbl u (recordOf (spanned a z) (One (Plain p) (u - 1))) ∙ v .3 .long;
           same = λ o t f free e k b.
               let t′ = signs s i (last - i) t in
-              let c = count-signs s i (last - i) t in
+              let c = grown-signs s i (last - i) t .counts in
               let d = stop-signs s i (last - i) t in
               let r : tbl′ ≡ written tbl u (recordOf (spanned (start s (i - 1)) (placeOf t′ .stop)) (One (Plain (signOf s (i - 1))) (u - 1))) =
               q ∙ ap (λ (j : ℕ). written tbl u (recordOf (spanned j z) (One (Plain p) (u - 1)))) e₁
@@ -138,14 +132,6 @@ choice-no table chosen left used a z e =
 
 -- ---- postfixes
 
-bad-post : {P : Type 0} {r : Suffix} (w : Unary) (m : ℕ) → r ≡ suffixOf (post w m) → r ≡ Suffix.Bad → P
-unfolding suffixOf
-bad-post w m e q = let z : _≡_ {A = ℕ} 0 1 = cc in absurd (omega arith)
-
-bad-none : {P : Type 0} {r : Suffix} → r ≡ suffixOf noPost → r ≡ Suffix.Bad → P
-unfolding suffixOf
-bad-none e q = let z : _≡_ {A = ℕ} 0 1 = cc in absurd (omega arith)
-
 -- what a tree is after some postfixes
 pub record Along (level : Level) (s table : List ℕ) (at used from : ℕ) (t : Tree Span) (tbl : List ℕ) (i u z : ℕ) : Type 0 where
   pub tree : Tree Span
@@ -175,111 +161,109 @@ was-post (post w m) r v n e q = cc
 was-post (notPost x) r v n e q = let z : _≡_ {A = ℕ} 0 1 = cc in absurd (omega arith)
 was-post noPost r v n e q = let z : _≡_ {A = ℕ} 0 1 = cc in absurd (omega arith)
 
-was-none : (p : Postfix) (r : Suffix) → r ≡ suffixOf p → r ≡ Suffix.Nothing → p ≡ noPost
+was-none : (p : Postfix) (r : Suffix) → Sound p → r ≡ suffixOf p → r ≡ Suffix.Nothing → p ≡ noPost
 unfolding suffixOf
-was-none (post w m) r e q = let z : _≡_ {A = ℕ} 0 1 = cc in absurd (omega arith)
-was-none (notPost x) r e q = let z : _≡_ {A = ℕ} 0 1 = cc in absurd (omega arith)
-was-none noPost r e q = refl
+was-none (post w m) r v e q = let z : _≡_ {A = ℕ} 0 1 = cc in absurd (omega arith)
+was-none (notPost x) r v e q = absurd (v .good x refl)
+was-none noPost r v e q = refl
 
-module _ (s table : List ℕ) (at used from to : ℕ) (short : length s ≤ 65536) (g : PostsRoom s table at used from to) (tbl : List ℕ) (i u z : ℕ) (v : PostsInv s table at used from to tbl i u z)
-    (r : Suffix) (e : r ≡ suffixOf (postfixAt s i)) where
+module _ (s table : List ℕ) (at used from to : ℕ) (short : length s ≤ 65536) (g : PostsRoom s table at used from to) (tbl : List ℕ) (i u z : ℕ) (v : PostsInv s table at used from to tbl i u z) where
   now : Along (g .level) s table at used from (g .tree) tbl i u z
   now = v .same (g .level) (g .tree) (g .from-is) (g .to-is)
 
-  module _ (p : Unary) (n : ℕ) (q : r ≡ Suffix.Post p n) where
-    is-post : postfixAt s i ≡ post p n
-    is-post = was-post (postfixAt s i) r p n e q
+  -- no postfix is refused, since all is read
+  pub posts-sound : Sound (postfixAt s i)
+  posts-sound = record {
+    good = λ x q. no-tree (sym (posts-law (g .level) s (now .tree) i ∙ ap (λ (b : Postfix). postsBy b (λ p m. Run (g .level) s (posts (after (end s (m - 1)) p (now .tree)) m)) (λ _. got (now .tree) i)) q)
+        ∙ sym (now .read) ∙ g .read);
+  }
 
-    pub post-past : (i < n) × (n ≤ length (toks s))
-    post-past = postfix-past s i p n is-post
+  module _ (r : Suffix) (e : r ≡ suffixOf (postfixAt s i)) where
+    module _ (p : Unary) (n : ℕ) (q : r ≡ Suffix.Post p n) where
+      is-post : postfixAt s i ≡ post p n
+      is-post = was-post (postfixAt s i) r p n e q
 
-    post-read : (level : Level) (t : Tree Span) → Run level s (posts t i) ≡ Run level s (posts (after (end s (n - 1)) p t) n)
-    post-read level t =
-        posts-law level s t i ∙ ap (λ (x : Postfix). postsBy x (λ w m. Run level s (posts (after (end s (m - 1)) w t) m)) (λ _. got t i)) is-post
+      pub post-past : (i < n) × (n ≤ length (toks s))
+      post-past = postfix-past s i p n is-post
 
-    count-after : (k : ℕ) (t : Tree Span) → count (after k p t) ≡ count t + 1
-    unfolding after below
-    count-after k t = omega arith
+      post-read : (level : Level) (t : Tree Span) → Run level s (posts t i) ≡ Run level s (posts (after (end s (n - 1)) p t) n)
+      post-read level t =
+          posts-law level s t i ∙ ap (λ (x : Postfix). postsBy x (λ w m. Run level s (posts (after (end s (m - 1)) w t) m)) (λ _. got t i)) is-post
 
-    post-room : u + 1 + count (g .tree) ≤ used + count (g .out)
-    post-room =
-        let w = now in
-        let t = after (end s (n - 1)) p (w .tree) in
-        let k = went (g .level) s (posts t n) (g .out) (g .end) (sym (w .read ∙ post-read (g .level) (w .tree)) ∙ g .read) in
-        let c = count-after (end s (n - 1)) (w .tree) in
-        let m = k .more in
-        let x = w .used-is in
-        omega arith
+      count-after : (k : ℕ) (t : Tree Span) → count (after k p t) ≡ count t + 1
+      unfolding after below
+      count-after k t = omega arith
 
-    pub post-over : (z′ : ℕ) → z′ ≡ end s (n - 1) → Over tbl u from z′
-    post-over z′ k =
-        let h = post-room in
-        let l = low s (n - 1) in
-        let m = v .long in
-        let x = g .room in
-        let y = g .few in
-        let c = now .used-is in
-        let a = g .after in
-        let b = now .grows in
-        record { room = omega arith; from = g .start; to = omega arith; few = omega arith; after = omega arith }
+      post-room : u + 1 + count (g .tree) ≤ used + count (g .out)
+      post-room =
+          let w = now in
+          let t = after (end s (n - 1)) p (w .tree) in
+          let k = went (g .level) s (posts t n) (g .out) (g .end) (sym (w .read ∙ post-read (g .level) (w .tree)) ∙ g .read) in
+          let c = count-after (end s (n - 1)) (w .tree) in
+          let m = k .more in
+          let x = w .used-is in
+          omega arith
 
-    pub posts-more : (z′ : ℕ) (tbl′ : List ℕ) → z′ ≡ end s (n - 1) → tbl′ ≡ written tbl u (recordOf (spanned from z′) (One (Plain p) (u - 1)))
-        → PostsInv s table at used from to tbl′ n (u + 1) z′
-    unfolding after stored
-    posts-more z′ tbl′ k q₁ =
-        let l = low s (n - 1) in
+      pub post-over : (z′ : ℕ) → z′ ≡ end s (n - 1) → Over tbl u from z′
+      post-over z′ k =
+          let h = post-room in
+          let l = low s (n - 1) in
+          let m = v .long in
+          let x = g .room in
+          let y = g .few in
+          let c = now .used-is in
+          let a = g .after in
+          let b = now .grows in
+          record { room = omega arith; from = g .start; to = omega arith; few = omega arith; after = omega arith }
+
+      pub posts-more : (z′ : ℕ) (tbl′ : List ℕ) → z′ ≡ end s (n - 1) → tbl′ ≡ written tbl u (recordOf (spanned from z′) (One (Plain p) (u - 1)))
+          → PostsInv s table at used from to tbl′ n (u + 1) z′
+      unfolding after stored
+      posts-more z′ tbl′ k q₁ =
+          let l = low s (n - 1) in
+          record {
+            long = ap length q₁ ∙ length-written tbl u (recordOf (spanned from z′) (One (Plain p) (u - 1))) ∙ v .long;
+            stop = omega arith;
+            same = λ level t e₁ e₂.
+                let w = v .same level t e₁ e₂ in
+                let x = w .tree in
+                let c = w .used-is in
+                let d = count-after (end s (n - 1)) x in
+                record {
+                  tree = after (end s (n - 1)) p x;
+                  read = w .read ∙ post-read level x;
+                  used-is = omega arith;
+                  grows = (let b = w .grows in omega arith);
+                  from-is = w .from-is;
+                  to-is = k;
+                  kept = w .kept;
+                  holds = λ o f free a b.
+                      one-holds o tbl tbl′ x f free (spanned (placeOf x .start) (end s (n - 1))) p u (u - 1) (w .holds o f free a b) (omega arith) (omega arith)
+                      (q₁ ∙ ap (λ (j : ℕ). written tbl u (recordOf (spanned j z′) (One (Plain p) (u - 1)))) (w .from-is)
+                      ∙ ap (λ (j : ℕ). written tbl u (recordOf (spanned (placeOf x .start) j) (One (Plain p) (u - 1)))) k);
+                };
+          }
+
+    pub posts-done : r ≡ Suffix.Nothing → PostsPut s at used from to table (record { next = i; used = u; to = z }) tbl
+    posts-done q =
         record {
-          long = ap length q₁ ∙ length-written tbl u (recordOf (spanned from z′) (One (Plain p) (u - 1))) ∙ v .long;
-          stop = omega arith;
-          same = λ level t e₁ e₂.
+          long = v .long;
+          stop = v .stop;
+          same = λ level t e₁ e₂ x n k.
               let w = v .same level t e₁ e₂ in
-              let x = w .tree in
-              let c = w .used-is in
-              let d = count-after (end s (n - 1)) x in
+              let y = w .tree in
+              let h : Run level s (posts y i) ≡ got y i = posts-law level s y i ∙ ap (λ (b : Postfix). postsBy b (λ p m. Run level s (posts (after (end s (m - 1)) p y) m)) (λ _. got y i)) (was-none (postfixAt s i) r posts-sound e q) in
+              let m : got y i ≡ got x n = sym h ∙ sym (w .read) ∙ k in
+              let a : y ≡ x = cc m in
+              let b : i ≡ n = cc m in
+              let c = ap (count {P = Span}) a in
+              let d = w .used-is in
               record {
-                tree = after (end s (n - 1)) p x;
-                read = w .read ∙ post-read level x;
+                next-is = b;
                 used-is = omega arith;
-                grows = (let b = w .grows in omega arith);
-                from-is = w .from-is;
-                to-is = k;
-                kept = w .kept;
-                holds = λ o f free a b.
-                    one-holds o tbl tbl′ x f free (spanned (placeOf x .start) (end s (n - 1))) p u (u - 1) (w .holds o f free a b) (omega arith) (omega arith)
-                    (q₁ ∙ ap (λ (j : ℕ). written tbl u (recordOf (spanned j z′) (One (Plain p) (u - 1)))) (w .from-is)
-                    ∙ ap (λ (j : ℕ). written tbl u (recordOf (spanned (placeOf x .start) j) (One (Plain p) (u - 1)))) k);
+                from-is = w .from-is ∙ ap (λ (τ : Tree Span). placeOf τ .start) a;
+                to-is = w .to-is ∙ ap (λ (τ : Tree Span). placeOf τ .stop) a;
+                kept = sym (ap (stored {P = Span}) a) ∙ w .kept;
+                holds = λ o f free p₁ p₂. w .holds o f free p₁ p₂ ∙ ap (λ (τ : Tree Span). written o f (flat f free τ)) a;
               };
         }
-
-  pub posts-done : r ≡ Suffix.Nothing → PostsPut s at used from to table (record { next = i; used = u; to = z }) tbl
-  posts-done q =
-      record {
-        long = v .long;
-        stop = v .stop;
-        same = λ level t e₁ e₂ x n k.
-            let w = v .same level t e₁ e₂ in
-            let y = w .tree in
-            let h : Run level s (posts y i) ≡ got y i = posts-law level s y i ∙ ap (λ (b : Postfix). postsBy b (λ p m. Run level s (posts (after (end s (m - 1)) p y) m)) (λ _. got y i)) (was-none (postfixAt s i) r e q) in
-            let m : got y i ≡ got x n = sym h ∙ sym (w .read) ∙ k in
-            let a : y ≡ x = cc m in
-            let b : i ≡ n = cc m in
-            let c = ap (count {P = Span}) a in
-            let d = w .used-is in
-            record {
-              next-is = b;
-              used-is = omega arith;
-              from-is = w .from-is ∙ ap (λ (τ : Tree Span). placeOf τ .start) a;
-              to-is = w .to-is ∙ ap (λ (τ : Tree Span). placeOf τ .stop) a;
-              kept = sym (ap (stored {P = Span}) a) ∙ w .kept;
-              holds = λ o f free p₁ p₂. w .holds o f free p₁ p₂ ∙ ap (λ (τ : Tree Span). written o f (flat f free τ)) a;
-            };
-      }
-
-  pub posts-bad : {P : Type 0} → r ≡ Suffix.Bad → P
-  posts-bad q = bad-by (postfixAt s i) (posts-law (g .level) s (now .tree) i) e q
-    where
-      bad-by : {P : Type 0} (p : Postfix) → Run (g .level) s (posts (now .tree) i) ≡ postsBy p (λ w m. Run (g .level) s (posts (after (end s (m - 1)) w (now .tree)) m)) (λ _. got (now .tree) i)
-          → r ≡ suffixOf p → r ≡ Suffix.Bad → P
-      bad-by (post w m) h e₁ q₁ = bad-post w m e₁ q₁
-      bad-by (notPost x) h e₁ q₁ = no-tree (sym h ∙ sym (now .read) ∙ g .read)
-      bad-by noPost h e₁ q₁ = bad-none e₁ q₁

@@ -1,8 +1,8 @@
 -- Nodes that hold an expression: in brackets, whose end moves, or in PUSH, which ends with it.
-use Prim.Native.Nat.{ℕ, zero, suc, _+_, _-_, _*_, _≤_, _<_}
+use Prim.Native.Nat.{ℕ, _+_, _-_, _*_, _≤_, _<_}
 use mathlib.Core.Path.{_≡_, refl, sym, ap, _∙_}
-use mathlib.Core.Bool.{Bool, true, false}
-use mathlib.Core.List.{List, [], _∷_, _++_}
+use mathlib.Core.Bool.{true, false}
+use mathlib.Core.List.{List}
 use native.Mathlib.Omega.{arith}
 use lib.Dec.{leb}
 use lib.ListN.{length}
@@ -12,18 +12,17 @@ use Rattle.text.specs.Words.{push}
 use Rattle.table.specs.declared.Unary.the-variants.{Push}
 use Rattle.table.specs.declared.Op.the-variants.{Plain}
 use Rattle.table.specs.declared.Node.the-variants.{One}
-use Rattle.table.specs.Tree.{Span, plain, Tree, leaf, one, two, below, count, size, stored, placeOf, placed}
+use Rattle.table.specs.Tree.{Span, plain, Tree, leaf, one, two, count, size, placeOf, placed}
 use Rattle.table.specs.Record.{nodeSize}
 use Rattle.table.specs.Flat.{recordOf, flat}
 use Rattle.structure.specs.declared.Level.{Level}
 use Rattle.structure.specs.Tokens.{toks, start, end, is, spells}
-use Rattle.structure.specs.Structure.{Parsed, got, refused, next, want, limit, opened, endsAt, before, expr, node, Run, leafAt}
+use Rattle.structure.specs.Structure.{got, refused, next, want, limit, endsAt, before, expr, node, Run, leafAt}
 use Rattle.structure.proofs.Steps.{choose-true, choose-false, inside-is, next-got, next-good, want-true, want-got, opened-got, opened-false}
 use Rattle.structure.proofs.Sizes.{stored-placed, grown-ends, grown-before}
-use Rattle.structure.proofs.Arrays.{low}
 use Rattle.structure.proofs.Grammar.{node-law}
 use Rattle.reader.specs.declared.Placed.{Placed}
-use Rattle.reader.specs.Build.{written, most, Room, Laid, Built, Over, EndMoved}
+use Rattle.reader.specs.Build.{written, most, Room, Built, Over, EndMoved}
 use Rattle.reader.proofs.Patches.{spanned}
 use Rattle.reader.proofs.Lays.{laid-long, one-laid}
 
@@ -31,12 +30,6 @@ pub place-placed : (p : Span) (t : Tree Span) → placeOf (placed p t) ≡ p
 place-placed p (leaf _ a) = refl
 place-placed p (one _ o t) = refl
 place-placed p (two _ j a b) = refl
-
-pub start-low : (s : List ℕ) (i a : ℕ) → length s ≤ 65536 → a ≡ start s i → a ≤ most
-start-low s i a h e = let l = low s i in omega arith
-
-pub end-low : (s : List ℕ) (i z : ℕ) → length s ≤ 65536 → z ≡ end s i → z ≤ most
-end-low s i z h e = let l = low s i in omega arith
 
 module _ (level : Level) (s : List ℕ) (o at used free : ℕ) (table store : List ℕ) (g : Room (Run level s (node o at)) table store used free) where
   -- ---- `(` expression `)`

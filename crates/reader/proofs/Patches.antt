@@ -1,5 +1,5 @@
 -- What stores into the table of records leave: records one after another, and numbers of the last record that change.
-use Prim.Native.Nat.{ℕ, zero, suc, _+_, _-_, _*_, _≤_, _<_}
+use Prim.Native.Nat.{ℕ, suc, _+_, _-_, _*_, _<_}
 use mathlib.Core.Path.{_≡_, refl, sym, ap, _∙_}
 use mathlib.Core.List.{List, [], _∷_, _++_, append-assoc}
 use native.Mathlib.Omega.{arith}
@@ -12,7 +12,7 @@ use Rattle.table.specs.declared.Sort.{Sort}
 use Rattle.table.specs.declared.Leaf.the-variants.{Text}
 use Rattle.table.specs.declared.Op.the-variants.{Plain}
 use Rattle.table.specs.declared.Node.the-variants.{Tip, One, Two}
-use Rattle.table.specs.Tree.{Span, Tree, below, count, placeOf, placed}
+use Rattle.table.specs.Tree.{Span, Tree, count, placeOf, placed}
 use Rattle.table.specs.Record.{nodeSize}
 use Rattle.table.specs.Flat.{leafNumbers, opNumbers, joinNumbers, numbersOf, nodeRecord, recordOf, rootNode, front, flat}
 use Rattle.table.proofs.Flats.{flat-root, flat-own, length-front}

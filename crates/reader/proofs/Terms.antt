@@ -1,20 +1,19 @@
 -- A term's tag, the bracket that moves its start, and where it starts.
-use Prim.Native.Nat.{ℕ, zero, suc, _+_, _-_, _*_, _≤_, _<_}
+use Prim.Native.Nat.{ℕ, _+_, _-_, _≤_, _<_}
 use mathlib.Core.Path.{_≡_, refl, sym, ap, _∙_}
-use mathlib.Core.Bool.{Bool, true, false}
-use mathlib.Core.List.{List, [], _∷_, _++_}
+use mathlib.Core.Bool.{true, false}
+use mathlib.Core.List.{List, [], _∷_}
 use native.Mathlib.Omega.{arith}
 use lib.ListN.{length}
 use lib.Dec.{ltb}
 use lib.Seq.{sets}
 use borrow.Author.Tests.{lt-ltb, le-ltb}
-use Rattle.text.specs.Choice.{choose}
 use Rattle.text.specs.Splice.{Wrote}
 use Rattle.text.specs.Splice as Splice
 use Rattle.text.proofs.Splices.{wrote-none}
 use Rattle.table.specs.declared.Op.the-variants.{NodeTag}
 use Rattle.table.specs.declared.Node.the-variants.{One}
-use Rattle.table.specs.Tree.{Span, nodeTag, Tree, below, count, size, stored, placeOf}
+use Rattle.table.specs.Tree.{Span, nodeTag, Tree, stored, placeOf}
 use Rattle.table.specs.Flat.{numbersOf, recordOf, flat}
 use Rattle.structure.specs.declared.Level.{Level}
 use Rattle.structure.specs.declared.Level.the-variants as Level
@@ -27,7 +26,7 @@ use Rattle.structure.proofs.Grammar.{term-law}
 use Rattle.reader.specs.declared.Placed.{Placed}
 use Rattle.reader.specs.Build.{written, most, Fits, Room, Built, StartMoved, Opened, bracketed, labelled, tagText, pastTag, headAt, TagRoom, Tied, tagCount}
 use Rattle.structure.proofs.Arrays.{low, spans}
-use Rattle.reader.proofs.Parts.{label-is}
+use Rattle.reader.proofs.Parts.{label-is, start-low}
 use Rattle.reader.proofs.Patches.{spanned, length-written}
 use Rattle.reader.proofs.Lays.{tag-laid}
 
@@ -169,9 +168,6 @@ module _ (s : List ℕ) (at free mid : ℕ) (p : Placed) (table : List ℕ) (x :
         }
 
     module _ (short : length s ≤ 65536) (a : ℕ) (e₁ : a ≡ start s at) where
-      low-start : a ≤ most
-      low-start = let l = low s at in omega arith
-
       pub tag-fits : {level : Level} → level ≡ Level.Tagged → TagRoom level s table at free mid p → Fits table (p .used) a (p .to) (p .used - 1) free (mid - free) × (p .used < most)
       tag-fits {level} v g =
           let n : tagCount level s at ≡ 1 = choose-true (is s at 19) _ _ tagged-at ∙ ap (λ (l : Level). tagNodes l) v in
@@ -179,7 +175,7 @@ module _ (s : List ℕ) (at free mid : ℕ) (p : Placed) (table : List ℕ) (x :
           let h₂ = g .few in
           let h₃ = g .past in
           let h₄ = g .low in
-          (record { room = omega arith; from = low-start; to = g .to; first = omega arith; second = omega arith; third = omega arith }, omega arith)
+          (record { room = omega arith; from = start-low s at a short e₁; to = g .to; first = omega arith; second = omega arith; third = omega arith }, omega arith)
 
       pub tie-tagged : {level : Level} → level ≡ Level.Tagged → (table′ : List ℕ) → table′ ≡ written table (p .used) (19 ∷ a ∷ p .to ∷ (p .used - 1) ∷ free ∷ (mid - free) ∷ [])
           → Tied level s at free mid p table (record { next = p .next; used = p .used + 1; free = p .free; from = a; to = p .to }) table′
@@ -205,7 +201,7 @@ module _ (s : List ℕ) (at free mid : ℕ) (p : Placed) (table : List ℕ) (x :
                   free-is = omega arith;
                   from-is = e₁;
                   to-is = d .to-is;
-                  short = (low-start, d .short .1);
+                  short = (start-low s at a short e₁, d .short .1);
                   laid = tag-laid o store used free t store₁ table st table′ (spanned (start s at) (placeOf t .stop)) b mid (p .used) (p .used - 1) (mid - free)
                       (w .now ∙ ap (sets store free) n) (omega arith) (d .laid) (d .used-is) (omega arith) (omega arith)
                       (q ∙ ap (λ (j : ℕ). written table (p .used) (recordOf (spanned j (p .to)) (One (NodeTag free (mid - free)) (p .used - 1)))) e₁

@@ -1,14 +1,13 @@
 -- What the tokens of numbers, characters and postfixes are worth, as the code finds it.
-use Prim.Native.Nat.{ℕ, zero, suc, _+_, _-_, _≤_, _<_}
-use mathlib.Core.Path.{_≡_, refl, sym, ap, _∙_}
+use Prim.Native.Nat.{ℕ, zero, suc, _+_, _-_, _<_}
+use mathlib.Core.Path.{_≡_, refl, sym, ap, _∙_, subst}
 use mathlib.Core.Bool.{Bool, true, false}
-use mathlib.Core.List.{List, [], _∷_}
+use mathlib.Core.List.{List}
 use native.Mathlib.Omega.{arith}
 use lib.Dec.{eqb}
 use lib.ListN.{length, take, drop}
-use borrow.Author.Tests.{eqb-true, eq-eqb, ne-eqb}
-use Rattle.text.specs.Choice.{choose, and, or}
-use Rattle.text.specs.Words.{begins}
+use borrow.Author.Tests.{eqb-true, ne-eqb}
+use Rattle.text.specs.Choice.{choose, or}
 use Rattle.text.specs.Digits.{decimalOf}
 use Rattle.text.specs.Utf8.{charOf}
 use Rattle.text.specs.declared.Decimal.{Decimal}
@@ -17,17 +16,15 @@ use Rattle.text.specs.declared.Sequence.the-variants as Sequence
 use Rattle.literal.specs.Escapes.{escapeOf}
 use Rattle.literal.specs.declared.Escape.{Escape}
 use Rattle.literal.specs.declared.Escape.the-variants as Escape
-use Rattle.table.specs.declared.Unary.{Unary}
-use Rattle.table.specs.declared.Unary.the-variants.{PosPred, NegPred, Opt, Rep, RepOnce, RepExact, RepMin, RepMax, RepMinMax, Push}
-use Rattle.structure.specs.Tokens.{toks, kind, start, end, is, part, within, word, spells}
+use Rattle.table.specs.declared.Unary.the-variants.{Opt, Rep, RepOnce, RepExact, RepMin, RepMax, RepMinMax}
+use Rattle.structure.specs.Tokens.{toks, kind, start, end, is, part, word}
 use Rattle.structure.specs.Values.{worth, negated, number, isInteger, integerOf, integer, opening, inside, rawChar, charBy, character}
-use Rattle.structure.specs.Structure.{want, Postfix, post, notPost, noPost, fromNumber, fromComma, postfixAt}
+use Rattle.structure.specs.Structure.{want, Postfix, post, notPost, fromNumber, fromComma, postfixAt}
+use Rattle.structure.proofs.Steps as Steps
 use Rattle.structure.proofs.Steps.{choose-true, choose-false, sees, misses, want-true, want-false}
 use Rattle.reader.specs.declared.Suffix.{Suffix}
 use Rattle.reader.specs.declared.Suffix.the-variants as Suffix
-use Rattle.reader.specs.Build.{suffixOf}
-use Rattle.structure.proofs.Arrays.{low, word-is, part-length}
-use Rattle.reader.proofs.Parts.{part-none}
+use Rattle.reader.specs.Build.{Sound, suffixOf}
 
 pub negated-is : (n : ℕ) → (n ≡ 0 → ⊥) → 4294967295 - (n - 1) ≡ negated n
 negated-is zero h = absurd (h refl)
@@ -56,12 +53,6 @@ module _ (s : List ℕ) (i x : ℕ) (e : x ≡ kind s i) where
     unfolding integer
     integer-positive h = q₂ ∙ ap worth q₁ ∙ sym (choose-false (is s i 21) _ _ (misses s i x 21 e h))
 
-pub opening-two : (s : List ℕ) (i x : ℕ) → x ≡ kind s i → x ≡ 24 → 2 ≡ opening s i
-opening-two s i x e h = sym (rw (sees s i x 24 e h))
-
-pub opening-one : (s : List ℕ) (i x : ℕ) → x ≡ kind s i → (x ≡ 24 → ⊥) → 1 ≡ opening s i
-opening-one s i x e h = sym (rw (misses s i x 24 e h))
-
 -- ---- a character
 
 pub meant-escape : (xs : List ℕ) {r : Escape} {c n : ℕ} → r ≡ escapeOf xs → r ≡ Escape.Means c n → c ≡ charBy (escapeOf xs) xs
@@ -88,60 +79,70 @@ module _ (s : List ℕ) (i a z : ℕ) (v : is s i 25 ≡ true) (e₁ : a ≡ sta
   unfolding character part
   character-is r q = q ∙ ap (λ (xs : List ℕ). charBy (escapeOf xs) xs) inside-is
 
-  pub character-none : z - 1 < a + 1 → 0 ≡ character s i
-  unfolding character escapeOf charOf
-  character-none h = sym (ap (λ (xs : List ℕ). charBy (escapeOf xs) xs) (sym inside-is ∙ part-none s (a + 1) (z - 1) (omega arith)))
-
 -- ---- postfixes
+
+-- what is wanted is there
+want-sound : (s : List ℕ) (i k : ℕ) (f : ℕ → Postfix) → 0 < k → Sound (want notPost s i k f) → (is s i k ≡ true) × (i < length (toks s)) × Sound (f (i + 1))
+want-sound s i k f h g = go (is s i k) refl
+  where
+    go : (b : Bool) → is s i k ≡ b → (is s i k ≡ true) × (i < length (toks s)) × Sound (f (i + 1))
+    go true e = (e, Steps.inside-is s i k h e, subst Sound (want-true notPost s i k f e) g)
+    go false e = absurd (g .good _ (want-false notPost s i k f e))
 
 module _ (s : List ℕ) (i n x : ℕ) (en : n ≡ number s i) (e : x ≡ kind s (i + 1)) where
   pub exact : x ≡ 3 → Suffix.Post (RepExact n) (i + 2) ≡ suffixOf (fromNumber s i)
   unfolding fromNumber suffixOf
   exact h = ap (λ (k : ℕ). Suffix.Post (RepExact k) (i + 2)) en ∙ sym (rw (sees s (i + 1) x 3 e h))
 
-  pub no-comma : (x ≡ 3 → ⊥) → (x ≡ 15 → ⊥) → Suffix.Bad ≡ suffixOf (fromNumber s i)
-  unfolding fromNumber suffixOf want
-  no-comma h g = sym (rw (misses s (i + 1) x 3 e h, misses s (i + 1) x 15 e g))
+  module _ (h : x ≡ 3 → ⊥) (g : Sound (fromNumber s i)) where
+    comma : (is s (i + 1) 15 ≡ true) × (i + 1 < length (toks s)) × Sound (choose (is s (i + 1 + 1) 3) (λ u. post (RepMin (number s i)) (i + 1 + 1 + 1))
+        (λ u. want notPost s (i + 1 + 1) 20 (λ k. want notPost s k 3 (λ m. post (RepMinMax (number s i) (number s (i + 1 + 1))) m))))
+    unfolding fromNumber
+    comma = want-sound s (i + 1) 15 _ (omega arith) (subst Sound (choose-false (is s (i + 1) 3) _ _ (misses s (i + 1) x 3 e h)) g)
 
-  module _ (h : x ≡ 3 → ⊥) (g : x ≡ 15) (y : ℕ) (f : y ≡ kind s (i + 1 + 1)) where
-    pub least : y ≡ 3 → Suffix.Post (RepMin n) (i + 1 + 1 + 1) ≡ suffixOf (fromNumber s i)
-    unfolding fromNumber suffixOf want
-    least k = ap (λ (j : ℕ). Suffix.Post (RepMin j) (i + 1 + 1 + 1)) en ∙ sym (rw (misses s (i + 1) x 3 e h, sees s (i + 1) x 15 e g, sees s (i + 1 + 1) y 3 f k))
+    pub comma-in : i + 1 < length (toks s)
+    comma-in = comma .1
 
-    pub no-number : (y ≡ 3 → ⊥) → (y ≡ 20 → ⊥) → Suffix.Bad ≡ suffixOf (fromNumber s i)
-    unfolding fromNumber suffixOf want
-    no-number k j = sym (rw (misses s (i + 1) x 3 e h, sees s (i + 1) x 15 e g, misses s (i + 1 + 1) y 3 f k, misses s (i + 1 + 1) y 20 f j))
-
-    module _ (k : y ≡ 3 → ⊥) (j : y ≡ 20) (z m : ℕ) (em : m ≡ number s (i + 1 + 1)) (q : z ≡ kind s (i + 1 + 1 + 1)) where
-      pub no-close : (z ≡ 3 → ⊥) → Suffix.Bad ≡ suffixOf (fromNumber s i)
+    module _ (y : ℕ) (f : y ≡ kind s (i + 1 + 1)) where
+      pub least : y ≡ 3 → Suffix.Post (RepMin n) (i + 1 + 1 + 1) ≡ suffixOf (fromNumber s i)
       unfolding fromNumber suffixOf want
-      no-close r = sym (rw (misses s (i + 1) x 3 e h, sees s (i + 1) x 15 e g, misses s (i + 1 + 1) y 3 f k, sees s (i + 1 + 1) y 20 f j, misses s (i + 1 + 1 + 1) z 3 q r))
+      least k = ap (λ (j : ℕ). Suffix.Post (RepMin j) (i + 1 + 1 + 1)) en ∙ sym (rw (misses s (i + 1) x 3 e h, comma .0, sees s (i + 1 + 1) y 3 f k))
 
-      pub both : z ≡ 3 → Suffix.Post (RepMinMax n m) (i + 1 + 1 + 1 + 1) ≡ suffixOf (fromNumber s i)
-      unfolding fromNumber suffixOf want
-      both r =
-          ap (λ (l : ℕ). Suffix.Post (RepMinMax l m) (i + 1 + 1 + 1 + 1)) en
-          ∙ ap (λ (l : ℕ). Suffix.Post (RepMinMax (number s i) l) (i + 1 + 1 + 1 + 1)) em
-          ∙ sym (rw (misses s (i + 1) x 3 e h, sees s (i + 1) x 15 e g, misses s (i + 1 + 1) y 3 f k, sees s (i + 1 + 1) y 20 f j, sees s (i + 1 + 1 + 1) z 3 q r))
+      module _ (k : y ≡ 3 → ⊥) where
+        second : (is s (i + 1 + 1) 20 ≡ true) × (i + 1 + 1 < length (toks s))
+            × Sound (want notPost s (i + 1 + 1 + 1) 3 (λ m. post (RepMinMax (number s i) (number s (i + 1 + 1))) m))
+        second = want-sound s (i + 1 + 1) 20 _ (omega arith) (subst Sound (choose-false (is s (i + 1 + 1) 3) _ _ (misses s (i + 1 + 1) y 3 f k)) (comma .2))
 
-module _ (s : List ℕ) (i x : ℕ) (e : x ≡ kind s i) where
-  pub comma-none : (x ≡ 15 → ⊥) → Suffix.Bad ≡ suffixOf (fromComma s i)
+        close : (is s (i + 1 + 1 + 1) 3 ≡ true) × (i + 1 + 1 + 1 < length (toks s)) × Sound (post (RepMinMax (number s i) (number s (i + 1 + 1))) (i + 1 + 1 + 1 + 1))
+        close = want-sound s (i + 1 + 1 + 1) 3 _ (omega arith) (second .2)
+
+        pub close-in : i + 1 + 1 + 1 < length (toks s)
+        close-in = close .1
+
+        pub both : (m : ℕ) → m ≡ number s (i + 1 + 1) → Suffix.Post (RepMinMax n m) (i + 1 + 1 + 1 + 1) ≡ suffixOf (fromNumber s i)
+        unfolding fromNumber suffixOf want
+        both m em =
+            ap (λ (l : ℕ). Suffix.Post (RepMinMax l m) (i + 1 + 1 + 1 + 1)) en
+            ∙ ap (λ (l : ℕ). Suffix.Post (RepMinMax (number s i) l) (i + 1 + 1 + 1 + 1)) em
+            ∙ sym (rw (misses s (i + 1) x 3 e h, comma .0, misses s (i + 1 + 1) y 3 f k, second .0, close .0))
+
+module _ (s : List ℕ) (i : ℕ) (g : Sound (fromComma s i)) where
+  most-comma : (is s i 15 ≡ true) × (i < length (toks s)) × Sound (want notPost s (i + 1) 20 (λ k. want notPost s k 3 (λ n. post (RepMax (number s (i + 1))) n)))
+  unfolding fromComma
+  most-comma = want-sound s i 15 _ (omega arith) g
+
+  most-number : (is s (i + 1) 20 ≡ true) × (i + 1 < length (toks s)) × Sound (want notPost s (i + 1 + 1) 3 (λ n. post (RepMax (number s (i + 1))) n))
+  most-number = want-sound s (i + 1) 20 _ (omega arith) (most-comma .2)
+
+  most-close : (is s (i + 1 + 1) 3 ≡ true) × (i + 1 + 1 < length (toks s)) × Sound (post (RepMax (number s (i + 1))) (i + 1 + 1 + 1))
+  most-close = want-sound s (i + 1 + 1) 3 _ (omega arith) (most-number .2)
+
+  pub most-in : i + 1 + 1 < length (toks s)
+  most-in = most-close .1
+
+  pub most-is : (n : ℕ) → n ≡ number s (i + 1) → Suffix.Post (RepMax n) (i + 1 + 1 + 1) ≡ suffixOf (fromComma s i)
   unfolding fromComma suffixOf want
-  comma-none h = sym (rw (misses s i x 15 e h))
-
-  module _ (h : x ≡ 15) (y : ℕ) (f : y ≡ kind s (i + 1)) where
-    pub comma-number : (y ≡ 20 → ⊥) → Suffix.Bad ≡ suffixOf (fromComma s i)
-    unfolding fromComma suffixOf want
-    comma-number g = sym (rw (sees s i x 15 e h, misses s (i + 1) y 20 f g))
-
-    module _ (g : y ≡ 20) (n z : ℕ) (en : n ≡ number s (i + 1)) (q : z ≡ kind s (i + 1 + 1)) where
-      pub comma-close : (z ≡ 3 → ⊥) → Suffix.Bad ≡ suffixOf (fromComma s i)
-      unfolding fromComma suffixOf want
-      comma-close r = sym (rw (sees s i x 15 e h, sees s (i + 1) y 20 f g, misses s (i + 1 + 1) z 3 q r))
-
-      pub comma-most : z ≡ 3 → Suffix.Post (RepMax n) (i + 1 + 1 + 1) ≡ suffixOf (fromComma s i)
-      unfolding fromComma suffixOf want
-      comma-most r = ap (λ (l : ℕ). Suffix.Post (RepMax l) (i + 1 + 1 + 1)) en ∙ sym (rw (sees s i x 15 e h, sees s (i + 1) y 20 f g, sees s (i + 1 + 1) z 3 q r))
+  most-is n en = ap (λ (l : ℕ). Suffix.Post (RepMax l) (i + 1 + 1 + 1)) en ∙ sym (rw (most-comma .0, most-number .0, most-close .0))
 
 module _ (s : List ℕ) (i x : ℕ) (e : x ≡ kind s i) where
   pub suffix-opt : x ≡ 12 → Suffix.Post Opt (i + 1) ≡ suffixOf (postfixAt s i)
@@ -163,11 +164,23 @@ module _ (s : List ℕ) (i x : ℕ) (e : x ≡ kind s i) where
         unfolding postfixAt suffixOf
         suffix-none h = sym (rw (misses s i x 12 e h₁, misses s i x 13 e h₂, misses s i x 14 e h₃, misses s i x 2 e h))
 
-        module _ (h : x ≡ 2) (y : ℕ) (f : y ≡ kind s (i + 1)) (r : Suffix) where
-          pub suffix-number : y ≡ 20 → r ≡ suffixOf (fromNumber s (i + 1)) → r ≡ suffixOf (postfixAt s i)
+        module _ (h : x ≡ 2) (y : ℕ) (f : y ≡ kind s (i + 1)) where
+          number-next : y ≡ 20 → postfixAt s i ≡ fromNumber s (i + 1)
           unfolding postfixAt
-          suffix-number g q = q ∙ sym (rw (misses s i x 12 e h₁, misses s i x 13 e h₂, misses s i x 14 e h₃, sees s i x 2 e h, sees s (i + 1) y 20 f g))
+          number-next g = rw (misses s i x 12 e h₁, misses s i x 13 e h₂, misses s i x 14 e h₃, sees s i x 2 e h, sees s (i + 1) y 20 f g)
 
-          pub suffix-comma : (y ≡ 20 → ⊥) → r ≡ suffixOf (fromComma s (i + 1)) → r ≡ suffixOf (postfixAt s i)
+          comma-next : (y ≡ 20 → ⊥) → postfixAt s i ≡ fromComma s (i + 1)
           unfolding postfixAt
-          suffix-comma g q = q ∙ sym (rw (misses s i x 12 e h₁, misses s i x 13 e h₂, misses s i x 14 e h₃, sees s i x 2 e h, misses s (i + 1) y 20 f g))
+          comma-next g = rw (misses s i x 12 e h₁, misses s i x 13 e h₂, misses s i x 14 e h₃, sees s i x 2 e h, misses s (i + 1) y 20 f g)
+
+          pub sound-number : y ≡ 20 → Sound (postfixAt s i) → Sound (fromNumber s (i + 1))
+          sound-number g v = subst Sound (number-next g) v
+
+          pub sound-comma : (y ≡ 20 → ⊥) → Sound (postfixAt s i) → Sound (fromComma s (i + 1))
+          sound-comma g v = subst Sound (comma-next g) v
+
+          pub suffix-number : (r : Suffix) → y ≡ 20 → r ≡ suffixOf (fromNumber s (i + 1)) → r ≡ suffixOf (postfixAt s i)
+          suffix-number r g q = q ∙ sym (ap suffixOf (number-next g))
+
+          pub suffix-comma : (r : Suffix) → (y ≡ 20 → ⊥) → r ≡ suffixOf (fromComma s (i + 1)) → r ≡ suffixOf (postfixAt s i)
+          suffix-comma r g q = q ∙ sym (ap suffixOf (comma-next g))

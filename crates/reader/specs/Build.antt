@@ -1,8 +1,8 @@
 -- What the building pass asks of the lent buffers, and what it leaves in them.
-use Prim.Native.Nat.{ℕ, zero, suc, _+_, _-_, _*_, _≤_, _<_}
+use Prim.Native.Nat.{ℕ, _+_, _-_, _*_, _≤_, _<_}
 use mathlib.Core.Path.{_≡_}
 use mathlib.Core.Bool.{Bool, true, false}
-use mathlib.Core.List.{List, [], _∷_, _++_}
+use mathlib.Core.List.{List, []}
 use lib.Dec.{ltb}
 use lib.ListN.{length}
 use lib.Seq.{sets}
@@ -20,6 +20,7 @@ use Rattle.structure.specs.Tokens.{start, is, label, across, word}
 use Rattle.structure.specs.Values.{inside, string}
 use Rattle.structure.specs.Structure.{Parsed, got, endsAt, startsAt, term, signed, posts, Run, Postfix, post, notPost, noPost}
 use Rattle.structure.specs.Answers.{signs, tagNodes}
+use Rattle.structure.specs.declared.Refusal.{Refusal}
 use Rattle.structure.specs.declared.Level.{Level}
 use Rattle.structure.specs.declared.Level.the-variants as Level
 use Rattle.text.specs.Choice.{choose}
@@ -210,8 +211,12 @@ pub record Tied (level : Level) (s : List ℕ) (at free mid : ℕ) (p : Placed) 
   pub same : (deep used : ℕ) (o store store₁ st : List ℕ) → Wrote store free (tagText level s at) store₁ mid → Room (Run level s (term deep at)) o store used free
       → Built (Run level s (signed deep (pastTag s at))) o store₁ used mid p table st → Built (Run level s (term deep at)) o store used free r table′ st
 
--- a postfix as the code has it
+-- a postfix that isn't refused
+pub record Sound (p : Postfix) : Type 0 where
+  pub good : (r : Refusal) → p ≡ notPost r → ⊥
+
+-- a postfix as the code has it; it comes to no refused one
 unfoldable pub suffixOf : Postfix → Suffix
 suffixOf (post u n) = Suffix.Post u n
-suffixOf (notPost r) = Suffix.Bad
+suffixOf (notPost r) = Suffix.Nothing
 suffixOf noPost = Suffix.Nothing

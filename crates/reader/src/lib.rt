@@ -39,10 +39,9 @@ pub struct Placed {
     pub to: usize,
 }
 
-// A postfix and the token after it, one that isn't allowed, or none.
+// A postfix and the token after it, or none.
 pub enum Suffix {
     Post(Unary, usize),
-    Bad,
     Nothing,
 }
 

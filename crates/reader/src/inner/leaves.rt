@@ -15,13 +15,13 @@ use structure::inner::tokens::start_at;
 use table::Sort;
 ghost use mathlib.Core.Path.{_≡_};
 ghost use mathlib.Core.Bool.{true};
-ghost use Prim.Native.Nat.{_<_};
+ghost use Prim.Native.Nat.{_+_, _<_};
 ghost use lib.ListN.{length};
 ghost use Rattle.text.specs.declared.Check.the-variants as Check;
 ghost use Rattle.literal.specs.Escapes.{badEscape};
 ghost use Rattle.structure.specs.Answers.{Lent};
-ghost use Rattle.structure.specs.Tokens.{toks, is};
-ghost use Rattle.structure.specs.Values.{inside};
+ghost use Rattle.structure.specs.Tokens.{toks, start, end, is};
+ghost use Rattle.structure.specs.Values.{opening, inside};
 ghost use Rattle.structure.specs.Structure.{sliceTo, slice, ranged, leafAt};
 ghost use Rattle.reader.specs.Build.{Room, Built, Scalars, wordLeaf, stringLeaf};
 
@@ -69,7 +69,7 @@ fn put_literal(
     free: usize,
 ) -> Placed
     requires { ⌜ Lent (now text) (now kinds) (now starts) (now ends) ⌝ }
-    requires { ⌜ at < length (toks (now text)) ⌝ }
+    requires { ⌜ start (now text) at + opening (now text) at < end (now text) at ⌝ }
     requires { ⌜ badEscape (inside (now text) at) ≡ Check.Good ⌝ }
     requires { ⌜ Room (stringLeaf sort (now text) at next) (now nodes) (now store) used free ⌝ }
     ensures { λ r. ⌜ Built (stringLeaf sort (now (text .entry)) at next) (now (nodes .entry)) (now (store .entry)) used free r (now (nodes .exit)) (now (store .exit)) ⌝ }

@@ -82,13 +82,6 @@ pub fn put_postfixes(
                 u += 1;
                 i = n;
             }
-            Suffix::Bad => {
-                return Trailed {
-                    next: i,
-                    used: u,
-                    to: z,
-                };
-            }
             Suffix::Nothing => {
                 return Trailed {
                     next: i,

@@ -120,13 +120,10 @@ pub fn put_bytes(text: &[u8], store: &mut [u8], a: usize, z: usize, free: usize)
 
 // Writes the string that the bytes of the text from one place to another mean.
 pub fn put_string(text: &[u8], store: &mut [u8], a: usize, z: usize, free: usize) -> usize
-    requires { ⌜ z ≤ length (now text) ⌝ }
+    requires { ⌜ (a ≤ z) × (z ≤ length (now text)) ⌝ }
     requires { ⌜ badEscape (part (now text) a z) ≡ Check.Good ⌝ }
     requires { ⌜ Room (now store) free (unescaped (part (now text) a z)) ⌝ }
     ensures { λ r. ⌜ Wrote (now (store .entry)) free (unescaped (part (now (text .entry)) a z)) (now (store .exit)) r ⌝ }
 {
-    if z < a {
-        return free;
-    }
     literal::inner::escapes::put_unescaped(&text[a..z], store, free)
 }

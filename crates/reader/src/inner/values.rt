@@ -18,7 +18,7 @@ ghost use Rattle.structure.specs.Answers.{Lent};
 ghost use Rattle.structure.specs.Tokens.{toks, is};
 ghost use Rattle.structure.specs.Values.{worth, negated, number, isInteger, integer, opening, charBy, character};
 ghost use Rattle.structure.specs.Structure.{postfixAt, fromNumber, fromComma};
-ghost use Rattle.reader.specs.Build.{suffixOf};
+ghost use Rattle.reader.specs.Build.{Sound, suffixOf};
 
 fn worth_of(d: Decimal) -> u32
     ensures { λ r. ⌜ r ≡ worth d ⌝ }
@@ -109,9 +109,6 @@ pub fn character_at(text: &[u8], kinds: &[u8], starts: &[u32], ends: &[u32], at:
 {
     let a = start_at(text, kinds, starts, ends, at) + 1;
     let z = end_at(text, kinds, starts, ends, at) - 1;
-    if z < a {
-        return 0;
-    }
     meant(&text[a..z])
 }
 
@@ -119,55 +116,36 @@ pub fn character_at(text: &[u8], kinds: &[u8], starts: &[u32], ends: &[u32], at:
 fn from_number(text: &[u8], kinds: &[u8], starts: &[u32], ends: &[u32], at: usize) -> Suffix
     requires { ⌜ Lent (now text) (now kinds) (now starts) (now ends) ⌝ }
     requires { ⌜ is (now text) at 20 ≡ true ⌝ }
+    requires { ⌜ Sound (fromNumber (now text) at) ⌝ }
     ensures { λ r. ⌜ r ≡ suffixOf (fromNumber (now (text .entry)) at) ⌝ }
 {
     let n = number_at(text, kinds, starts, ends, at);
-    let kind = kind_at(text, kinds, starts, ends, at + 1);
-    if kind == 3 {
+    if kind_at(text, kinds, starts, ends, at + 1) == 3 {
         return Suffix::Post(Unary::RepExact(n), at + 2);
     }
-    if kind != 15 {
-        return Suffix::Bad;
-    }
     let j = at + 1 + 1;
-    let next = kind_at(text, kinds, starts, ends, j);
-    if next == 3 {
+    if kind_at(text, kinds, starts, ends, j) == 3 {
         return Suffix::Post(Unary::RepMin(n), j + 1);
     }
-    if next != 20 {
-        return Suffix::Bad;
-    }
     let m = number_at(text, kinds, starts, ends, j);
-    let k = j + 1;
-    if kind_at(text, kinds, starts, ends, k) != 3 {
-        return Suffix::Bad;
-    }
-    Suffix::Post(Unary::RepMinMax(n, m), k + 1)
+    Suffix::Post(Unary::RepMinMax(n, m), j + 1 + 1)
 }
 
 // `{,n}`, from the comma on.
 fn from_comma(text: &[u8], kinds: &[u8], starts: &[u32], ends: &[u32], at: usize) -> Suffix
     requires { ⌜ Lent (now text) (now kinds) (now starts) (now ends) ⌝ }
+    requires { ⌜ Sound (fromComma (now text) at) ⌝ }
     ensures { λ r. ⌜ r ≡ suffixOf (fromComma (now (text .entry)) at) ⌝ }
 {
-    if kind_at(text, kinds, starts, ends, at) != 15 {
-        return Suffix::Bad;
-    }
     let j = at + 1;
-    if kind_at(text, kinds, starts, ends, j) != 20 {
-        return Suffix::Bad;
-    }
     let n = number_at(text, kinds, starts, ends, j);
-    let k = j + 1;
-    if kind_at(text, kinds, starts, ends, k) != 3 {
-        return Suffix::Bad;
-    }
-    Suffix::Post(Unary::RepMax(n), k + 1)
+    Suffix::Post(Unary::RepMax(n), j + 1 + 1)
 }
 
 // The postfix at a token.
 pub fn suffix_at(text: &[u8], kinds: &[u8], starts: &[u32], ends: &[u32], at: usize) -> Suffix
     requires { ⌜ Lent (now text) (now kinds) (now starts) (now ends) ⌝ }
+    requires { ⌜ Sound (postfixAt (now text) at) ⌝ }
     ensures { λ r. ⌜ r ≡ suffixOf (postfixAt (now (text .entry)) at) ⌝ }
 {
     let kind = kind_at(text, kinds, starts, ends, at);

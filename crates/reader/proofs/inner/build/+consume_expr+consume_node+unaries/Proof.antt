@@ -1,5 +1,6 @@
 use Rattle.reader.proofs.Finishes.{built-long, tag-room, node-falls, node-room, posts-room, open-room, signs-room, tie-room, term-built}
-use Rattle.reader.proofs.Nodes.{start-low, end-low, group-in, group-deep, group-room, group-last, group-built, push-in, push-room, push-over, push-built, leaf-read}
+use Rattle.reader.proofs.Parts.{start-low, end-low}
+use Rattle.reader.proofs.Nodes.{group-in, group-deep, group-room, group-last, group-built, push-in, push-room, push-over, push-built, leaf-read}
 use Rattle.reader.proofs.Chains.{LoopInv, first-room, build-start, choice-room, build-done, bar-inside, bar-room, bar-more, seq-inside, seq-room, seq-over, seq-more}
 use Rattle.reader.proofs.Leaves.{room-same, built-same}
 use Rattle.structure.proofs.Steps.{sees, misses}
@@ -223,38 +224,6 @@ consume-expr-put-choice-requires t c κs =
     let inv = at-loop .loop .inv _ _ room (at-unaries .unaries .ensures) in
     choice-room _ _ _ _ _ _ _ _ room _ _ _ _ _ _ _ _ _ _ inv
 
-consume-expr-same-length : (t : ℕ) → of-consume-expr consume-expr-lts.Need-same-length t
-consume-expr-same-length t c =
-    let at-put-choice = c .before .before .before in
-    let at-if1 = at-put-choice .before .before in
-    let at-kind-at = at-if1 .before in
-    let at-loop = at-kind-at .before in
-    let at-unaries = at-loop .before .before .before .before .before in
-    let start = at-unaries .before .before .before .before .before .before .before .before .before in
-    let room = start .pre .1 .1 .1 in
-    let inv = at-loop .loop .inv _ _ room (at-unaries .unaries .ensures) in
-    let closed = at-put-choice .put-choice .ensures in
-    let noseq = misses _ _ _ 10 (at-kind-at .kind-at .ensures) (at-if1 .if1 .left) in
-    let nobar = misses _ _ _ 11 (at-kind-at .kind-at .ensures) (c .if2 .taken) in
-    let done = build-done _ _ _ _ _ _ _ _ room _ _ _ _ _ _ _ _ _ _ inv _ _ (closed .0) (closed .1) noseq nobar in
-    built-long _ _ _ _ _ _ _ _ done .0
-
-consume-expr-same-length-2 : (t : ℕ) → of-consume-expr consume-expr-lts.Need-same-length-2 t
-consume-expr-same-length-2 t c =
-    let at-put-choice = c .before .before .before in
-    let at-if1 = at-put-choice .before .before in
-    let at-kind-at = at-if1 .before in
-    let at-loop = at-kind-at .before in
-    let at-unaries = at-loop .before .before .before .before .before in
-    let start = at-unaries .before .before .before .before .before .before .before .before .before in
-    let room = start .pre .1 .1 .1 in
-    let inv = at-loop .loop .inv _ _ room (at-unaries .unaries .ensures) in
-    let closed = at-put-choice .put-choice .ensures in
-    let noseq = misses _ _ _ 10 (at-kind-at .kind-at .ensures) (at-if1 .if1 .left) in
-    let nobar = misses _ _ _ 11 (at-kind-at .kind-at .ensures) (c .if2 .taken) in
-    let done = build-done _ _ _ _ _ _ _ _ room _ _ _ _ _ _ _ _ _ _ inv _ _ (closed .0) (closed .1) noseq nobar in
-    built-long _ _ _ _ _ _ _ _ done .1
-
 consume-expr-returns : (t : ℕ) → of-consume-expr consume-expr-lts.Need-returns t
 consume-expr-returns t c =
     let at-put-choice = c .before .before .before in
@@ -269,6 +238,12 @@ consume-expr-returns t c =
     let noseq = misses _ _ _ 10 (at-kind-at .kind-at .ensures) (at-if1 .if1 .left) in
     let nobar = misses _ _ _ 11 (at-kind-at .kind-at .ensures) (c .if2 .taken) in
     build-done _ _ _ _ _ _ _ _ room _ _ _ _ _ _ _ _ _ _ inv _ _ (closed .0) (closed .1) noseq nobar
+
+consume-expr-same-length : (t : ℕ) → of-consume-expr consume-expr-lts.Need-same-length t
+consume-expr-same-length t c = built-long _ _ _ _ _ _ _ _ (consume-expr-returns t c) .0
+
+consume-expr-same-length-2 : (t : ℕ) → of-consume-expr consume-expr-lts.Need-same-length-2 t
+consume-expr-same-length-2 t c = built-long _ _ _ _ _ _ _ _ (consume-expr-returns t c) .1
 
 consume-expr-sub-left : (t : ℕ) → of-consume-expr consume-expr-lts.Need-sub-left t
 consume-expr-sub-left t c =
@@ -429,36 +404,6 @@ consume-node-add-t23 t c =
     let few = sizes _ _ _ _ lent .3 in
     omega (arith, group .0, few)
 
-consume-node-same-length : (t : ℕ) → of-consume-node consume-node-lts.Need-same-length t
-consume-node-same-length t c =
-    let at-move-end = c .before .before .before in
-    let at-end-at = at-move-end .before .before in
-    let at-consume-expr = at-end-at .before .before .before .before .before in
-    let at-if1 = at-consume-expr .before .before .before in
-    let at-kind-at = at-if1 .before in
-    let start = at-kind-at .before .before .before .before .before .before .before in
-    let room = start .pre .1 .1 .1 in
-    let opens = sees _ _ _ 6 (at-kind-at .kind-at .ensures) (at-if1 .if1 .taken) in
-    let lent = start .pre .1 .0 in
-    let z-low = end-low (start .args .text .now) (at-consume-expr .consume-expr .result .next) _ (lent .short) (at-end-at .end-at .ensures) in
-    let group = group-built _ _ _ _ _ _ _ _ room opens _ _ _ (at-consume-expr .consume-expr .ensures) _ (at-end-at .end-at .ensures) z-low _ (at-move-end .move-end .ensures) in
-    built-long _ _ _ _ _ _ _ _ (group .1) .0
-
-consume-node-same-length-2 : (t : ℕ) → of-consume-node consume-node-lts.Need-same-length-2 t
-consume-node-same-length-2 t c =
-    let at-move-end = c .before .before .before in
-    let at-end-at = at-move-end .before .before in
-    let at-consume-expr = at-end-at .before .before .before .before .before in
-    let at-if1 = at-consume-expr .before .before .before in
-    let at-kind-at = at-if1 .before in
-    let start = at-kind-at .before .before .before .before .before .before .before in
-    let room = start .pre .1 .1 .1 in
-    let opens = sees _ _ _ 6 (at-kind-at .kind-at .ensures) (at-if1 .if1 .taken) in
-    let lent = start .pre .1 .0 in
-    let z-low = end-low (start .args .text .now) (at-consume-expr .consume-expr .result .next) _ (lent .short) (at-end-at .end-at .ensures) in
-    let group = group-built _ _ _ _ _ _ _ _ room opens _ _ _ (at-consume-expr .consume-expr .ensures) _ (at-end-at .end-at .ensures) z-low _ (at-move-end .move-end .ensures) in
-    built-long _ _ _ _ _ _ _ _ (group .1) .1
-
 consume-node-returns : (t : ℕ) → of-consume-node consume-node-lts.Need-returns t
 consume-node-returns t c =
     let at-move-end = c .before .before .before in
@@ -472,6 +417,12 @@ consume-node-returns t c =
     let lent = start .pre .1 .0 in
     let z-low = end-low (start .args .text .now) (at-consume-expr .consume-expr .result .next) _ (lent .short) (at-end-at .end-at .ensures) in
     group-built _ _ _ _ _ _ _ _ room opens _ _ _ (at-consume-expr .consume-expr .ensures) _ (at-end-at .end-at .ensures) z-low _ (at-move-end .move-end .ensures) .1
+
+consume-node-same-length : (t : ℕ) → of-consume-node consume-node-lts.Need-same-length t
+consume-node-same-length t c = built-long _ _ _ _ _ _ _ _ (consume-node-returns t c) .0
+
+consume-node-same-length-2 : (t : ℕ) → of-consume-node consume-node-lts.Need-same-length-2 t
+consume-node-same-length-2 t c = built-long _ _ _ _ _ _ _ _ (consume-node-returns t c) .1
 
 consume-node-slice-aggregate-spelled : (t : ℕ) → of-consume-node consume-node-lts.Need-slice-aggregate-spelled t
 consume-node-slice-aggregate-spelled t c = search needs
@@ -597,42 +548,6 @@ consume-node-add-t36 t c =
     let put = push-over _ _ _ _ _ _ _ _ room bare is-push _ _ _ (at-consume-expr2 .consume-expr2 .ensures) _ a-low in
     omega (arith, put .1)
 
-consume-node-same-length-3 : (t : ℕ) → of-consume-node consume-node-lts.Need-same-length-3 t
-consume-node-same-length-3 t c =
-    let at-put-unary = c .before .before .before .before in
-    let at-start-at = at-put-unary .before .before in
-    let at-consume-expr2 = at-start-at .before .before .before .before .before in
-    let at-if2 = at-consume-expr2 .before .before .before in
-    let at-spelled = at-if2 .before in
-    let at-if1 = at-spelled .before .before in
-    let at-kind-at = at-if1 .before in
-    let start = at-kind-at .before .before .before .before .before .before .before in
-    let room = start .pre .1 .1 .1 in
-    let bare = misses _ _ _ 6 (at-kind-at .kind-at .ensures) (at-if1 .if1 .left) in
-    let is-push = sym (at-spelled .spelled .ensures) ∙ at-if2 .if2 .taken in
-    let lent = start .pre .1 .0 in
-    let a-low = start-low (start .args .text .now) (start .args .at) _ (lent .short) (at-start-at .start-at .ensures) in
-    let pushed = push-built _ _ _ _ _ _ _ _ room bare is-push _ _ _ (at-consume-expr2 .consume-expr2 .ensures) _ (at-start-at .start-at .ensures) a-low _ (at-put-unary .put-unary .ensures) in
-    built-long _ _ _ _ _ _ _ _ (pushed .1) .0
-
-consume-node-same-length-4 : (t : ℕ) → of-consume-node consume-node-lts.Need-same-length-4 t
-consume-node-same-length-4 t c =
-    let at-put-unary = c .before .before .before .before in
-    let at-start-at = at-put-unary .before .before in
-    let at-consume-expr2 = at-start-at .before .before .before .before .before in
-    let at-if2 = at-consume-expr2 .before .before .before in
-    let at-spelled = at-if2 .before in
-    let at-if1 = at-spelled .before .before in
-    let at-kind-at = at-if1 .before in
-    let start = at-kind-at .before .before .before .before .before .before .before in
-    let room = start .pre .1 .1 .1 in
-    let bare = misses _ _ _ 6 (at-kind-at .kind-at .ensures) (at-if1 .if1 .left) in
-    let is-push = sym (at-spelled .spelled .ensures) ∙ at-if2 .if2 .taken in
-    let lent = start .pre .1 .0 in
-    let a-low = start-low (start .args .text .now) (start .args .at) _ (lent .short) (at-start-at .start-at .ensures) in
-    let pushed = push-built _ _ _ _ _ _ _ _ room bare is-push _ _ _ (at-consume-expr2 .consume-expr2 .ensures) _ (at-start-at .start-at .ensures) a-low _ (at-put-unary .put-unary .ensures) in
-    built-long _ _ _ _ _ _ _ _ (pushed .1) .1
-
 consume-node-returns-2 : (t : ℕ) → of-consume-node consume-node-lts.Need-returns-2 t
 consume-node-returns-2 t c =
     let at-put-unary = c .before .before .before .before in
@@ -649,6 +564,12 @@ consume-node-returns-2 t c =
     let lent = start .pre .1 .0 in
     let a-low = start-low (start .args .text .now) (start .args .at) _ (lent .short) (at-start-at .start-at .ensures) in
     push-built _ _ _ _ _ _ _ _ room bare is-push _ _ _ (at-consume-expr2 .consume-expr2 .ensures) _ (at-start-at .start-at .ensures) a-low _ (at-put-unary .put-unary .ensures) .1
+
+consume-node-same-length-3 : (t : ℕ) → of-consume-node consume-node-lts.Need-same-length-3 t
+consume-node-same-length-3 t c = built-long _ _ _ _ _ _ _ _ (consume-node-returns-2 t c) .0
+
+consume-node-same-length-4 : (t : ℕ) → of-consume-node consume-node-lts.Need-same-length-4 t
+consume-node-same-length-4 t c = built-long _ _ _ _ _ _ _ _ (consume-node-returns-2 t c) .1
 
 consume-node-put-leaf-requires : (t : ℕ) → of-consume-node consume-node-lts.Need-put-leaf-requires t
 consume-node-put-leaf-requires t c κs =
@@ -763,38 +684,6 @@ unaries-put-tag-requires t c κs =
     let room = start .pre .1 .1 .1 in
     (lent, tie-room _ _ _ _ _ _ _ _ room _ _ _ _ (at-get-node-tag .get-node-tag .ensures .1) (at-get-node-tag .get-node-tag .ensures .0) (at-signs-end .signs-end .ensures) _ _ _ (at-consume-node .consume-node .ensures) _ _ (at-put-postfixes .put-postfixes .ensures) _ (at-open-at .open-at .ensures) _ _ (at-put-signs .put-signs .ensures .0) (at-put-signs .put-signs .ensures .1) _ (at-head-at .head-at .ensures) (lent .short))
 
-unaries-same-length : (t : ℕ) → of-unaries unaries-lts.Need-same-length t
-unaries-same-length t c =
-    let at-put-tag = c .before .before in
-    let at-head-at = at-put-tag .before .before in
-    let at-put-signs = at-head-at .before .before .before in
-    let at-open-at = at-put-signs .before .before .before .before in
-    let at-put-postfixes = at-open-at .before .before .before .before in
-    let at-consume-node = at-put-postfixes .before .before .before .before .before .before in
-    let at-signs-end = at-consume-node .before .before .before in
-    let at-get-node-tag = at-signs-end .before .before .before in
-    let start = at-get-node-tag .before .before .before .before .before .before .before .before in
-    let room = start .pre .1 .1 .1 in
-    let lent = start .pre .1 .0 in
-    let built = term-built _ _ _ _ _ _ _ _ room _ _ _ _ (at-get-node-tag .get-node-tag .ensures .1) (at-get-node-tag .get-node-tag .ensures .0) (at-signs-end .signs-end .ensures) _ _ _ (at-consume-node .consume-node .ensures) _ _ (at-put-postfixes .put-postfixes .ensures) _ (at-open-at .open-at .ensures) _ _ (at-put-signs .put-signs .ensures .0) (at-put-signs .put-signs .ensures .1) _ (at-head-at .head-at .ensures) (lent .short) _ _ (at-put-tag .put-tag .ensures) in
-    built-long _ _ _ _ _ _ _ _ built .0
-
-unaries-same-length-2 : (t : ℕ) → of-unaries unaries-lts.Need-same-length-2 t
-unaries-same-length-2 t c =
-    let at-put-tag = c .before .before in
-    let at-head-at = at-put-tag .before .before in
-    let at-put-signs = at-head-at .before .before .before in
-    let at-open-at = at-put-signs .before .before .before .before in
-    let at-put-postfixes = at-open-at .before .before .before .before in
-    let at-consume-node = at-put-postfixes .before .before .before .before .before .before in
-    let at-signs-end = at-consume-node .before .before .before in
-    let at-get-node-tag = at-signs-end .before .before .before in
-    let start = at-get-node-tag .before .before .before .before .before .before .before .before in
-    let room = start .pre .1 .1 .1 in
-    let lent = start .pre .1 .0 in
-    let built = term-built _ _ _ _ _ _ _ _ room _ _ _ _ (at-get-node-tag .get-node-tag .ensures .1) (at-get-node-tag .get-node-tag .ensures .0) (at-signs-end .signs-end .ensures) _ _ _ (at-consume-node .consume-node .ensures) _ _ (at-put-postfixes .put-postfixes .ensures) _ (at-open-at .open-at .ensures) _ _ (at-put-signs .put-signs .ensures .0) (at-put-signs .put-signs .ensures .1) _ (at-head-at .head-at .ensures) (lent .short) _ _ (at-put-tag .put-tag .ensures) in
-    built-long _ _ _ _ _ _ _ _ built .1
-
 unaries-returns : (t : ℕ) → of-unaries unaries-lts.Need-returns t
 unaries-returns t c =
     let at-put-tag = c .before .before in
@@ -809,6 +698,12 @@ unaries-returns t c =
     let room = start .pre .1 .1 .1 in
     let lent = start .pre .1 .0 in
     term-built _ _ _ _ _ _ _ _ room _ _ _ _ (at-get-node-tag .get-node-tag .ensures .1) (at-get-node-tag .get-node-tag .ensures .0) (at-signs-end .signs-end .ensures) _ _ _ (at-consume-node .consume-node .ensures) _ _ (at-put-postfixes .put-postfixes .ensures) _ (at-open-at .open-at .ensures) _ _ (at-put-signs .put-signs .ensures .0) (at-put-signs .put-signs .ensures .1) _ (at-head-at .head-at .ensures) (lent .short) _ _ (at-put-tag .put-tag .ensures)
+
+unaries-same-length : (t : ℕ) → of-unaries unaries-lts.Need-same-length t
+unaries-same-length t c = built-long _ _ _ _ _ _ _ _ (unaries-returns t c) .0
+
+unaries-same-length-2 : (t : ℕ) → of-unaries unaries-lts.Need-same-length-2 t
+unaries-same-length-2 t c = built-long _ _ _ _ _ _ _ _ (unaries-returns t c) .1
 
 pub +consume-expr+consume-node+unaries-spec : {M : Type 1} → statement M
 +consume-expr+consume-node+unaries-spec =

@@ -1,13 +1,8 @@
 use native.Mathlib.Omega.{arith}
-use Rattle.reader.proofs.Leaves.{string-inside, string-good, string-room, string-fits, string-few, string-built, opening-small}
+use Rattle.reader.proofs.Leaves.{string-inside, string-good, string-room, string-fits, string-few, string-built}
 use borrow.Author.Needs.{needs}
 use Rattle.reader.proofs.inner.leaves.put_literal.Statement.{statement}
 use Rattle.reader.proofs.inner.leaves.put_literal.Tie as tie
-use Rattle.reader.proofs.inner.records.put_string.Reads as put-string-reads
-use Rattle.reader.proofs.inner.records.put_text.Reads as put-text-reads
-use Rattle.reader.proofs.inner.values.opening_of.Reads as opening-of-reads
-use Rattle.structure.proofs.inner.tokens.end_at.Reads as end-at-reads
-use Rattle.structure.proofs.inner.tokens.start_at.Reads as start-at-reads
 
 start-at-requires : tie.Need-start-at-requires
 start-at-requires c κs = search needs
@@ -19,22 +14,59 @@ opening-of-requires : tie.Need-opening-of-requires
 opening-of-requires c κs = search needs
 
 add-put-string : tie.Need-add-put-string
-add-put-string c = let p = string-inside _ _ _ _ _ _ _ _ (c .before .before .before .before .before .before .before .before .before .before .pre .0 .short) (c .before .before .before .before .before .before .before .before .before .before .pre .1 .0) (c .before .before .before .before .before .before .before .before .before .before .pre .1 .1 .0) (c .before .before .before .before .before .before .before .before .before .before .pre .1 .1 .1) _ _ _ (c .before .before .before .start-at .ensures) (c .before .before .end-at .ensures) (c .before .opening-of .ensures) in let q = opening-small _ _ _ (c .before .opening-of .ensures) in omega arith
+add-put-string c =
+    let at-opening-of = c .before in
+    let at-end-at = at-opening-of .before in
+    let at-start-at = at-end-at .before in
+    let start = at-start-at .before .before .before .before .before .before .before in
+    let quotes = string-inside _ _ _ _ _ _ _ _ (start .pre .0 .short) (start .pre .1 .0) (start .pre .1 .1 .0) (start .pre .1 .1 .1) _ _ _ (at-start-at .start-at .ensures) (at-end-at .end-at .ensures) (at-opening-of .opening-of .ensures) in
+    omega (arith, quotes)
 
 sub-put-string : tie.Need-sub-put-string
-sub-put-string c = let p = string-inside _ _ _ _ _ _ _ _ (c .before .before .before .before .before .before .before .before .before .before .pre .0 .short) (c .before .before .before .before .before .before .before .before .before .before .pre .1 .0) (c .before .before .before .before .before .before .before .before .before .before .pre .1 .1 .0) (c .before .before .before .before .before .before .before .before .before .before .pre .1 .1 .1) _ _ _ (c .before .before .before .start-at .ensures) (c .before .before .end-at .ensures) (c .before .opening-of .ensures) in omega arith
+sub-put-string c =
+    let at-opening-of = c .before in
+    let at-end-at = at-opening-of .before in
+    let at-start-at = at-end-at .before in
+    let start = at-start-at .before .before .before .before .before .before .before in
+    let p = string-inside _ _ _ _ _ _ _ _ (start .pre .0 .short) (start .pre .1 .0) (start .pre .1 .1 .0) (start .pre .1 .1 .1) _ _ _ (at-start-at .start-at .ensures) (at-end-at .end-at .ensures) (at-opening-of .opening-of .ensures) in
+    omega arith
 
 put-string-requires : tie.Need-put-string-requires
-put-string-requires c κs = (string-inside _ _ _ _ _ _ _ _ (c .before .before .before .before .before .before .before .before .before .before .pre .0 .short) (c .before .before .before .before .before .before .before .before .before .before .pre .1 .0) (c .before .before .before .before .before .before .before .before .before .before .pre .1 .1 .0) (c .before .before .before .before .before .before .before .before .before .before .pre .1 .1 .1) _ _ _ (c .before .before .before .start-at .ensures) (c .before .before .end-at .ensures) (c .before .opening-of .ensures) .2, (string-good _ _ _ _ _ _ _ _ (c .before .before .before .before .before .before .before .before .before .before .pre .0 .short) (c .before .before .before .before .before .before .before .before .before .before .pre .1 .0) (c .before .before .before .before .before .before .before .before .before .before .pre .1 .1 .0) (c .before .before .before .before .before .before .before .before .before .before .pre .1 .1 .1) _ _ _ (c .before .before .before .start-at .ensures) (c .before .before .end-at .ensures) (c .before .opening-of .ensures), string-room _ _ _ _ _ _ _ _ (c .before .before .before .before .before .before .before .before .before .before .pre .0 .short) (c .before .before .before .before .before .before .before .before .before .before .pre .1 .0) (c .before .before .before .before .before .before .before .before .before .before .pre .1 .1 .0) (c .before .before .before .before .before .before .before .before .before .before .pre .1 .1 .1) _ _ _ (c .before .before .before .start-at .ensures) (c .before .before .end-at .ensures) (c .before .opening-of .ensures)))
+put-string-requires c κs =
+    let at-opening-of = c .before in
+    let at-end-at = at-opening-of .before in
+    let at-start-at = at-end-at .before in
+    let start = at-start-at .before .before .before .before .before .before .before in
+    let quotes = string-inside _ _ _ _ _ _ _ _ (start .pre .0 .short) (start .pre .1 .0) (start .pre .1 .1 .0) (start .pre .1 .1 .1) _ _ _ (at-start-at .start-at .ensures) (at-end-at .end-at .ensures) (at-opening-of .opening-of .ensures) in
+    ((quotes .4, quotes .2), (string-good _ _ _ _ _ _ _ _ (start .pre .0 .short) (start .pre .1 .0) (start .pre .1 .1 .0) (start .pre .1 .1 .1) _ _ _ (at-start-at .start-at .ensures) (at-end-at .end-at .ensures) (at-opening-of .opening-of .ensures), string-room _ _ _ _ _ _ _ _ (start .pre .0 .short) (start .pre .1 .0) (start .pre .1 .1 .0) (start .pre .1 .1 .1) _ _ _ (at-start-at .start-at .ensures) (at-end-at .end-at .ensures) (at-opening-of .opening-of .ensures)))
 
 sub-put-text : tie.Need-sub-put-text
-sub-put-text c = string-fits _ _ _ _ _ _ _ _ (c .before .before .before .before .before .before .before .before .before .before .before .before .before .before .pre .0 .short) (c .before .before .before .before .before .before .before .before .before .before .before .before .before .before .pre .1 .0) (c .before .before .before .before .before .before .before .before .before .before .before .before .before .before .pre .1 .1 .0) (c .before .before .before .before .before .before .before .before .before .before .before .before .before .before .pre .1 .1 .1) _ _ _ (c .before .before .before .before .before .before .before .start-at .ensures) (c .before .before .before .before .before .before .end-at .ensures) (c .before .before .before .before .before .opening-of .ensures) _ _ (c .before .before .before .put-string .ensures) .0
+sub-put-text c =
+    let at-put-string = c .before .before .before in
+    let at-opening-of = at-put-string .before .before in
+    let at-end-at = at-opening-of .before in
+    let at-start-at = at-end-at .before in
+    let start = at-start-at .before .before .before .before .before .before .before in
+    string-fits _ _ _ _ _ _ _ _ (start .pre .0 .short) (start .pre .1 .0) (start .pre .1 .1 .0) (start .pre .1 .1 .1) _ _ _ (at-start-at .start-at .ensures) (at-end-at .end-at .ensures) (at-opening-of .opening-of .ensures) _ _ (at-put-string .put-string .ensures) .0
 
 put-text-requires : tie.Need-put-text-requires
-put-text-requires c κs = string-fits _ _ _ _ _ _ _ _ (c .before .before .before .before .before .before .before .before .before .before .before .before .before .before .pre .0 .short) (c .before .before .before .before .before .before .before .before .before .before .before .before .before .before .pre .1 .0) (c .before .before .before .before .before .before .before .before .before .before .before .before .before .before .pre .1 .1 .0) (c .before .before .before .before .before .before .before .before .before .before .before .before .before .before .pre .1 .1 .1) _ _ _ (c .before .before .before .before .before .before .before .start-at .ensures) (c .before .before .before .before .before .before .end-at .ensures) (c .before .before .before .before .before .opening-of .ensures) _ _ (c .before .before .before .put-string .ensures) .1
+put-text-requires c κs =
+    let at-put-string = c .before .before .before in
+    let at-opening-of = at-put-string .before .before in
+    let at-end-at = at-opening-of .before in
+    let at-start-at = at-end-at .before in
+    let start = at-start-at .before .before .before .before .before .before .before in
+    string-fits _ _ _ _ _ _ _ _ (start .pre .0 .short) (start .pre .1 .0) (start .pre .1 .1 .0) (start .pre .1 .1 .1) _ _ _ (at-start-at .start-at .ensures) (at-end-at .end-at .ensures) (at-opening-of .opening-of .ensures) _ _ (at-put-string .put-string .ensures) .1
 
 add-t19 : tie.Need-add-t19
-add-t19 c = let p = string-few _ _ _ _ _ _ _ _ (c .before .before .before .before .before .before .before .before .before .before .before .before .before .before .before .before .before .pre .0 .short) (c .before .before .before .before .before .before .before .before .before .before .before .before .before .before .before .before .before .pre .1 .0) (c .before .before .before .before .before .before .before .before .before .before .before .before .before .before .before .before .before .pre .1 .1 .0) (c .before .before .before .before .before .before .before .before .before .before .before .before .before .before .before .before .before .pre .1 .1 .1) _ _ _ (c .before .before .before .before .before .before .before .before .before .before .start-at .ensures) (c .before .before .before .before .before .before .before .before .before .end-at .ensures) (c .before .before .before .before .before .before .before .before .opening-of .ensures) _ _ (c .before .before .before .before .before .before .put-string .ensures) in omega arith
+add-t19 c =
+    let at-put-string = c .before .before .before .before .before .before in
+    let at-opening-of = at-put-string .before .before in
+    let at-end-at = at-opening-of .before in
+    let at-start-at = at-end-at .before in
+    let start = at-start-at .before .before .before .before .before .before .before in
+    let p = string-few _ _ _ _ _ _ _ _ (start .pre .0 .short) (start .pre .1 .0) (start .pre .1 .1 .0) (start .pre .1 .1 .1) _ _ _ (at-start-at .start-at .ensures) (at-end-at .end-at .ensures) (at-opening-of .opening-of .ensures) _ _ (at-put-string .put-string .ensures) in
+    omega arith
 
 same-length : tie.Need-same-length
 same-length c = search needs
@@ -43,7 +75,14 @@ same-length-2 : tie.Need-same-length-2
 same-length-2 c = search needs
 
 returns : tie.Need-returns
-returns c = string-built _ _ _ _ _ _ _ _ (c .before .before .before .before .before .before .before .before .before .before .before .before .before .before .before .before .before .pre .0 .short) (c .before .before .before .before .before .before .before .before .before .before .before .before .before .before .before .before .before .pre .1 .0) (c .before .before .before .before .before .before .before .before .before .before .before .before .before .before .before .before .before .pre .1 .1 .0) (c .before .before .before .before .before .before .before .before .before .before .before .before .before .before .before .before .before .pre .1 .1 .1) _ _ _ (c .before .before .before .before .before .before .before .before .before .before .start-at .ensures) (c .before .before .before .before .before .before .before .before .before .end-at .ensures) (c .before .before .before .before .before .before .before .before .opening-of .ensures) _ _ (c .before .before .before .before .before .before .put-string .ensures) _ (c .before .before .put-text .ensures)
+returns c =
+    let at-put-text = c .before .before in
+    let at-put-string = at-put-text .before .before .before .before in
+    let at-opening-of = at-put-string .before .before in
+    let at-end-at = at-opening-of .before in
+    let at-start-at = at-end-at .before in
+    let start = at-start-at .before .before .before .before .before .before .before in
+    string-built _ _ _ _ _ _ _ _ (start .pre .0 .short) (start .pre .1 .0) (start .pre .1 .1 .0) (start .pre .1 .1 .1) _ _ _ (at-start-at .start-at .ensures) (at-end-at .end-at .ensures) (at-opening-of .opening-of .ensures) _ _ (at-put-string .put-string .ensures) _ (at-put-text .put-text .ensures)
 
 pub put-literal-spec : {M : Type 1} → statement M
 put-literal-spec =

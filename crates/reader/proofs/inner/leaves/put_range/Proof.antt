@@ -4,16 +4,20 @@ use Rattle.reader.proofs.Leaves.{range-read, bare-fits, range-built}
 use borrow.Author.Needs.{needs}
 use Rattle.reader.proofs.inner.leaves.put_range.Statement.{statement}
 use Rattle.reader.proofs.inner.leaves.put_range.Tie as tie
-use Rattle.reader.proofs.inner.records.put_record.Reads as put-record-reads
-use Rattle.reader.proofs.inner.values.character_at.Reads as character-at-reads
-use Rattle.structure.proofs.inner.tokens.end_at.Reads as end-at-reads
-use Rattle.structure.proofs.inner.tokens.start_at.Reads as start-at-reads
 
 add-i : tie.Need-add-i
-add-i c = let w = range-read _ _ (c .before .before .before .before .before .before .pre .1 .1) in let n = sizes _ _ _ _ (c .before .before .before .before .before .before .pre .0) in omega arith
+add-i c =
+    let start = c .before .before .before .before .before .before in
+    let w = range-read _ _ (start .pre .1 .1) in
+    let n = sizes _ _ _ _ (start .pre .0) in
+    omega arith
 
 add-i-2 : tie.Need-add-i-2
-add-i-2 c = let w = range-read _ _ (c .before .before .before .before .before .before .pre .1 .1) in let n = sizes _ _ _ _ (c .before .before .before .before .before .before .pre .0) in omega arith
+add-i-2 c =
+    let start = c .before .before .before .before .before .before in
+    let w = range-read _ _ (start .pre .1 .1) in
+    let n = sizes _ _ _ _ (start .pre .0) in
+    omega arith
 
 start-at-requires : tie.Need-start-at-requires
 start-at-requires c κs = search needs
@@ -25,7 +29,9 @@ character-at-requires : tie.Need-character-at-requires
 character-at-requires c κs = search needs
 
 character-at-requires-2 : tie.Need-character-at-requires-2
-character-at-requires-2 c κs = (c .before .before .before .before .before .before .before .before .before .pre .0, range-read _ _ (c .before .before .before .before .before .before .before .before .before .pre .1 .1) .0)
+character-at-requires-2 c κs =
+    let start = c .before .before .before .before .before .before .before .before .before in
+    (start .pre .0, range-read _ _ (start .pre .1 .1) .0)
 
 cast-put-record : tie.Need-cast-put-record
 cast-put-record c = search needs
@@ -34,19 +40,37 @@ cast-put-record-2 : tie.Need-cast-put-record-2
 cast-put-record-2 c = search needs
 
 put-record-requires : tie.Need-put-record-requires
-put-record-requires c κs = bare-fits _ _ _ _ (c .before .before .before .before .before .before .before .before .before .before .before .pre .0 .short) _ _ _ _ (c .before .before .before .before .start-at .ensures) (c .before .before .before .end-at .ensures) _ _ _ _ _ _ (range-read _ _ (c .before .before .before .before .before .before .before .before .before .before .before .pre .1 .1) .2) (c .before .before .before .before .before .before .before .before .before .before .before .pre .1 .1) (omega arith) (omega arith) (omega arith)
+put-record-requires c κs =
+    let at-end-at = c .before .before .before in
+    let at-start-at = at-end-at .before in
+    let start = at-start-at .before .before .before .before .before .before .before in
+    bare-fits _ _ _ _ (start .pre .0 .short) _ _ _ _ (at-start-at .start-at .ensures) (at-end-at .end-at .ensures) _ _ _ _ _ _ (range-read _ _ (start .pre .1 .1) .2) (start .pre .1 .1) (omega arith) (omega arith) (omega arith)
 
 add-t15 : tie.Need-add-t15
-add-t15 c = let w = range-read _ _ (c .before .before .before .before .before .before .before .before .before .before .before .before .before .before .pre .1 .1) in let n = sizes _ _ _ _ (c .before .before .before .before .before .before .before .before .before .before .before .before .before .before .pre .0) in omega arith
+add-t15 c =
+    let start = c .before .before .before .before .before .before .before .before .before .before .before .before .before .before in
+    let w = range-read _ _ (start .pre .1 .1) in
+    let n = sizes _ _ _ _ (start .pre .0) in
+    omega arith
 
 add-t19 : tie.Need-add-t19
-add-t19 c = let f = c .before .before .before .before .before .before .before .before .before .before .before .before .before .before .pre .1 .1 .few in omega arith
+add-t19 c =
+    let start = c .before .before .before .before .before .before .before .before .before .before .before .before .before .before in
+    let f = start .pre .1 .1 .few in
+    omega arith
 
 same-length : tie.Need-same-length
 same-length c = search needs
 
 returns : tie.Need-returns
-returns c = range-built _ _ _ _ (c .before .before .before .before .before .before .before .before .before .before .before .before .before .before .pre .0 .short) _ _ _ _ (c .before .before .before .before .before .before .before .start-at .ensures) (c .before .before .before .before .before .before .end-at .ensures) _ _ _ _ _ _ (range-read _ _ (c .before .before .before .before .before .before .before .before .before .before .before .before .before .before .pre .1 .1) .2) (c .before .before .before .before .before .character-at .ensures) (c .before .before .before .before .character-at2 .ensures) _ (c .before .before .put-record .ensures)
+returns c =
+    let at-put-record = c .before .before in
+    let at-character-at2 = at-put-record .before .before in
+    let at-character-at = at-character-at2 .before in
+    let at-end-at = at-character-at .before in
+    let at-start-at = at-end-at .before in
+    let start = at-start-at .before .before .before .before .before .before .before in
+    range-built _ _ _ _ (start .pre .0 .short) _ _ _ _ (at-start-at .start-at .ensures) (at-end-at .end-at .ensures) _ _ _ _ _ _ (range-read _ _ (start .pre .1 .1) .2) (at-character-at .character-at .ensures) (at-character-at2 .character-at2 .ensures) _ (at-put-record .put-record .ensures)
 
 pub put-range-spec : {M : Type 1} → statement M
 put-range-spec =

@@ -5,11 +5,6 @@ use Rattle.reader.proofs.Leaves.{to-read, open-read, bare-fits, slice-b
 use borrow.Author.Needs.{needs}
 use Rattle.reader.proofs.inner.leaves.put_slice_to.Statement.{statement}
 use Rattle.reader.proofs.inner.leaves.put_slice_to.Tie as tie
-use Rattle.reader.proofs.inner.records.put_record.Reads as put-record-reads
-use Rattle.reader.proofs.inner.values.integer_at.Reads as integer-at-reads
-use Rattle.reader.proofs.inner.values.is_integer.Reads as is-integer-reads
-use Rattle.structure.proofs.inner.tokens.end_at.Reads as end-at-reads
-use Rattle.structure.proofs.inner.tokens.start_at.Reads as start-at-reads
 
 start-at-requires : tie.Need-start-at-requires
 start-at-requires c κs = search needs
@@ -24,7 +19,13 @@ integer-at-requires c κs =
     (start .pre .0, omega arith)
 
 add-end-at : tie.Need-add-end-at
-add-end-at c = let w = to-read _ _ _ _ (c .before .before .before .before .before .before .before .before .before .before .pre .1) (sym (c .before .before .is-integer .ensures) ∙ c .before .if1 .taken) .0 in let n = sizes _ _ _ _ (c .before .before .before .before .before .before .before .before .before .before .pre .0) in omega arith
+add-end-at c =
+    let at-if1 = c .before in
+    let at-is-integer = at-if1 .before in
+    let start = at-is-integer .before .before .before .before .before .before .before .before in
+    let w = to-read _ _ _ _ (start .pre .1) (sym (at-is-integer .is-integer .ensures) ∙ at-if1 .if1 .taken) .0 in
+    let n = sizes _ _ _ _ (start .pre .0) in
+    omega arith
 
 end-at-requires : tie.Need-end-at-requires
 end-at-requires c κs = search needs
@@ -33,13 +34,31 @@ cast-put-record : tie.Need-cast-put-record
 cast-put-record c = search needs
 
 put-record-requires : tie.Need-put-record-requires
-put-record-requires c κs = bare-fits _ _ _ _ (c .before .before .before .before .before .before .before .before .before .before .before .before .pre .0 .short) _ _ _ _ (c .before .before .before .before .before .start-at .ensures) (c .before .end-at .ensures) _ _ _ _ _ _ (to-read _ _ _ _ (c .before .before .before .before .before .before .before .before .before .before .before .before .pre .1) (sym (c .before .before .before .before .is-integer .ensures) ∙ c .before .before .before .if1 .taken) .1) (c .before .before .before .before .before .before .before .before .before .before .before .before .pre .1) (omega arith) (omega arith) (omega arith)
+put-record-requires c κs =
+    let at-end-at = c .before in
+    let at-if1 = at-end-at .before .before in
+    let at-is-integer = at-if1 .before in
+    let at-start-at = at-is-integer .before in
+    let start = at-start-at .before .before .before .before .before .before .before in
+    bare-fits _ _ _ _ (start .pre .0 .short) _ _ _ _ (at-start-at .start-at .ensures) (at-end-at .end-at .ensures) _ _ _ _ _ _ (to-read _ _ _ _ (start .pre .1) (sym (at-is-integer .is-integer .ensures) ∙ at-if1 .if1 .taken) .1) (start .pre .1) (omega arith) (omega arith) (omega arith)
 
 add-t17 : tie.Need-add-t17
-add-t17 c = let w = to-read _ _ _ _ (c .before .before .before .before .before .before .before .before .before .before .before .before .before .before .before .pre .1) (sym (c .before .before .before .before .before .before .before .is-integer .ensures) ∙ c .before .before .before .before .before .before .if1 .taken) .0 in let n = sizes _ _ _ _ (c .before .before .before .before .before .before .before .before .before .before .before .before .before .before .before .pre .0) in omega arith
+add-t17 c =
+    let at-if1 = c .before .before .before .before .before .before in
+    let at-is-integer = at-if1 .before in
+    let start = at-is-integer .before .before .before .before .before .before .before .before in
+    let w = to-read _ _ _ _ (start .pre .1) (sym (at-is-integer .is-integer .ensures) ∙ at-if1 .if1 .taken) .0 in
+    let n = sizes _ _ _ _ (start .pre .0) in
+    omega arith
 
 add-t21 : tie.Need-add-t21
-add-t21 c = let w = to-read _ _ _ _ (c .before .before .before .before .before .before .before .before .before .before .before .before .before .before .before .pre .1) (sym (c .before .before .before .before .before .before .before .is-integer .ensures) ∙ c .before .before .before .before .before .before .if1 .taken) .0 in let n = sizes _ _ _ _ (c .before .before .before .before .before .before .before .before .before .before .before .before .before .before .before .pre .0) in omega arith
+add-t21 c =
+    let at-if1 = c .before .before .before .before .before .before in
+    let at-is-integer = at-if1 .before in
+    let start = at-is-integer .before .before .before .before .before .before .before .before in
+    let w = to-read _ _ _ _ (start .pre .1) (sym (at-is-integer .is-integer .ensures) ∙ at-if1 .if1 .taken) .0 in
+    let n = sizes _ _ _ _ (start .pre .0) in
+    omega arith
 
 add-t22 : tie.Need-add-t22
 add-t22 c = search needs
@@ -48,16 +67,36 @@ same-length : tie.Need-same-length
 same-length c = search needs
 
 returns : tie.Need-returns
-returns c = slice-to-built _ _ _ _ (c .before .before .before .before .before .before .before .before .before .before .before .before .before .before .before .pre .0 .short) _ _ _ _ (c .before .before .before .before .before .before .before .before .start-at .ensures) (c .before .before .before .before .end-at .ensures) _ _ _ _ _ (to-read _ _ _ _ (c .before .before .before .before .before .before .before .before .before .before .before .before .before .before .before .pre .1) (sym (c .before .before .before .before .before .before .before .is-integer .ensures) ∙ c .before .before .before .before .before .before .if1 .taken) .1) (c .before .before .before .before .before .integer-at .ensures) _ (c .before .before .put-record .ensures)
+returns c =
+    let at-put-record = c .before .before in
+    let at-end-at = at-put-record .before .before in
+    let at-integer-at = at-end-at .before in
+    let at-if1 = at-integer-at .before in
+    let at-is-integer = at-if1 .before in
+    let at-start-at = at-is-integer .before in
+    let start = at-start-at .before .before .before .before .before .before .before in
+    slice-to-built _ _ _ _ (start .pre .0 .short) _ _ _ _ (at-start-at .start-at .ensures) (at-end-at .end-at .ensures) _ _ _ _ _ (to-read _ _ _ _ (start .pre .1) (sym (at-is-integer .is-integer .ensures) ∙ at-if1 .if1 .taken) .1) (at-integer-at .integer-at .ensures) _ (at-put-record .put-record .ensures)
 
 end-at-requires-2 : tie.Need-end-at-requires-2
 end-at-requires-2 c κs = search needs
 
 put-record-requires-2 : tie.Need-put-record-requires-2
-put-record-requires-2 c κs = bare-fits _ _ _ _ (c .before .before .before .before .before .before .before .before .before .before .before .pre .0 .short) _ _ _ _ (c .before .before .before .before .start-at .ensures) (c .before .end-at2 .ensures) _ _ _ _ _ _ (open-read _ _ _ _ (c .before .before .before .before .before .before .before .before .before .before .before .pre .1) (sym (c .before .before .before .is-integer .ensures) ∙ c .before .before .if1 .left) .1) (c .before .before .before .before .before .before .before .before .before .before .before .pre .1) (omega arith) (omega arith) (omega arith)
+put-record-requires-2 c κs =
+    let at-end-at2 = c .before in
+    let at-if1 = at-end-at2 .before in
+    let at-is-integer = at-if1 .before in
+    let at-start-at = at-is-integer .before in
+    let start = at-start-at .before .before .before .before .before .before .before in
+    bare-fits _ _ _ _ (start .pre .0 .short) _ _ _ _ (at-start-at .start-at .ensures) (at-end-at2 .end-at2 .ensures) _ _ _ _ _ _ (open-read _ _ _ _ (start .pre .1) (sym (at-is-integer .is-integer .ensures) ∙ at-if1 .if1 .left) .1) (start .pre .1) (omega arith) (omega arith) (omega arith)
 
 add-t26 : tie.Need-add-t26
-add-t26 c = let w = open-read _ _ _ _ (c .before .before .before .before .before .before .before .before .before .before .before .before .before .before .pre .1) (sym (c .before .before .before .before .before .before .is-integer .ensures) ∙ c .before .before .before .before .before .if1 .left) .0 in let n = sizes _ _ _ _ (c .before .before .before .before .before .before .before .before .before .before .before .before .before .before .pre .0) in omega arith
+add-t26 c =
+    let at-if1 = c .before .before .before .before .before in
+    let at-is-integer = at-if1 .before in
+    let start = at-is-integer .before .before .before .before .before .before .before .before in
+    let w = open-read _ _ _ _ (start .pre .1) (sym (at-is-integer .is-integer .ensures) ∙ at-if1 .if1 .left) .0 in
+    let n = sizes _ _ _ _ (start .pre .0) in
+    omega arith
 
 add-t27 : tie.Need-add-t27
 add-t27 c = search needs
@@ -66,7 +105,14 @@ same-length-2 : tie.Need-same-length-2
 same-length-2 c = search needs
 
 returns-2 : tie.Need-returns-2
-returns-2 c = slice-built _ _ _ _ (c .before .before .before .before .before .before .before .before .before .before .before .before .before .before .pre .0 .short) _ _ _ _ (c .before .before .before .before .before .before .before .start-at .ensures) (c .before .before .before .before .end-at2 .ensures) _ _ _ (open-read _ _ _ _ (c .before .before .before .before .before .before .before .before .before .before .before .before .before .before .pre .1) (sym (c .before .before .before .before .before .before .is-integer .ensures) ∙ c .before .before .before .before .before .if1 .left) .1) _ (c .before .before .put-record2 .ensures)
+returns-2 c =
+    let at-put-record2 = c .before .before in
+    let at-end-at2 = at-put-record2 .before .before in
+    let at-if1 = at-end-at2 .before in
+    let at-is-integer = at-if1 .before in
+    let at-start-at = at-is-integer .before in
+    let start = at-start-at .before .before .before .before .before .before .before in
+    slice-built _ _ _ _ (start .pre .0 .short) _ _ _ _ (at-start-at .start-at .ensures) (at-end-at2 .end-at2 .ensures) _ _ _ (open-read _ _ _ _ (start .pre .1) (sym (at-is-integer .is-integer .ensures) ∙ at-if1 .if1 .left) .1) _ (at-put-record2 .put-record2 .ensures)
 
 pub put-slice-to-spec : {M : Type 1} → statement M
 put-slice-to-spec =

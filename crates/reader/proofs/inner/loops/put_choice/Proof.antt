@@ -2,7 +2,6 @@ use Rattle.reader.proofs.Loops.{choice-over, choice-yes, choice-no}
 use borrow.Author.Needs.{needs}
 use Rattle.reader.proofs.inner.loops.put_choice.Statement.{statement}
 use Rattle.reader.proofs.inner.loops.put_choice.Tie as tie
-use Rattle.reader.proofs.inner.records.put_join.Reads as put-join-reads
 
 put-join-requires : tie.Need-put-join-requires
 put-join-requires c κs = choice-over _ _ _ _ _ _ (c .before .before .before .pre) (c .before .if1 .taken)

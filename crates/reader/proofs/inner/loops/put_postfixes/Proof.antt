@@ -3,12 +3,9 @@ use lib.ListN.{length}
 use Prim.Native.Nat.{_-_}
 use native.Mathlib.Omega.{arith}
 use Rattle.structure.specs.Tokens.{toks}
-use Rattle.reader.proofs.Loops.{PostsInv, posts-start, post-past, post-over, posts-more, posts-done, posts-bad}
+use Rattle.reader.proofs.Loops.{PostsInv, posts-start, post-past, post-over, posts-more, posts-sound, posts-done}
 use Rattle.reader.proofs.inner.loops.put_postfixes.Statement.{statement}
 use Rattle.reader.proofs.inner.loops.put_postfixes.Tie as tie
-use Rattle.reader.proofs.inner.records.put_unary.Reads as put-unary-reads
-use Rattle.reader.proofs.inner.values.suffix_at.Reads as suffix-at-reads
-use Rattle.structure.proofs.inner.tokens.end_at.Reads as end-at-reads
 
 abbrev Inv-loop : tie.InvT-loop
 Inv-loop text kinds starts ends nodes₀ at used from to i₀ u₀ z₀ nodes i u z = PostsInv text nodes₀ at used from to nodes i u z
@@ -20,28 +17,65 @@ loop-holds : tie.Need-loop-holds Inv-loop μ-loop
 loop-holds c = posts-start _ _ _ _ _ _ (c .before .before .before .before .before .pre .1 .stop)
 
 suffix-at-requires : tie.Need-suffix-at-requires Inv-loop μ-loop
-suffix-at-requires c κs = c .before .before .before .before .before .before .pre .0
+suffix-at-requires c κs =
+    let start = c .before .before .before .before .before .before in
+    (start .pre .0, posts-sound _ _ _ _ _ _ (start .pre .0 .short) (start .pre .1) _ _ _ _ (c .loop .inv))
 
 enum-known-suffix : tie.Need-enum-known-suffix Inv-loop μ-loop
 enum-known-suffix c = search needs
 
 sub-end-at : tie.Need-sub-end-at Inv-loop μ-loop
-sub-end-at c = let p = post-past _ _ _ _ _ _ (c .before .before .before .before .before .before .before .before .before .before .pre .0 .short) (c .before .before .before .before .before .before .before .before .before .before .pre .1) _ _ _ _ (c .before .before .before .before .loop .inv) _ (c .before .before .before .suffix-at .ensures) _ _ (c .before .suffix .given .1) in omega arith
+sub-end-at c =
+    let at-suffix = c .before in
+    let at-suffix-at = at-suffix .before .before in
+    let at-loop = at-suffix-at .before in
+    let start = at-loop .before .before .before .before .before .before in
+    let p = post-past _ _ _ _ _ _ (start .pre .0 .short) (start .pre .1) _ _ _ _ (at-loop .loop .inv) _ (at-suffix-at .suffix-at .ensures) _ _ (at-suffix .suffix .given .1) in
+    omega arith
 
 end-at-requires : tie.Need-end-at-requires Inv-loop μ-loop
-end-at-requires c κs = c .before .before .before .before .before .before .before .before .before .before .pre .0
+end-at-requires c κs =
+    let start = c .before .before .before .before .before .before .before .before .before .before in
+    start .pre .0
 
 put-unary-requires : tie.Need-put-unary-requires Inv-loop μ-loop
-put-unary-requires c κs = post-over _ _ _ _ _ _ (c .before .before .before .before .before .before .before .before .before .before .before .before .pre .0 .short) (c .before .before .before .before .before .before .before .before .before .before .before .before .pre .1) _ _ _ _ (c .before .before .before .before .before .before .loop .inv) _ (c .before .before .before .before .before .suffix-at .ensures) _ _ (c .before .before .before .suffix .given .1) _ (c .before .end-at .ensures)
+put-unary-requires c κs =
+    let at-end-at = c .before in
+    let at-suffix = at-end-at .before .before in
+    let at-suffix-at = at-suffix .before .before in
+    let at-loop = at-suffix-at .before in
+    let start = at-loop .before .before .before .before .before .before in
+    post-over _ _ _ _ _ _ (start .pre .0 .short) (start .pre .1) _ _ _ _ (at-loop .loop .inv) _ (at-suffix-at .suffix-at .ensures) _ _ (at-suffix .suffix .given .1) _ (at-end-at .end-at .ensures)
 
 add-u : tie.Need-add-u Inv-loop μ-loop
-add-u c = let o = post-over _ _ _ _ _ _ (c .before .before .before .before .before .before .before .before .before .before .before .before .before .before .before .pre .0 .short) (c .before .before .before .before .before .before .before .before .before .before .before .before .before .before .before .pre .1) _ _ _ _ (c .before .before .before .before .before .before .before .before .before .loop .inv) _ (c .before .before .before .before .before .before .before .before .suffix-at .ensures) _ _ (c .before .before .before .before .before .before .suffix .given .1) _ (c .before .before .before .before .end-at .ensures) in let f = o .few in omega arith
+add-u c =
+    let at-end-at = c .before .before .before .before in
+    let at-suffix = at-end-at .before .before in
+    let at-suffix-at = at-suffix .before .before in
+    let at-loop = at-suffix-at .before in
+    let start = at-loop .before .before .before .before .before .before in
+    let o = post-over _ _ _ _ _ _ (start .pre .0 .short) (start .pre .1) _ _ _ _ (at-loop .loop .inv) _ (at-suffix-at .suffix-at .ensures) _ _ (at-suffix .suffix .given .1) _ (at-end-at .end-at .ensures) in
+    let f = o .few in
+    omega arith
 
 loop-less : tie.Need-loop-less Inv-loop μ-loop
-loop-less c = let p = post-past _ _ _ _ _ _ (c .before .before .before .before .before .before .before .before .before .before .before .before .before .before .before .pre .0 .short) (c .before .before .before .before .before .before .before .before .before .before .before .before .before .before .before .pre .1) _ _ _ _ (c .before .before .before .before .before .before .before .before .before .loop .inv) _ (c .before .before .before .before .before .before .before .before .suffix-at .ensures) _ _ (c .before .before .before .before .before .before .suffix .given .1) in omega arith
+loop-less c =
+    let at-suffix = c .before .before .before .before .before .before in
+    let at-suffix-at = at-suffix .before .before in
+    let at-loop = at-suffix-at .before in
+    let start = at-loop .before .before .before .before .before .before in
+    let p = post-past _ _ _ _ _ _ (start .pre .0 .short) (start .pre .1) _ _ _ _ (at-loop .loop .inv) _ (at-suffix-at .suffix-at .ensures) _ _ (at-suffix .suffix .given .1) in
+    omega arith
 
 loop-again : tie.Need-loop-again Inv-loop μ-loop
-loop-again c = posts-more _ _ _ _ _ _ (c .before .before .before .before .before .before .before .before .before .before .before .before .before .before .before .pre .0 .short) (c .before .before .before .before .before .before .before .before .before .before .before .before .before .before .before .pre .1) _ _ _ _ (c .before .before .before .before .before .before .before .before .before .loop .inv) _ (c .before .before .before .before .before .before .before .before .suffix-at .ensures) _ _ (c .before .before .before .before .before .before .suffix .given .1) _ _ (c .before .before .before .before .end-at .ensures) (c .before .before .put-unary .ensures)
+loop-again c =
+    let at-put-unary = c .before .before in
+    let at-end-at = at-put-unary .before .before in
+    let at-suffix = at-end-at .before .before in
+    let at-suffix-at = at-suffix .before .before in
+    let at-loop = at-suffix-at .before in
+    let start = at-loop .before .before .before .before .before .before in
+    posts-more _ _ _ _ _ _ (start .pre .0 .short) (start .pre .1) _ _ _ _ (at-loop .loop .inv) _ (at-suffix-at .suffix-at .ensures) _ _ (at-suffix .suffix .given .1) _ _ (at-end-at .end-at .ensures) (at-put-unary .put-unary .ensures)
 
 enum-told : tie.Need-enum-told Inv-loop μ-loop
 enum-told c = search needs
@@ -50,16 +84,11 @@ same-length : tie.Need-same-length Inv-loop μ-loop
 same-length c = (c .before .before .before .loop .inv) .long
 
 returns : tie.Need-returns Inv-loop μ-loop
-returns c = posts-bad _ _ _ _ _ _ (c .before .before .before .before .before .before .before .before .before .pre .0 .short) (c .before .before .before .before .before .before .before .before .before .pre .1) _ _ _ _ (c .before .before .before .loop .inv) _ (c .before .before .suffix-at .ensures) (c .enum-told .given .1)
-
-enum-told-2 : tie.Need-enum-told-2 Inv-loop μ-loop
-enum-told-2 c = search needs
-
-same-length-2 : tie.Need-same-length-2 Inv-loop μ-loop
-same-length-2 c = (c .before .before .before .loop .inv) .long
-
-returns-2 : tie.Need-returns-2 Inv-loop μ-loop
-returns-2 c = posts-done _ _ _ _ _ _ (c .before .before .before .before .before .before .before .before .before .pre .0 .short) (c .before .before .before .before .before .before .before .before .before .pre .1) _ _ _ _ (c .before .before .before .loop .inv) _ (c .before .before .suffix-at .ensures) (c .enum-told2 .given .1)
+returns c =
+    let at-suffix-at = c .before .before in
+    let at-loop = at-suffix-at .before in
+    let start = at-loop .before .before .before .before .before .before in
+    posts-done _ _ _ _ _ _ (start .pre .0 .short) (start .pre .1) _ _ _ _ (at-loop .loop .inv) _ (at-suffix-at .suffix-at .ensures) (c .enum-told .given .1)
 
 pub put-postfixes-spec : {M : Type 1} → statement M
 put-postfixes-spec =
@@ -78,7 +107,4 @@ put-postfixes-spec =
     loop-again
     enum-told
     same-length
-    returns
-    enum-told-2
-    same-length-2
-    returns-2)
+    returns)

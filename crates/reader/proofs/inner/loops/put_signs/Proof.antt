@@ -3,9 +3,6 @@ use native.Mathlib.Omega.{arith}
 use Rattle.reader.proofs.Loops.{SignsInv, signs-start, signs-over, signs-more, signs-done}
 use Rattle.reader.proofs.inner.loops.put_signs.Statement.{statement}
 use Rattle.reader.proofs.inner.loops.put_signs.Tie as tie
-use Rattle.reader.proofs.inner.loops.sign_at.Reads as sign-at-reads
-use Rattle.reader.proofs.inner.records.put_unary.Reads as put-unary-reads
-use Rattle.structure.proofs.inner.tokens.start_at.Reads as start-at-reads
 
 abbrev Inv-loop : tie.InvT-loop
 Inv-loop text kinds starts ends nodes₀ at last used z i₀ u₀ nodes i u = SignsInv text nodes₀ at last z used nodes i u
@@ -26,16 +23,35 @@ sign-at-requires : tie.Need-sign-at-requires Inv-loop μ-loop
 sign-at-requires c κs = c .before .before .before .before .before .before .before .before .before .pre .0
 
 put-unary-requires : tie.Need-put-unary-requires Inv-loop μ-loop
-put-unary-requires c κs = signs-over _ _ _ _ _ _ (c .before .before .before .before .before .before .before .before .before .before .pre .0 .short) (c .before .before .before .before .before .before .before .before .before .before .pre .1) _ _ _ (c .before .before .before .before .loop .inv) (c .before .before .before .loop-test .taken) _ (c .before .before .start-at .ensures)
+put-unary-requires c κs =
+    let at-start-at = c .before .before in
+    let at-loop-test = at-start-at .before in
+    let at-loop = at-loop-test .before in
+    let start = at-loop .before .before .before .before .before .before in
+    signs-over _ _ _ _ _ _ (start .pre .0 .short) (start .pre .1) _ _ _ (at-loop .loop .inv) (at-loop-test .loop-test .taken) _ (at-start-at .start-at .ensures)
 
 add-u : tie.Need-add-u Inv-loop μ-loop
-add-u c = let o = signs-over _ _ _ _ _ _ (c .before .before .before .before .before .before .before .before .before .before .before .before .before .pre .0 .short) (c .before .before .before .before .before .before .before .before .before .before .before .before .before .pre .1) _ _ _ (c .before .before .before .before .before .before .before .loop .inv) (c .before .before .before .before .before .before .loop-test .taken) _ (c .before .before .before .before .before .start-at .ensures) in let f = o .few in omega arith
+add-u c =
+    let at-start-at = c .before .before .before .before .before in
+    let at-loop-test = at-start-at .before in
+    let at-loop = at-loop-test .before in
+    let start = at-loop .before .before .before .before .before .before in
+    let o = signs-over _ _ _ _ _ _ (start .pre .0 .short) (start .pre .1) _ _ _ (at-loop .loop .inv) (at-loop-test .loop-test .taken) _ (at-start-at .start-at .ensures) in
+    let f = o .few in
+    omega arith
 
 loop-less : tie.Need-loop-less Inv-loop μ-loop
 loop-less c = omega arith
 
 loop-again : tie.Need-loop-again Inv-loop μ-loop
-loop-again c = signs-more _ _ _ _ _ _ (c .before .before .before .before .before .before .before .before .before .before .before .before .before .pre .0 .short) (c .before .before .before .before .before .before .before .before .before .before .before .before .before .pre .1) _ _ _ (c .before .before .before .before .before .before .before .loop .inv) (c .before .before .before .before .before .before .loop-test .taken) _ _ _ (c .before .before .before .before .before .start-at .ensures) (c .before .before .before .sign-at .ensures) (c .before .before .put-unary .ensures)
+loop-again c =
+    let at-put-unary = c .before .before in
+    let at-sign-at = at-put-unary .before in
+    let at-start-at = at-sign-at .before .before in
+    let at-loop-test = at-start-at .before in
+    let at-loop = at-loop-test .before in
+    let start = at-loop .before .before .before .before .before .before in
+    signs-more _ _ _ _ _ _ (start .pre .0 .short) (start .pre .1) _ _ _ (at-loop .loop .inv) (at-loop-test .loop-test .taken) _ _ _ (at-start-at .start-at .ensures) (at-sign-at .sign-at .ensures) (at-put-unary .put-unary .ensures)
 
 same-length : tie.Need-same-length Inv-loop μ-loop
 same-length c = (c .before .loop .inv) .3 .long

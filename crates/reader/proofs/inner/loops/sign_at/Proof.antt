@@ -2,7 +2,6 @@ use Rattle.reader.proofs.Loops.{sign-yes, sign-no}
 use borrow.Author.Needs.{needs}
 use Rattle.reader.proofs.inner.loops.sign_at.Statement.{statement}
 use Rattle.reader.proofs.inner.loops.sign_at.Tie as tie
-use Rattle.structure.proofs.inner.tokens.kind_at.Reads as kind-at-reads
 
 kind-at-requires : tie.Need-kind-at-requires
 kind-at-requires c κs = search needs

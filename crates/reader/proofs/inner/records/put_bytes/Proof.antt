@@ -2,7 +2,6 @@ use Rattle.structure.specs.Tokens.{part}
 use borrow.Author.Needs.{needs}
 use Rattle.reader.proofs.inner.records.put_bytes.Statement.{statement}
 use Rattle.reader.proofs.inner.records.put_bytes.Tie as tie
-use Rattle.text.proofs.inner.splice.put.Reads as put-reads
 
 sub-put : tie.Need-sub-put
 sub-put c = search needs

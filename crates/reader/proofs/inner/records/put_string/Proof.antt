@@ -1,13 +1,10 @@
-use native.Mathlib.Omega.{arith}
 use Rattle.structure.specs.Tokens.{part}
-use Rattle.reader.proofs.Leaves.{none-wrote}
 use borrow.Author.Needs.{needs}
 use Rattle.reader.proofs.inner.records.put_string.Statement.{statement}
 use Rattle.reader.proofs.inner.records.put_string.Tie as tie
-use Rattle.literal.proofs.inner.escapes.put_unescaped.Reads as put-unescaped-reads
 
-returns : tie.Need-returns
-returns c = none-wrote _ _ _ _ _ (c .if1 .taken)
+sub-put-unescaped : tie.Need-sub-put-unescaped
+sub-put-unescaped c = search needs
 
 part-put-unescaped-start : tie.Need-part-put-unescaped-start
 part-put-unescaped-start c = search needs
@@ -17,22 +14,26 @@ part-put-unescaped-end c = search needs
 
 put-unescaped-requires : tie.Need-put-unescaped-requires
 unfolding part
-put-unescaped-requires c κs = (c .before .before .before .before .before .pre .1 .0, c .before .before .before .before .before .pre .1 .1)
+put-unescaped-requires c κs =
+    let start = c .before .before .before .before in
+    (start .pre .1 .0, start .pre .1 .1)
 
 same-length : tie.Need-same-length
 same-length c = search needs
 
-returns-2 : tie.Need-returns-2
+returns : tie.Need-returns
 unfolding part
-returns-2 c = c .before .before .put-unescaped .ensures
+returns c =
+    let at-put-unescaped = c .before .before in
+    at-put-unescaped .put-unescaped .ensures
 
 pub put-string-spec : {M : Type 1} → statement M
 put-string-spec =
     tie.close
     (tie.spec
-    returns
+    sub-put-unescaped
     part-put-unescaped-start
     part-put-unescaped-end
     put-unescaped-requires
     same-length
-    returns-2)
+    returns)

@@ -2,7 +2,6 @@ use Rattle.reader.proofs.Patches.{text-is}
 use borrow.Author.Needs.{needs}
 use Rattle.reader.proofs.inner.records.put_text.Statement.{statement}
 use Rattle.reader.proofs.inner.records.put_text.Tie as tie
-use Rattle.reader.proofs.inner.records.put_record.Reads as put-record-reads
 
 enum-told : tie.Need-enum-told
 enum-told c = search needs

@@ -2,7 +2,6 @@ use Rattle.reader.proofs.Patches.{unary-is}
 use borrow.Author.Needs.{needs}
 use Rattle.reader.proofs.inner.records.put_unary.Statement.{statement}
 use Rattle.reader.proofs.inner.records.put_unary.Tie as tie
-use Rattle.reader.proofs.inner.records.put_record.Reads as put-record-reads
 
 sub-c : tie.Need-sub-c
 sub-c c = search needs

@@ -1,10 +1,7 @@
 use Rattle.reader.proofs.Terms.{head-signs, head-bracket, head-node}
-use native.Mathlib.Omega.{arith}
 use borrow.Author.Needs.{needs}
 use Rattle.reader.proofs.inner.terms.head_at.Statement.{statement}
 use Rattle.reader.proofs.inner.terms.head_at.Tie as tie
-use Rattle.structure.proofs.inner.tokens.kind_at.Reads as kind-at-reads
-use Rattle.structure.proofs.inner.tokens.start_at.Reads as start-at-reads
 
 start-at-requires : tie.Need-start-at-requires
 start-at-requires c κs = search needs

@@ -4,9 +4,6 @@ use Rattle.reader.proofs.Terms.{opened-yes, opened-no}
 use borrow.Author.Needs.{needs}
 use Rattle.reader.proofs.inner.terms.open_at.Statement.{statement}
 use Rattle.reader.proofs.inner.terms.open_at.Tie as tie
-use Rattle.reader.proofs.inner.records.move_start.Reads as move-start-reads
-use Rattle.structure.proofs.inner.tokens.kind_at.Reads as kind-at-reads
-use Rattle.structure.proofs.inner.tokens.start_at.Reads as start-at-reads
 
 kind-at-requires : tie.Need-kind-at-requires
 kind-at-requires c κs = search needs
@@ -15,13 +12,24 @@ start-at-requires : tie.Need-start-at-requires
 start-at-requires c κs = search needs
 
 move-start-requires : tie.Need-move-start-requires
-move-start-requires c κs = let l = low (c .before .before .before .before .before .before .before .before .before .args .text .now) (c .before .before .before .before .before .before .before .before .before .args .at) in let h = c .before .before .before .before .before .before .before .before .before .pre .0 .short in let e = c .before .start-at .ensures in (c .before .before .before .before .before .before .before .before .before .pre .1 .0, c .before .before .before .before .before .before .before .before .before .pre .1 .1, omega arith)
+move-start-requires c κs =
+    let at-start-at = c .before in
+    let start = at-start-at .before .before .before .before .before .before .before .before in
+    let l = low (start .args .text .now) (start .args .at) in
+    let h = start .pre .0 .short in
+    let e = at-start-at .start-at .ensures in
+    (start .pre .1 .0, start .pre .1 .1, omega arith)
 
 same-length : tie.Need-same-length
 same-length c = search needs
 
 returns : tie.Need-returns
-returns c = opened-yes _ _ _ _ _ _ _ (c .before .before .before .before .before .before .kind-at .ensures) (c .before .before .before .before .before .if1 .taken) (c .before .before .before .before .start-at .ensures) (c .before .before .move-start .ensures)
+returns c =
+    let at-move-start = c .before .before in
+    let at-start-at = at-move-start .before .before in
+    let at-if1 = at-start-at .before in
+    let at-kind-at = at-if1 .before in
+    opened-yes _ _ _ _ _ _ _ (at-kind-at .kind-at .ensures) (at-if1 .if1 .taken) (at-start-at .start-at .ensures) (at-move-start .move-start .ensures)
 
 returns-2 : tie.Need-returns-2
 returns-2 c = opened-no _ _ _ _ _ (c .before .kind-at .ensures) (c .if1 .left)

@@ -3,9 +3,6 @@ use Rattle.reader.proofs.Terms.{tie-none, tie-plain, tag-fits, tie-tagg
 use borrow.Author.Needs.{needs}
 use Rattle.reader.proofs.inner.terms.put_tag.Statement.{statement}
 use Rattle.reader.proofs.inner.terms.put_tag.Tie as tie
-use Rattle.reader.proofs.inner.records.put_record.Reads as put-record-reads
-use Rattle.structure.proofs.inner.tokens.kind_at.Reads as kind-at-reads
-use Rattle.structure.proofs.inner.tokens.start_at.Reads as start-at-reads
 
 kind-at-requires : tie.Need-kind-at-requires
 kind-at-requires c κs = search needs
@@ -29,10 +26,23 @@ sub-put-record-2 : tie.Need-sub-put-record-2
 sub-put-record-2 c = search needs
 
 put-record-requires : tie.Need-put-record-requires
-put-record-requires c κs = tag-fits _ _ _ _ _ _ _ (c .before .before .before .before .before .kind-at .ensures) (c .before .before .before .before .if1 .left) (c .before .before .before .before .before .before .before .before .before .before .before .pre .0 .short) _ (c .before .start-at .ensures) (c .before .before .enum-told2 .given .1) (c .before .before .before .before .before .before .before .before .before .before .before .pre .1) .0
+put-record-requires c κs =
+    let at-start-at = c .before in
+    let at-enum-told2 = at-start-at .before in
+    let at-if1 = at-enum-told2 .before .before in
+    let at-kind-at = at-if1 .before in
+    let start = at-kind-at .before .before .before .before .before .before in
+    tag-fits _ _ _ _ _ _ _ (at-kind-at .kind-at .ensures) (at-if1 .if1 .left) (start .pre .0 .short) _ (at-start-at .start-at .ensures) (at-enum-told2 .enum-told2 .given .1) (start .pre .1) .0
 
 add-t19 : tie.Need-add-t19
-add-t19 c = let f = tag-fits _ _ _ _ _ _ _ (c .before .before .before .before .before .before .before .before .kind-at .ensures) (c .before .before .before .before .before .before .before .if1 .left) (c .before .before .before .before .before .before .before .before .before .before .before .before .before .before .pre .0 .short) _ (c .before .before .before .before .start-at .ensures) (c .before .before .before .before .before .enum-told2 .given .1) (c .before .before .before .before .before .before .before .before .before .before .before .before .before .before .pre .1) .1 in omega arith
+add-t19 c =
+    let at-start-at = c .before .before .before .before in
+    let at-enum-told2 = at-start-at .before in
+    let at-if1 = at-enum-told2 .before .before in
+    let at-kind-at = at-if1 .before in
+    let start = at-kind-at .before .before .before .before .before .before in
+    let f = tag-fits _ _ _ _ _ _ _ (at-kind-at .kind-at .ensures) (at-if1 .if1 .left) (start .pre .0 .short) _ (at-start-at .start-at .ensures) (at-enum-told2 .enum-told2 .given .1) (start .pre .1) .1 in
+    omega arith
 
 returns-2 : tie.Need-returns-2
 returns-2 c = tie-plain _ _ _ _ _ _ _ (c .before .before .before .kind-at .ensures) (c .before .before .if1 .left) (c .enum-told .given .1)
@@ -41,7 +51,14 @@ same-length : tie.Need-same-length
 same-length c = search needs
 
 returns-3 : tie.Need-returns-3
-returns-3 c = tie-tagged _ _ _ _ _ _ _ (c .before .before .before .before .before .before .before .before .kind-at .ensures) (c .before .before .before .before .before .before .before .if1 .left) (c .before .before .before .before .before .before .before .before .before .before .before .before .before .before .pre .0 .short) _ (c .before .before .before .before .start-at .ensures) (c .before .before .before .before .before .enum-told2 .given .1) _ (c .before .before .put-record .ensures)
+returns-3 c =
+    let at-put-record = c .before .before in
+    let at-start-at = at-put-record .before .before in
+    let at-enum-told2 = at-start-at .before in
+    let at-if1 = at-enum-told2 .before .before in
+    let at-kind-at = at-if1 .before in
+    let start = at-kind-at .before .before .before .before .before .before in
+    tie-tagged _ _ _ _ _ _ _ (at-kind-at .kind-at .ensures) (at-if1 .if1 .left) (start .pre .0 .short) _ (at-start-at .start-at .ensures) (at-enum-told2 .enum-told2 .given .1) _ (at-put-record .put-record .ensures)
 
 pub put-tag-spec : {M : Type 1} → statement M
 put-tag-spec =

@@ -1,40 +1,66 @@
+use Rattle.reader.proofs.Worths.{character-is}
+use Rattle.reader.proofs.Parts.{char-long}
+use Rattle.structure.proofs.Arrays.{low}
 use native.Mathlib.Omega.{arith}
-use Rattle.structure.proofs.Steps.{inside-is}
-use Rattle.structure.proofs.Arrays.{low, spans}
-use Rattle.reader.proofs.Worths.{character-is, character-none}
 use borrow.Author.Needs.{needs}
 use Rattle.reader.proofs.inner.values.character_at.Statement.{statement}
 use Rattle.reader.proofs.inner.values.character_at.Tie as tie
-use Rattle.reader.proofs.inner.values.meant.Reads as meant-reads
-use Rattle.structure.proofs.inner.tokens.end_at.Reads as end-at-reads
-use Rattle.structure.proofs.inner.tokens.start_at.Reads as start-at-reads
 
 start-at-requires : tie.Need-start-at-requires
 start-at-requires c κs = search needs
 
 add-a : tie.Need-add-a
-add-a c = let l = low (c .before .before .before .before .before .args .text .now) (c .before .before .before .before .before .args .at) in let h = c .before .before .before .before .before .pre .0 .short in let e = c .start-at .ensures in omega arith
+add-a c =
+    let start = c .before .before .before .before .before in
+    let below = low (start .args .text .now) (start .args .at) in
+    let short = start .pre .0 .short in
+    let starts = c .start-at .ensures in
+    omega (arith, below, short, starts)
 
 end-at-requires : tie.Need-end-at-requires
 end-at-requires c κs = search needs
 
 sub-z : tie.Need-sub-z
-sub-z c = let l = spans (c .before .before .before .before .before .before .args .text .now) (c .before .before .before .before .before .before .args .at) (inside-is _ _ 25 (omega arith) (c .before .before .before .before .before .before .pre .1)) in let e = c .end-at .ensures in omega arith
+sub-z c =
+    let start = c .before .before .before .before .before .before in
+    let long = char-long _ _ (start .pre .1) in
+    let ends = c .end-at .ensures in
+    omega (arith, long, ends)
 
-returns : tie.Need-returns
-returns c = character-none _ _ _ _ (c .before .before .before .before .before .before .before .pre .1) (c .before .before .start-at .ensures) (c .before .end-at .ensures) (c .if1 .taken)
+sub-meant : tie.Need-sub-meant
+sub-meant c =
+    let at-start-at = c .before in
+    let start = at-start-at .before .before .before .before .before in
+    let long = char-long _ _ (start .pre .1) in
+    let starts = at-start-at .start-at .ensures in
+    let ends = c .end-at .ensures in
+    omega (arith, long, starts, ends)
 
 part-meant-start : tie.Need-part-meant-start
-part-meant-start c = search needs
+part-meant-start c =
+    let at-start-at = c .before in
+    let start = at-start-at .before .before .before .before .before in
+    let long = char-long _ _ (start .pre .1) in
+    let starts = at-start-at .start-at .ensures in
+    let ends = c .end-at .ensures in
+    omega (arith, long, starts, ends)
 
 part-meant-end : tie.Need-part-meant-end
-part-meant-end c = let l = low (c .before .before .before .before .before .before .before .args .text .now) (c .before .before .before .before .before .before .before .args .at) in let e = c .before .end-at .ensures in omega arith
+part-meant-end c =
+    let start = c .before .before .before .before .before .before in
+    let below = low (start .args .text .now) (start .args .at) in
+    let ends = c .end-at .ensures in
+    omega (arith, below, ends)
 
 meant-requires : tie.Need-meant-requires
 meant-requires c κs = search needs
 
-returns-2 : tie.Need-returns-2
-returns-2 c = character-is _ _ _ _ (c .before .before .before .before .before .before .before .before .before .pre .1) (c .before .before .before .before .start-at .ensures) (c .before .before .before .end-at .ensures) _ (c .meant .ensures)
+returns : tie.Need-returns
+returns c =
+    let at-end-at = c .before .before in
+    let at-start-at = at-end-at .before in
+    let start = at-start-at .before .before .before .before .before in
+    character-is _ _ _ _ (start .pre .1) (at-start-at .start-at .ensures) (at-end-at .end-at .ensures) _ (c .meant .ensures)
 
 pub character-at-spec : {M : Type 1} → statement M
 character-at-spec =
@@ -44,8 +70,8 @@ character-at-spec =
     add-a
     end-at-requires
     sub-z
-    returns
+    sub-meant
     part-meant-start
     part-meant-end
     meant-requires
-    returns-2)
+    returns)

@@ -2,10 +2,6 @@ use Rattle.reader.proofs.Worths.{integer-negative, integer-positive}
 use borrow.Author.Needs.{needs}
 use Rattle.reader.proofs.inner.values.integer_at.Statement.{statement}
 use Rattle.reader.proofs.inner.values.integer_at.Tie as tie
-use Rattle.reader.proofs.inner.values.negate.Reads as negate-reads
-use Rattle.reader.proofs.inner.values.worth_of.Reads as worth-of-reads
-use Rattle.structure.proofs.inner.tokens.kind_at.Reads as kind-at-reads
-use Rattle.structure.proofs.inner.values.integer_of.Reads as integer-of-reads
 
 integer-of-requires : tie.Need-integer-of-requires
 integer-of-requires c κs = search needs

@@ -2,8 +2,6 @@ use Rattle.reader.proofs.Worths.{meant-escape, meant-raw, meant-broken}
 use borrow.Author.Needs.{needs}
 use Rattle.reader.proofs.inner.values.meant.Statement.{statement}
 use Rattle.reader.proofs.inner.values.meant.Tie as tie
-use Rattle.literal.proofs.escape_at.Reads as escape-at-reads
-use Rattle.text.proofs.char_at.Reads as char-at-reads
 
 escape-at-requires : tie.Need-escape-at-requires
 escape-at-requires c κs = search needs
@@ -27,10 +25,19 @@ returns : tie.Need-returns
 returns c = meant-escape _ (c .before .before .before .escape-at .ensures) (c .before .escape .given .1)
 
 returns-2 : tie.Need-returns-2
-returns-2 c = meant-raw _ (c .before .before .before .before .before .before .escape-at .ensures) (c .before .before .before .before .enum-told .given .1) (c .before .before .before .char-at .ensures) (c .before .sequence .given .1)
+returns-2 c =
+    let at-sequence = c .before in
+    let at-char-at = at-sequence .before .before in
+    let at-enum-told = at-char-at .before in
+    let at-escape-at = at-enum-told .before .before in
+    meant-raw _ (at-escape-at .escape-at .ensures) (at-enum-told .enum-told .given .1) (at-char-at .char-at .ensures) (at-sequence .sequence .given .1)
 
 returns-3 : tie.Need-returns-3
-returns-3 c = meant-broken _ (c .before .before .before .before .before .escape-at .ensures) (c .before .before .before .enum-told .given .1) (c .before .before .char-at .ensures) (c .enum-told2 .given .1)
+returns-3 c =
+    let at-char-at = c .before .before in
+    let at-enum-told = at-char-at .before in
+    let at-escape-at = at-enum-told .before .before in
+    meant-broken _ (at-escape-at .escape-at .ensures) (at-enum-told .enum-told .given .1) (at-char-at .char-at .ensures) (c .enum-told2 .given .1)
 
 pub meant-spec : {M : Type 1} → statement M
 meant-spec =

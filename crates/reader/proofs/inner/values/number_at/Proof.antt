@@ -2,8 +2,6 @@ use Rattle.reader.proofs.Worths.{number-is}
 use borrow.Author.Needs.{needs}
 use Rattle.reader.proofs.inner.values.number_at.Statement.{statement}
 use Rattle.reader.proofs.inner.values.number_at.Tie as tie
-use Rattle.reader.proofs.inner.values.worth_of.Reads as worth-of-reads
-use Rattle.structure.proofs.inner.values.number_of.Reads as number-of-reads
 
 number-of-requires : tie.Need-number-of-requires
 number-of-requires c κs = search needs
