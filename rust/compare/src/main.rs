@@ -205,6 +205,10 @@ fn hold_real(text: &str, pairs: &mut Tally, faults: &mut Tally) {
     if !matches!(recognized, Answer::Read(_)) {
         return pairs.add(format!("2.5.2: {} in both", label(&recognized)), bytes);
     }
+    // The validator that 2.5.2 runs before it gives a tree takes quadratic time.
+    if text.len() > 2_000 {
+        return pairs.add("2.5.2: long, pairs alone compared, alike".to_string(), bytes);
+    }
     let real = oracle::real::read(text);
     let given = oracle::read(text, false);
     let good = match (&real, &given) {
@@ -235,11 +239,6 @@ fn compare_texts(seed: u64, scale: usize) -> bool {
             not_utf8 += 1;
             return;
         };
-        // Recursion of the Rust over texts far beyond all limits shows nothing.
-        if source == Source::Limit && bytes.len() > 20_000 && !text.contains("a={b}") {
-            ways.add("long: not asked of the Rust".to_string(), bytes);
-            return;
-        }
         hold(text, true, &mut ways, &mut faults);
         hold(text, false, &mut ways, &mut faults);
         if is_old(text) {
