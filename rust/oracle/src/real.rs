@@ -79,6 +79,12 @@ pub fn build(text: &str) -> usize {
     rules.len()
 }
 
+/// The recognizer alone, for a measurement. The text must be good.
+pub fn parse(text: &str) {
+    let pairs = parser::parse(parser::Rule::grammar_rules, text).expect("recognized");
+    std::hint::black_box(&pairs);
+}
+
 /// Whether the names of a text that the recognizer takes pass the crate's check of them.
 pub fn names_pass(text: &str) -> bool {
     match parser::parse(parser::Rule::grammar_rules, text) {
