@@ -9,15 +9,16 @@ pub mod tree;
 
 use std::panic::{catch_unwind, AssertUnwindSafe};
 
+use pest::error::{Error, ErrorVariant, InputLocation};
 use pest_meta_tagged::ast;
 pub use tree::{Expr, Node, Rule, Tables};
 
-/// Read; or refused, and by which half; or a panic.
+/// Read; or refused, by which half and at which place; or a panic.
 #[derive(Clone, Debug, PartialEq, Eq)]
 pub enum Answer<T> {
     Read(T),
-    NotRecognized,
-    NotBuilt(String),
+    NotRecognized(usize),
+    NotBuilt(usize, String),
     Panicked(String),
     /// The call limit was reached before an answer was known.
     GaveUp,
@@ -36,13 +37,22 @@ pub(crate) fn caught<T>(work: impl FnOnce() -> Answer<T>) -> Answer<T> {
     })
 }
 
-pub(crate) fn refusal<T, R: pest::RuleType>(error: pest::error::Error<R>) -> Answer<T> {
-    match error.variant {
-        pest::error::ErrorVariant::CustomError { message } if message.contains("call limit") => {
-            Answer::GaveUp
-        }
-        _ => Answer::NotRecognized,
+pub(crate) fn place<R: pest::RuleType>(error: &Error<R>) -> usize {
+    match error.location {
+        InputLocation::Pos(place) => place,
+        InputLocation::Span((start, _)) => start,
     }
+}
+
+pub(crate) fn not_recognized<T, R: pest::RuleType>(error: Error<R>) -> Answer<T> {
+    match &error.variant {
+        ErrorVariant::CustomError { message } if message.contains("call limit") => Answer::GaveUp,
+        _ => Answer::NotRecognized(place(&error)),
+    }
+}
+
+pub(crate) fn not_built<T, R: pest::RuleType>(errors: &[Error<R>]) -> Answer<T> {
+    Answer::NotBuilt(place(&errors[0]), errors[0].variant.message().to_string())
 }
 
 /// A pair of the recognizer's: its depth, rule and span.
@@ -91,7 +101,7 @@ macro_rules! level {
                 caught(|| {
                     let pairs = match parser::parse(parser::Rule::grammar_rules, text) {
                         Ok(pairs) => pairs,
-                        Err(error) => return refusal(error),
+                        Err(error) => return not_recognized(error),
                     };
                     match parser::rules_with_spans(pairs) {
                         Ok(rules) => Answer::Read(
@@ -112,7 +122,7 @@ macro_rules! level {
                                 })
                                 .collect(),
                         ),
-                        Err(errors) => Answer::NotBuilt(errors[0].variant.message().to_string()),
+                        Err(errors) => not_built(&errors),
                     }
                 })
             }
@@ -127,7 +137,7 @@ macro_rules! level {
             pub fn recognize(text: &str) -> Answer<Vec<Found>> {
                 caught(|| match parser::parse(parser::Rule::grammar_rules, text) {
                     Ok(pairs) => Answer::Read(crate::found(pairs)),
-                    Err(error) => refusal(error),
+                    Err(error) => not_recognized(error),
                 })
             }
         }

@@ -4,7 +4,7 @@
 use pest_meta::ast::{self, RuleType};
 use pest_meta::parser;
 
-use crate::{caught, found, refusal, Answer, Expr, Found, Node, Rule};
+use crate::{caught, found, not_built, not_recognized, Answer, Expr, Found, Node, Rule};
 
 fn copy(expr: &ast::Expr) -> Node {
     let boxed = |expr: &ast::Expr| Box::new(copy(expr));
@@ -36,7 +36,7 @@ pub fn read(text: &str) -> Answer<Vec<Rule>> {
     caught(|| {
         let pairs = match parser::parse(parser::Rule::grammar_rules, text) {
             Ok(pairs) => pairs,
-            Err(error) => return refusal(error),
+            Err(error) => return not_recognized(error),
         };
         match parser::consume_rules(pairs) {
             Ok(rules) => Answer::Read(
@@ -57,7 +57,7 @@ pub fn read(text: &str) -> Answer<Vec<Rule>> {
                     })
                     .collect(),
             ),
-            Err(errors) => Answer::NotBuilt(errors[0].variant.message().to_string()),
+            Err(errors) => not_built(&errors),
         }
     })
 }
@@ -66,7 +66,7 @@ pub fn read(text: &str) -> Answer<Vec<Rule>> {
 pub fn recognize(text: &str) -> Answer<Vec<Found>> {
     caught(|| match parser::parse(parser::Rule::grammar_rules, text) {
         Ok(pairs) => Answer::Read(found(pairs)),
-        Err(error) => refusal(error),
+        Err(error) => not_recognized(error),
     })
 }
 
