@@ -1,5 +1,5 @@
 //! The comparison. `--seed N` (default 1); `--scale N`, hundredths of the full run (default
-//! 100). Ends with 1 if anything is different and not explained.
+//! 100); `--only PART` (texts, tables, characters, product). Ends with 1 if anything is different and not explained.
 
 use std::collections::BTreeMap;
 use std::time::Instant;
@@ -437,7 +437,11 @@ fn main() {
         ("product", 8 << 20, Box::new(move || compare_product(seed, scale))),
     ];
     let mut good = true;
+    let only = std::env::args().skip_while(|a| a != "--only").nth(1);
     for (name, stack, part) in &parts {
+        if only.as_ref().is_some_and(|only| only != name) {
+            continue;
+        }
         let start = Instant::now();
         good &= on_stack(*stack, || part());
         println!("{name}: {:.1} s", start.elapsed().as_secs_f64());
