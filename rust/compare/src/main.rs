@@ -7,7 +7,7 @@ use std::time::Instant;
 use compare::texts::Source;
 use compare::{argument, on_stack, quiet_panics, shown, tables, texts, trees};
 use oracle::{Answer, Tables};
-use second::token::{Next, BAR, OPEN_ROUND};
+use second::token::{Next, BAR};
 
 /// Counts under names, each with its smallest text.
 #[derive(Default)]
@@ -103,19 +103,19 @@ fn repaired(text: &[u8], tagged: bool) -> (Vec<u8>, Vec<Way>) {
                 Way::InnerCommentOpen
             }
             (4, Some(b'|')) => {
-                // One bar, right after a bracket.
-                let (mut before, mut at) = (None, 0);
+                // One bar, right after a bracket that holds an expression.
+                let (mut before, mut at) = (Vec::new(), 0);
                 let after = loop {
                     let Next::Token(token) = second::token::next(&text, at) else { break None };
                     if token.start as usize > place {
                         break Some(token.kind);
                     }
-                    if (token.start as usize) < place {
-                        before = Some(token.kind);
-                    }
                     at = token.end as usize;
+                    before.push(&text[token.start as usize..at]);
                 };
-                if before != Some(OPEN_ROUND) || after == Some(BAR) {
+                let opened = before.ends_with(&[b"(", b"|"]);
+                let literal = before.ends_with(&[b"PUSH_LITERAL", b"(", b"|"]);
+                if !opened || literal || after == Some(BAR) {
                     break;
                 }
                 text.remove(place);
