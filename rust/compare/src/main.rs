@@ -7,6 +7,7 @@ use std::time::Instant;
 use compare::texts::Source;
 use compare::{argument, on_stack, quiet_panics, shown, tables, texts, trees};
 use oracle::{Answer, Tables};
+use second::read::Used;
 use second::token::{Next, BAR};
 
 /// Counts under names, each with its smallest text.
@@ -64,7 +65,8 @@ fn pest_blanks(text: &[u8], mut place: usize) -> usize {
             place += 2;
         } else if let Some(end) = pest_comment(text, place, &mut 10_000) {
             place = end;
-        } else if rest.starts_with(b"//") && !rest.starts_with(b"///") && !rest.starts_with(b"//!") {
+        } else if rest.starts_with(b"//") && !rest.starts_with(b"///") && !rest.starts_with(b"//!")
+        {
             let ends = |i: &usize| rest[*i] == b'\n' || rest[*i..].starts_with(b"\r\n");
             place += (0..rest.len()).find(ends).unwrap_or(rest.len());
         } else {
@@ -148,7 +150,19 @@ fn hold(text: &str, tagged: bool, ways: &mut Tally, faults: &mut Tally) -> &'sta
     let rust = oracle::read(text, tagged);
     let rust_label = label(&rust);
     let ours = second::read::tables(bytes, tagged);
-    let number = ours.as_ref().err().map_or(0, |refusal| refusal.number);
+    // With all the room in the world, the limits stay.
+    let number = match &ours {
+        Ok(made) => {
+            let used = Used {
+                nodes: made.nodes.len() / 6,
+                rules: made.rules.len() / 6,
+                store: made.store.len(),
+            };
+            let room = second::read::room(used, usize::MAX, usize::MAX, usize::MAX);
+            room.err().map_or(0, |refusal| refusal.number)
+        }
+        Err(refusal) => refusal.number,
+    };
     ways.add(format!("{level}: ours {number}, the Rust: {rust_label}"), bytes);
     if let (Ok(ours), Answer::Read(rules)) = (&ours, &rust) {
         if kept(ours.clone()) != Tables::of(rules) {
@@ -156,9 +170,14 @@ fn hold(text: &str, tagged: bool, ways: &mut Tally, faults: &mut Tally) -> &'sta
         }
         return rust_label;
     }
-    if let (Err(refusal), Answer::NotRecognized(place) | Answer::NotBuilt(place, _)) = (&ours, &rust) {
+    if let (Err(refusal), Answer::NotRecognized(place) | Answer::NotBuilt(place, _)) =
+        (&ours, &rust)
+    {
         let alike = if refusal.place == *place as u64 { "the same" } else { "another" };
-        ways.add(format!("{level}: ours {number}, the Rust: {rust_label}, at {alike} place"), bytes);
+        ways.add(
+            format!("{level}: ours {number}, the Rust: {rust_label}, at {alike} place"),
+            bytes,
+        );
     }
     // No limits there; and unclosed comments can take it exponential time.
     if number == 1 || number == 9 || number == 3 && matches!(rust, Answer::GaveUp) {
@@ -224,6 +243,9 @@ fn hold_real(text: &str, pairs: &mut Tally, faults: &mut Tally) {
         (Answer::Panicked(_), Answer::Panicked(_)) => true,
         _ => false,
     };
+    if matches!(real, Answer::Read(_)) && !oracle::real::names_pass(text) {
+        pairs.add("2.5.2: read; `validate_pairs` finds fault with names".to_string(), bytes);
+    }
     let name = format!("2.5.2: {}, given files: {}", label(&real), label(&given));
     if good {
         pairs.add(name, bytes);
@@ -315,7 +337,11 @@ fn back(rules: Vec<trees::Rule>, text: &[u8], answers: &mut Tally, faults: &mut 
         Err(refusal) if refusal.number == 6 && zero => {
             answers.add("back: a zero count is refused".to_string(), text);
         }
-        Err(refusal) if refusal.number == 9 || refusal.number == 1 || refusal.number == 4 && text.is_empty() => {
+        Err(refusal)
+            if refusal.number == 9
+                || refusal.number == 1
+                || refusal.number == 4 && text.is_empty() =>
+        {
             answers.add(format!("back: {}", refusal.number), text);
         }
         _ => faults.add("NOT BACK, tagged".to_string(), text),
@@ -326,14 +352,20 @@ fn back(rules: Vec<trees::Rule>, text: &[u8], answers: &mut Tally, faults: &mut 
         .collect();
     match second::read::tables(text, false) {
         Ok(read)
-            if !zero && !literal && kept(read.clone()).without_spans() == trees::tables(&untagged) =>
+            if !zero
+                && !literal
+                && kept(read.clone()).without_spans() == trees::tables(&untagged) =>
         {
             answers.add("back, plain".to_string(), text);
         }
         Err(refusal) if matches!(refusal.number, 6 | 13) && (zero || literal) => {
             answers.add("back, plain: a zero count or PUSH_LITERAL is refused".to_string(), text);
         }
-        Err(refusal) if refusal.number == 9 || refusal.number == 1 || refusal.number == 4 && text.is_empty() => {
+        Err(refusal)
+            if refusal.number == 9
+                || refusal.number == 1
+                || refusal.number == 4 && text.is_empty() =>
+        {
             answers.add(format!("back, plain: {}", refusal.number), text);
         }
         _ => faults.add("NOT BACK, plain".to_string(), text),
@@ -357,8 +389,8 @@ fn compare_characters() -> bool {
         let string = print([1, 0, 0, 1, text.len() as u32, 0]);
         let range = print([3, 0, 0, character as u32, character as u32, 0]);
         let quoted = oracle::fmt_literal(&text, '\'');
-        let same = oracle::fmt_literal(&text, '"') == string
-            && format!("({quoted}..{quoted})") == range;
+        let same =
+            oracle::fmt_literal(&text, '"') == string && format!("({quoted}..{quoted})") == range;
         if same {
             alike += 1;
         } else {
@@ -378,7 +410,11 @@ fn compare_characters() -> bool {
         let time = start.elapsed().as_secs_f64() * 1e6;
         println!("{open} comments, none closed: 2.5.2: {}, after {time:.0} µs", label(&answer));
     }
-    println!("`unescape` of \\x+4: {:?}; of \\u{{+4}}: {:?}", oracle::unescape("\\x+4"), oracle::unescape("\\u{+4}"));
+    println!(
+        "`unescape` of \\x+4: {:?}; of \\u{{+4}}: {:?}",
+        oracle::unescape("\\x+4"),
+        oracle::unescape("\\u{+4}")
+    );
     bad == 0
 }
 

@@ -224,9 +224,7 @@ pub fn check_print(tables: &Tables, calls: &mut u64) -> Result<(), Difference> {
         };
         let good = match wanted {
             Ok(length) => answer == [0, 0, length as u64] && out.holds(&text[..length], BYTE),
-            Err(refusal) => {
-                answer == [refusal.number, refusal.place, 0] && out.holds(&[], BYTE)
-            }
+            Err(refusal) => answer == [refusal.number, refusal.place, 0] && out.holds(&[], BYTE),
         };
         if !good {
             return Err(format!("print, room {room}: {answer:?} for {wanted:?}: {tables:?}"));

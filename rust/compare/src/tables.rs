@@ -6,7 +6,8 @@ use crate::Random;
 
 const WORDS: [&str; 9] = ["a", "b", "_", "foo_1", "PEEK", "ANY", "pUSH", "Z9", "PUS"];
 const TAGS: [&str; 5] = ["t", "_", "PUSH", "PUSHx", "PUSH_LITERAL"];
-const ASCII: [&str; 10] = ["", "x", "ab", "\"", "'", "\\", "\n\t\r\0", "\u{1}\u{1f}\u{7f}", " ~", "}"];
+const ASCII: [&str; 10] =
+    ["", "x", "ab", "\"", "'", "\\", "\n\t\r\0", "\u{1}\u{1f}\u{7f}", " ~", "}"];
 const OTHER: [&str; 6] = ["é", "\u{80}", "€\u{301}", "😀", "\u{ad}", "\u{10ffff}\u{fffe}"];
 
 /// Grows good tables.

@@ -16,15 +16,64 @@ pub enum Source {
 
 /// Pieces of a rule's body.
 pub const PIECES: [&str; 36] = [
-    "a", "\"b\"", "^\"c\"", "'d'", "..", "~", "|", "!", "&", "?", "*", "+", "(", ")", "{", "}", ",",
-    "1", "0", "PEEK", "[", "]", "-1", "PUSH", "PUSH_LITERAL", "#t", "=", " ", "/*c*/", "//c\n",
-    "///d\n", "_", "\r\n", "^", "4294967296", "\"\\u{d800}\"",
+    "a",
+    "\"b\"",
+    "^\"c\"",
+    "'d'",
+    "..",
+    "~",
+    "|",
+    "!",
+    "&",
+    "?",
+    "*",
+    "+",
+    "(",
+    ")",
+    "{",
+    "}",
+    ",",
+    "1",
+    "0",
+    "PEEK",
+    "[",
+    "]",
+    "-1",
+    "PUSH",
+    "PUSH_LITERAL",
+    "#t",
+    "=",
+    " ",
+    "/*c*/",
+    "//c\n",
+    "///d\n",
+    "_",
+    "\r\n",
+    "^",
+    "4294967296",
+    "\"\\u{d800}\"",
 ];
 
 /// Fewer pieces, for longer bodies.
 const FEW: [&str; 18] = [
-    "a", "\"\"", "'d'..'e'", "~", "|", "!", "?", "(", ")", "{1}", "{,2}", "PUSH(", "PUSH_LITERAL(",
-    "PEEK[", "-1", "..", "]", "#t=",
+    "a",
+    "\"\"",
+    "'d'..'e'",
+    "~",
+    "|",
+    "!",
+    "?",
+    "(",
+    ")",
+    "{1}",
+    "{,2}",
+    "PUSH(",
+    "PUSH_LITERAL(",
+    "PEEK[",
+    "-1",
+    "..",
+    "]",
+    "#t=",
 ];
 
 /// Fewest, for the longest.
@@ -295,7 +344,10 @@ impl Grower {
     /// A character or an escape, as it may stand between `quote`s.
     fn inside(&mut self, quote: char) -> String {
         if self.fault() {
-            return self.random.of(&["\\u{d800}", "\\u{DFFF}", "\\u{110000}", "\\u{ffffff}"]).into();
+            return self
+                .random
+                .of(&["\\u{d800}", "\\u{DFFF}", "\\u{110000}", "\\u{ffffff}"])
+                .into();
         }
         match self.random.below(10) {
             0 => self.random.of(&["\\\"", "\\\\", "\\r", "\\n", "\\t", "\\0", "\\'"]).into(),

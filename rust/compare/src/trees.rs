@@ -105,12 +105,8 @@ pub fn regrouped(tree: Tree) -> Tree {
         right = last;
     }
     chain.push(right);
-    let join = |left, right| Tree {
-        kind,
-        numbers: [0; 3],
-        text: Vec::new(),
-        children: vec![left, right],
-    };
+    let join =
+        |left, right| Tree { kind, numbers: [0; 3], text: Vec::new(), children: vec![left, right] };
     chain.into_iter().map(regrouped).reduce(join).expect("a chain")
 }
 

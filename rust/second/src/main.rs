@@ -8,8 +8,8 @@ fn main() {
     std::io::stdin().take(65_537).read_to_end(&mut text).expect("standard input");
     let (mut nodes, mut rules) = (vec![0; 2_048 * 6], vec![0; 1_024 * 6]);
     let (mut store, mut out) = (vec![0; 65_536], vec![0; 65_536]);
-    let printed = second::read::read(&text, true, &mut nodes, &mut rules, &mut store)
-        .and_then(|used| {
+    let printed =
+        second::read::read(&text, true, &mut nodes, &mut rules, &mut store).and_then(|used| {
             let (nodes, rules) = (&nodes[..used.nodes * 6], &rules[..used.rules * 6]);
             second::print::print(nodes, rules, &store[..used.store], &mut out)
         });

@@ -40,9 +40,9 @@ pub fn check(nodes: &[u32], rules: &[u32], store: &[u8]) -> Result<(), Refusal> 
         let (p, q, r) = (node[3], node[4], node[5]);
         let just_before = |child: u32| i > 0 && child as usize == i - 1;
         let first = match node[0] {
-            1 | 2 | 18 => part(store, p, q)
-                .is_some_and(|text| std::str::from_utf8(text).is_ok())
-                .then_some(i),
+            1 | 2 | 18 => {
+                part(store, p, q).is_some_and(|text| std::str::from_utf8(text).is_ok()).then_some(i)
+            }
             3 => (char::from_u32(p).is_some() && char::from_u32(q).is_some()).then_some(i),
             4 => is_name(store, p, q).then_some(i),
             5 => (q <= 1).then_some(i),

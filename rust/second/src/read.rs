@@ -251,9 +251,9 @@ impl Structure<'_> {
 
 /// The value of digits, or nothing above 4,294,967,295.
 fn value(digits: &[u8]) -> Option<u32> {
-    digits.iter().try_fold(0u32, |value, digit| {
-        value.checked_mul(10)?.checked_add(u32::from(digit - b'0'))
-    })
+    digits
+        .iter()
+        .try_fold(0u32, |value, digit| value.checked_mul(10)?.checked_add(u32::from(digit - b'0')))
 }
 
 /// The value of a number or a negative number of a PEEK, if it is an i32.

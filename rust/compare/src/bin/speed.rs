@@ -76,7 +76,9 @@ fn measure(budget: Duration, bytes: usize, works: Vec<(&str, Box<dyn FnMut() + '
         let best = times[0].as_secs_f64() * 1e6;
         let each = median * 1e3 / bytes as f64;
         let count = times.len();
-        println!("  {name:<46} {median:>10.1} µs  {each:>8.2} ns a byte  (best {best:.1}, of {count})");
+        println!(
+            "  {name:<46} {median:>10.1} µs  {each:>8.2} ns a byte  (best {best:.1}, of {count})"
+        );
     }
 }
 
@@ -104,7 +106,11 @@ fn one(text: &str, budget: Duration) {
     let Answer::Read(real) = oracle::real::read(text) else { panic!("2.5.2 refuses") };
     assert_eq!(Tables::of(&real), made.clone().without_spans());
 
-    println!("\nreading {} bytes: {n} nodes, {r} rules, {} bytes kept", bytes.len(), made.store.len());
+    println!(
+        "\nreading {} bytes: {n} nodes, {r} rules, {} bytes kept",
+        bytes.len(),
+        made.store.len()
+    );
     let mut nodes = vec![0; 4_096 * 6];
     let mut rules = vec![0; 1_024 * 6];
     let mut store = vec![0; 65_536];
@@ -113,23 +119,36 @@ fn one(text: &str, budget: Duration) {
     #[allow(unused_mut)]
     let mut works: Vec<(&str, Box<dyn FnMut()>)> = vec![
         ("pest 2.5.2: parse", Box::new(|| oracle::real::parse(black_box(text)))),
-        ("pest 2.5.2: parse, build, validate", Box::new(|| {
-            black_box(oracle::real::build(black_box(text)));
-        })),
-        ("given files of 2.9.5: parse, build", Box::new(|| {
-            black_box(oracle::build(black_box(text), true));
-        })),
-        ("second program, by hand in Rust", Box::new(|| {
-            let used = second::read::read(black_box(bytes), true, &mut nodes, &mut rules, &mut store);
-            black_box(used).expect("read");
-        })),
+        (
+            "pest 2.5.2: parse, build, validate",
+            Box::new(|| {
+                black_box(oracle::real::build(black_box(text)));
+            }),
+        ),
+        (
+            "given files of 2.9.5: parse, build",
+            Box::new(|| {
+                black_box(oracle::build(black_box(text), true));
+            }),
+        ),
+        (
+            "second program, by hand in Rust",
+            Box::new(|| {
+                let used =
+                    second::read::read(black_box(bytes), true, &mut nodes, &mut rules, &mut store);
+                black_box(used).expect("read");
+            }),
+        ),
     ];
     #[cfg(feature = "product")]
-    works.push(("the product", Box::new(|| {
-        use compare::product::read_into;
-        let answer = read_into(black_box(bytes), true, &mut nodes2, &mut rules2, &mut store2);
-        assert_eq!(black_box(answer)[0], 0);
-    })));
+    works.push((
+        "the product",
+        Box::new(|| {
+            use compare::product::read_into;
+            let answer = read_into(black_box(bytes), true, &mut nodes2, &mut rules2, &mut store2);
+            assert_eq!(black_box(answer)[0], 0);
+        }),
+    ));
     measure(budget, bytes.len(), works);
 
     let (nodes, rules, store) = (&made.nodes[..], &made.rules[..], &made.store[..]);
@@ -143,17 +162,27 @@ fn one(text: &str, budget: Duration) {
     let mut out2 = out.clone();
     #[allow(unused_mut)]
     let mut works: Vec<(&str, Box<dyn FnMut()>)> = vec![
-        ("given files of 2.9.5: Display", Box::new(|| {
-            black_box(black_box(&printable).print());
-        })),
-        ("second program, by hand in Rust", Box::new(|| {
-            black_box(second::print::print(black_box(nodes), rules, store, &mut out)).expect("printed");
-        })),
+        (
+            "given files of 2.9.5: Display",
+            Box::new(|| {
+                black_box(black_box(&printable).print());
+            }),
+        ),
+        (
+            "second program, by hand in Rust",
+            Box::new(|| {
+                black_box(second::print::print(black_box(nodes), rules, store, &mut out))
+                    .expect("printed");
+            }),
+        ),
     ];
     #[cfg(feature = "product")]
-    works.push(("the product", Box::new(|| {
-        let answer = compare::product::print_into(black_box(nodes), rules, store, &mut out2);
-        assert_eq!(black_box(answer)[0], 0);
-    })));
+    works.push((
+        "the product",
+        Box::new(|| {
+            let answer = compare::product::print_into(black_box(nodes), rules, store, &mut out2);
+            assert_eq!(black_box(answer)[0], 0);
+        }),
+    ));
     measure(budget, length, works);
 }

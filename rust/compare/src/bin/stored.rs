@@ -54,7 +54,8 @@ fn parts(text: &[u8]) -> String {
         text[at..].chunks_exact(wide).take_while(|chunk| *chunk == piece).count()
     };
     while at <= text.len() {
-        let best = (1..=24).map(|wide| (repeat(at, wide) * wide, wide)).max_by_key(|b| (b.0, 24 - b.1));
+        let best =
+            (1..=24).map(|wide| (repeat(at, wide) * wide, wide)).max_by_key(|b| (b.0, 24 - b.1));
         let (bytes, wide) = best.filter(|_| at < text.len()).unwrap_or((0, 1));
         let long = bytes / wide >= 12;
         if long || at == text.len() {
@@ -126,13 +127,16 @@ impl Stored {
                 format!("x {level} {} {n} {r} {s}", parts(text))
             };
             let (number, answer) = match answer {
-                Err(Refusal { number, place }) => {
-                    (number, format!("{number} {place} 0 0 0"))
-                }
+                Err(Refusal { number, place }) => (number, format!("{number} {place} 0 0 0")),
                 Ok(made) => {
                     let counts = format!("0 0 {} {} {}", used.nodes, used.rules, used.store);
                     let rest = if short {
-                        format!("{} {} {}", list(&made.nodes), list(&made.rules), bytes(&made.store))
+                        format!(
+                            "{} {} {}",
+                            list(&made.nodes),
+                            list(&made.rules),
+                            bytes(&made.store)
+                        )
                     } else {
                         let nodes = sum(made.nodes.iter().copied());
                         let rules = sum(made.rules.iter().copied());
@@ -180,15 +184,7 @@ fn write(folder: &str, seed: u64) {
         counts: BTreeMap::new(),
         also_rust: 0,
     };
-    let all = [
-        (0, 0, 0),
-        (5, 5, 1),
-        (-1, 0, 0),
-        (0, -1, 0),
-        (0, 0, -1),
-        (-6, -6, -1),
-        (-1, 0, -1),
-    ];
+    let all = [(0, 0, 0), (5, 5, 1), (-1, 0, 0), (0, -1, 0), (0, 0, -1), (-6, -6, -1), (-1, 0, -1)];
     let mut random = Random(seed);
     for text in texts::CORNERS {
         for tagged in [true, false] {
