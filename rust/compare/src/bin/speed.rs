@@ -43,49 +43,69 @@ fn grammar(random: &mut Random, bytes: usize) -> String {
     text
 }
 
-struct Measured {
-    name: String,
-    times: Vec<Duration>,
+/// This thread's own time: what else the machine does counts less.
+fn own_time() -> Duration {
+    #[repr(C)]
+    struct Time {
+        seconds: i64,
+        nanoseconds: i64,
+    }
+    extern "C" {
+        fn clock_gettime(clock: i32, time: *mut Time) -> i32;
+    }
+    const THREAD: i32 = 3;
+    let mut time = Time { seconds: 0, nanoseconds: 0 };
+    // SAFETY: `time` has the layout of Linux's 64-bit timespec and lives through the call.
+    assert_eq!(unsafe { clock_gettime(THREAD, &mut time) }, 0);
+    Duration::new(time.seconds as u64, time.nanoseconds as u32)
 }
 
-/// Runs all works by turns, for `budget` each at least, and prints each one's median.
-fn measure(budget: Duration, bytes: usize, works: Vec<(&str, Box<dyn FnMut() + '_>)>) {
+struct Measured {
+    name: String,
+    /// Runs in one sample, so that a sample is no shorter than 200 µs.
+    runs: u32,
+    samples: Vec<Duration>,
+}
+
+type Work<'a> = (&'a str, Box<dyn FnMut() + 'a>);
+
+/// Runs all works by turns, for about `budget` each, and prints each one's median.
+fn measure(budget: Duration, bytes: usize, mut works: Vec<Work<'_>>) {
     let mut measured: Vec<Measured> = Vec::new();
-    let (names, mut works): (Vec<&str>, Vec<_>) = works.into_iter().unzip();
-    for name in names {
-        measured.push(Measured { name: name.to_string(), times: Vec::new() });
+    for (name, work) in &mut works {
+        let start = own_time();
+        let mut runs = 0;
+        while own_time() - start < Duration::from_micros(200) {
+            work();
+            runs += 1;
+        }
+        measured.push(Measured { name: name.to_string(), runs, samples: Vec::new() });
     }
-    let whole = budget * works.len() as u32;
     let begun = Instant::now();
-    while begun.elapsed() < whole || measured[0].times.len() < 11 {
-        for (work, measured) in works.iter_mut().zip(&mut measured) {
-            // The quick ones several times in a turn, so that each has enough.
-            let turn = Instant::now();
-            let mut times = 0;
-            while times == 0 || turn.elapsed() < Duration::from_micros(300) {
-                let start = Instant::now();
+    while begun.elapsed() < budget * works.len() as u32 || measured[0].samples.len() < 11 {
+        for ((_, work), measured) in works.iter_mut().zip(&mut measured) {
+            let start = own_time();
+            for _ in 0..measured.runs {
                 work();
-                measured.times.push(start.elapsed());
-                times += 1;
             }
+            measured.samples.push((own_time() - start) / measured.runs);
         }
     }
-    for Measured { name, times } in &mut measured {
-        times.sort();
-        let median = times[times.len() / 2].as_secs_f64() * 1e6;
-        let best = times[0].as_secs_f64() * 1e6;
+    for Measured { name, runs, samples } in &mut measured {
+        samples.sort();
+        let median = samples[samples.len() / 2].as_secs_f64() * 1e6;
+        let best = samples[0].as_secs_f64() * 1e6;
         let each = median * 1e3 / bytes as f64;
-        let count = times.len();
-        println!(
-            "  {name:<46} {median:>10.1} µs  {each:>8.2} ns a byte  (best {best:.1}, of {count})"
-        );
+        let count = samples.len();
+        print!("  {name:<36} {median:>9.1} µs  {each:>7.2} ns a byte");
+        println!("  (best {best:.1}; {count} samples of {runs})");
     }
 }
 
 fn main() {
     let seed = argument("--seed", 1);
     let budget = Duration::from_millis(argument("--ms", 300));
-    println!("seed {seed}; medians");
+    println!("seed {seed}; medians of this thread's own time");
     on_stack(1 << 30, || {
         let mut random = Random(seed);
         for bytes in [1_024, 10_240, 65_536] {
@@ -117,7 +137,7 @@ fn one(text: &str, budget: Duration) {
     #[cfg(feature = "product")]
     let (mut nodes2, mut rules2, mut store2) = (nodes.clone(), rules.clone(), store.clone());
     #[allow(unused_mut)]
-    let mut works: Vec<(&str, Box<dyn FnMut()>)> = vec![
+    let mut works: Vec<Work<'_>> = vec![
         ("pest 2.5.2: parse", Box::new(|| oracle::real::parse(black_box(text)))),
         (
             "pest 2.5.2: parse, build, validate",
@@ -161,7 +181,7 @@ fn one(text: &str, budget: Duration) {
     #[cfg(feature = "product")]
     let mut out2 = out.clone();
     #[allow(unused_mut)]
-    let mut works: Vec<(&str, Box<dyn FnMut()>)> = vec![
+    let mut works: Vec<Work<'_>> = vec![
         (
             "given files of 2.9.5: Display",
             Box::new(|| {

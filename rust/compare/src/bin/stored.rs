@@ -1,5 +1,6 @@
 //! Writes a sample of answers for a program that replays them: `stored FOLDER` makes FOLDER/stdin,
-//! one question a line, and FOLDER/stdout, each question again with ` = ` and its answer.
+//! one question a line, and FOLDER/stdout, each question again with ` = ` and its answer. `--seed N`;
+//! `--scale N`, hundredths of the random part (default 100).
 //!
 //! - `t LEVEL HEX NODES RULES STORE`: read the text; level 1 tagged, 0 plain; rooms in numbers,
 //!   numbers, bytes. Answer: number, place, nodes, rules, store bytes; the node numbers, the rule
@@ -176,7 +177,7 @@ impl Stored {
     }
 }
 
-fn write(folder: &str, seed: u64) {
+fn write(folder: &str, seed: u64, scale: usize) {
     let file = |name| BufWriter::new(fs::File::create(format!("{folder}/{name}")).expect(folder));
     let mut stored = Stored {
         questions: file("stdin"),
@@ -212,7 +213,7 @@ fn write(folder: &str, seed: u64) {
                 3 | 4 => 800,
                 _ => 30,
             };
-            if random.one_in(one_in) {
+            if random.one_in(one_in * 100 / scale) {
                 let room = random.of(&all);
                 stored.text(text, tagged, &[room]);
             }
@@ -220,7 +221,7 @@ fn write(folder: &str, seed: u64) {
     });
     let mut grower = texts::Grower::new(Random(seed ^ 1));
     grower.faults = 30;
-    for i in 0..500 {
+    for i in 0..5 * scale {
         let text = grower.grow(1 + i % 9);
         let damaged = texts::damaged(&mut random, &text);
         let soup = texts::soup(&mut random);
@@ -235,7 +236,7 @@ fn write(folder: &str, seed: u64) {
         }
     }
     let mut grower = tables::Grower::new(Random(seed ^ 2));
-    for i in 0..600 {
+    for i in 0..6 * scale {
         grower.wide = i % 3 == 0;
         let made = grower.grow(i % 4, 1 + i % 12);
         let more = random.of(&[0, 0, 1, 9, -1, -5]);
@@ -260,5 +261,6 @@ fn main() {
     let seed = argument("--seed", 1);
     quiet_panics();
     oracle::limit_calls(50_000_000);
-    on_stack(4 << 30, || write(&folder, seed));
+    let scale = argument("--scale", 100) as usize;
+    on_stack(4 << 30, || write(&folder, seed, scale));
 }
