@@ -9,6 +9,7 @@
 //!   Answer: the five numbers, then for nodes, rules and store a sum over what is used, beginning
 //!   with 0: sum * 31 + value, in 32 bits.
 //! - `k AT HEX`: the lister. Answer: number, place, kind, start, end.
+//! - `l AT COUNT:HEX,..`: the same, of a long text.
 //! - `p ROOM NODES RULES STORE`: print tables of such numbers and such a store. Answer: number,
 //!   place, bytes; the text in hex.
 //!
@@ -159,7 +160,8 @@ impl Stored {
             Ok(None) => (0, format!("0 0 0 {length} {length}")),
             Err(Refusal { number, place }) => (number, format!("{number} {place} 0 0 0")),
         };
-        self.put(format!("k, {number:>2}"), &format!("k {at} {}", bytes(text)), &answer);
+        let (form, shown) = if length <= 400 { ("k", bytes(text)) } else { ("l", parts(text)) };
+        self.put(format!("{form}, {number:>2}"), &format!("{form} {at} {shown}"), &answer);
     }
 
     fn tables(&mut self, made: &Tables, more: isize) {
@@ -195,7 +197,16 @@ fn write(folder: &str, seed: u64, scale: usize) {
             stored.token(text.as_bytes(), at);
         }
     }
+    // Every kind of token, from every place.
+    for text in ["={}[]()&!~|?*+,@$", "a #t 1 -1 .. \"s\" ^\"s\" 's' //!g", "\r\n///l\r\n PUSH"] {
+        for at in 0..text.len() + 2 {
+            stored.token(text.as_bytes(), at);
+        }
+    }
     for text in texts::limits() {
+        for at in [0, random.below(text.len() + 1), text.len() + 1] {
+            stored.token(&text, at);
+        }
         for tagged in [true, false] {
             let rooms = if text.len() > 400 { &all[1..5] } else { &all[..1] };
             // The Rust takes long over the largest; the run that compares asks it.
