@@ -142,6 +142,31 @@ fn label<T>(answer: &Answer<T>) -> &'static str {
     }
 }
 
+const OTHER_PLACE: &str = "at another place";
+
+/// How the Rust's place of a refusal stands to ours.
+fn place_class(text: &[u8], ours: second::Refusal, place: usize) -> &'static str {
+    let at = ours.place as usize;
+    if at == place {
+        return "at the same place";
+    }
+    let (mut before, mut next) = (Vec::new(), 0);
+    while let Next::Token(token) = second::token::next(text, next) {
+        if token.start as usize >= at {
+            break;
+        }
+        next = token.end as usize;
+        before.push(&text[token.start as usize..next]);
+    }
+    match text.get(at) {
+        Some(b'|') if ours.number == 4 && before.ends_with(&[b"("]) => "further on, behind a bar",
+        Some(b'_') if ours.number == 4 && before.ends_with(&[b"="]) => {
+            "further on, behind a `_` taken for the mark"
+        }
+        _ => OTHER_PLACE,
+    }
+}
+
 /// Holds the given files of 2.9.5 against the second program, at one level.
 fn hold(text: &str, tagged: bool, ways: &mut Tally, faults: &mut Tally) -> &'static str {
     let level = if tagged { "tagged" } else { "plain" };
@@ -173,11 +198,11 @@ fn hold(text: &str, tagged: bool, ways: &mut Tally, faults: &mut Tally) -> &'sta
     if let (Err(refusal), Answer::NotRecognized(place) | Answer::NotBuilt(place, _)) =
         (&ours, &rust)
     {
-        let alike = if refusal.place == *place as u64 { "the same" } else { "another" };
-        ways.add(
-            format!("{level}: ours {number}, the Rust: {rust_label}, at {alike} place"),
-            bytes,
-        );
+        let how = place_class(bytes, *refusal, *place);
+        ways.add(format!("{level}: ours {number}, the Rust: {rust_label}, {how}"), bytes);
+        if how == OTHER_PLACE && matches!(number, 4 | 5 | 6 | 13) {
+            faults.add(format!("{level}: ours {number}, the Rust: {how}"), bytes);
+        }
     }
     // No limits there; and unclosed comments can take it exponential time.
     if number == 1 || number == 9 || number == 3 && matches!(rust, Answer::GaveUp) {
