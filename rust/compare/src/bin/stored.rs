@@ -1,0 +1,277 @@
+//! Writes a sample of answers for a program that replays them: `stored FOLDER` makes FOLDER/stdin,
+//! one question a line, and FOLDER/stdout, each question again with ` = ` and its answer. `--seed N`;
+//! `--scale N`, hundredths of the random part (default 100).
+//!
+//! - `t LEVEL HEX NODES RULES STORE`: read the text; level 1 tagged, 0 plain; rooms in numbers,
+//!   numbers, bytes. Answer: number, place, nodes, rules, store bytes; the node numbers, the rule
+//!   numbers (each followed by a comma), the store in hex.
+//! - `x LEVEL COUNT:HEX,.. NODES RULES STORE`: the same, of a long text: each part so many times.
+//!   Answer: the five numbers, then for nodes, rules and store a sum over what is used, beginning
+//!   with 0: sum * 31 + value, in 32 bits.
+//! - `k AT HEX`: the lister. Answer: number, place, kind, start, end.
+//! - `l AT COUNT:HEX,..`: the same, of a long text.
+//! - `p ROOM NODES RULES STORE`: print tables of such numbers and such a store. Answer: number,
+//!   place, bytes; the text in hex.
+//!
+//! An empty list or hex is `-`; a refusal's answer is its numbers alone.
+//!
+//! Answers are the second program's. Where the Rust reads a text too, it must read the same, or
+//! this program stops.
+
+use std::collections::BTreeMap;
+use std::fs;
+use std::io::{BufWriter, Write};
+
+use compare::{argument, hex, on_stack, quiet_panics, tables, texts, Random};
+use oracle::{Answer, Tables};
+use second::read::Used;
+use second::{read, Refusal};
+
+fn or_dash(text: String) -> String {
+    if text.is_empty() {
+        return "-".to_string();
+    }
+    text
+}
+
+/// Numbers with a comma after each.
+fn list(numbers: &[u32]) -> String {
+    or_dash(numbers.iter().map(|n| format!("{n},")).collect())
+}
+
+fn bytes(bytes: &[u8]) -> String {
+    or_dash(hex(bytes))
+}
+
+fn sum(values: impl Iterator<Item = u32>) -> u32 {
+    values.fold(0, |sum, value| sum.wrapping_mul(31).wrapping_add(value))
+}
+
+/// A text as parts and how often each stands.
+fn parts(text: &[u8]) -> String {
+    let mut line = String::new();
+    let (mut at, mut plain) = (0, 0);
+    let repeat = |at: usize, wide: usize| {
+        let piece = &text[at..(at + wide).min(text.len())];
+        text[at..].chunks_exact(wide).take_while(|chunk| *chunk == piece).count()
+    };
+    while at <= text.len() {
+        let best =
+            (1..=24).map(|wide| (repeat(at, wide) * wide, wide)).max_by_key(|b| (b.0, 24 - b.1));
+        let (bytes, wide) = best.filter(|_| at < text.len()).unwrap_or((0, 1));
+        let long = bytes / wide >= 12;
+        if long || at == text.len() {
+            if plain < at {
+                line.push_str(&format!("1:{},", hex(&text[plain..at])));
+            }
+            if at == text.len() {
+                break;
+            }
+            line.push_str(&format!("{}:{},", bytes / wide, hex(&text[at..at + wide])));
+            at += bytes;
+            plain = at;
+        } else {
+            at += 1;
+        }
+    }
+    line
+}
+
+struct Stored {
+    questions: BufWriter<fs::File>,
+    answers: BufWriter<fs::File>,
+    counts: BTreeMap<String, u64>,
+    also_rust: u64,
+}
+
+impl Stored {
+    fn put(&mut self, class: String, question: &str, answer: &str) {
+        *self.counts.entry(class).or_default() += 1;
+        writeln!(self.questions, "{question}").expect("written");
+        writeln!(self.answers, "{question} = {answer}").expect("written");
+    }
+
+    fn text(&mut self, text: &[u8], tagged: bool, rooms: &[(isize, isize, isize)]) {
+        let made = read::tables(text, tagged);
+        if let (Ok(made), Ok(text)) = (&made, std::str::from_utf8(text)) {
+            if let Answer::Read(rules) = oracle::read(text, tagged) {
+                let same = Tables {
+                    nodes: made.nodes.clone(),
+                    rules: made.rules.clone(),
+                    store: made.store.clone(),
+                };
+                assert_eq!(same, Tables::of(&rules), "{text}");
+                self.also_rust += 1;
+            } else {
+                panic!("the Rust refuses {text}");
+            }
+        }
+        let used = made.as_ref().map_or(Used { nodes: 2, rules: 1, store: 4 }, |made| Used {
+            nodes: made.nodes.len() / 6,
+            rules: made.rules.len() / 6,
+            store: made.store.len(),
+        });
+        // To a refusal of the text the room is nothing.
+        let most = if made.is_ok() { rooms.len() } else { 1 };
+        for (n, r, s) in &rooms[..most] {
+            let n = (used.nodes as isize * 6 + n).max(0) as usize;
+            let r = (used.rules as isize * 6 + r).max(0) as usize;
+            let s = (used.store as isize + s).max(0) as usize;
+            let answer = made.as_ref().map_err(|e| *e).and_then(|made| {
+                read::room(used, n, r, s)?;
+                Ok(made)
+            });
+            let level = u8::from(tagged);
+            let short = text.len() <= 400;
+            let question = if short {
+                format!("t {level} {} {n} {r} {s}", bytes(text))
+            } else {
+                format!("x {level} {} {n} {r} {s}", parts(text))
+            };
+            let (number, answer) = match answer {
+                Err(Refusal { number, place }) => (number, format!("{number} {place} 0 0 0")),
+                Ok(made) => {
+                    let counts = format!("0 0 {} {} {}", used.nodes, used.rules, used.store);
+                    let rest = if short {
+                        format!(
+                            "{} {} {}",
+                            list(&made.nodes),
+                            list(&made.rules),
+                            bytes(&made.store)
+                        )
+                    } else {
+                        let nodes = sum(made.nodes.iter().copied());
+                        let rules = sum(made.rules.iter().copied());
+                        let store = sum(made.store.iter().map(|b| u32::from(*b)));
+                        format!("{nodes} {rules} {store}")
+                    };
+                    (0, format!("{counts} {rest}"))
+                }
+            };
+            let form = if short { "t" } else { "x" };
+            self.put(format!("{form}, {number:>2}"), &question, &answer);
+        }
+    }
+
+    fn token(&mut self, text: &[u8], at: usize) {
+        let length = text.len();
+        let (number, answer) = match second::token::next_token(text, at) {
+            Ok(Some(token)) => (0, format!("0 0 {} {} {}", token.kind, token.start, token.end)),
+            Ok(None) => (0, format!("0 0 0 {length} {length}")),
+            Err(Refusal { number, place }) => (number, format!("{number} {place} 0 0 0")),
+        };
+        let (form, shown) = if length <= 400 { ("k", bytes(text)) } else { ("l", parts(text)) };
+        self.put(format!("{form}, {number:>2}"), &format!("{form} {at} {shown}"), &answer);
+    }
+
+    fn tables(&mut self, made: &Tables, more: isize) {
+        let (nodes, rules, store) = (&made.nodes[..], &made.rules[..], &made.store[..]);
+        let mut out = vec![0; 1 << 20];
+        let printed = second::print::print(nodes, rules, store, &mut out);
+        let room = (printed.map_or(16, |length| length as isize) + more).max(0) as usize;
+        let (number, answer) = match printed {
+            Ok(length) if length <= room => (0, format!("0 0 {length} {}", bytes(&out[..length]))),
+            Ok(_) => (23, "23 0 0".to_string()),
+            Err(Refusal { number, place }) => (number, format!("{number} {place} 0")),
+        };
+        let question = format!("p {room} {} {} {}", list(nodes), list(rules), bytes(store));
+        self.put(format!("p, {number:>2}"), &question, &answer);
+    }
+}
+
+fn write(folder: &str, seed: u64, scale: usize) {
+    let file = |name| BufWriter::new(fs::File::create(format!("{folder}/{name}")).expect(folder));
+    let mut stored = Stored {
+        questions: file("stdin"),
+        answers: file("stdout"),
+        counts: BTreeMap::new(),
+        also_rust: 0,
+    };
+    let all = [(0, 0, 0), (5, 5, 1), (-1, 0, 0), (0, -1, 0), (0, 0, -1), (-6, -6, -1), (-1, 0, -1)];
+    let mut random = Random(seed);
+    for text in texts::CORNERS {
+        for tagged in [true, false] {
+            stored.text(text.as_bytes(), tagged, &all);
+        }
+        for at in (0..text.len() + 2).filter(|_| random.one_in(4)) {
+            stored.token(text.as_bytes(), at);
+        }
+    }
+    // Every kind of token, from every place.
+    for text in ["={}[]()&!~|?*+,@$", "a #t 1 -1 .. \"s\" ^\"s\" 's' //!g", "\r\n///l\r\n PUSH"] {
+        for at in 0..text.len() + 2 {
+            stored.token(text.as_bytes(), at);
+        }
+    }
+    for text in texts::limits() {
+        for at in [0, random.below(text.len() + 1), text.len() + 1] {
+            stored.token(&text, at);
+        }
+        for tagged in [true, false] {
+            let rooms = if text.len() > 400 { &all[1..5] } else { &all[..1] };
+            // The Rust takes long over the largest; the run that compares asks it.
+            if text.len() < 10_000 || text.len() > 65_500 {
+                stored.text(&text, tagged, rooms);
+            }
+        }
+    }
+    texts::exhaustive(0, &mut |text| {
+        // Of each refusal and of what is read, some; more of what is read.
+        for tagged in [true, false] {
+            let number = read::tables(text, tagged).map_or_else(|e| e.number, |_| 0);
+            let one_in = match number {
+                0 => 100,
+                3 | 4 => 800,
+                _ => 30,
+            };
+            if random.one_in(one_in * 100 / scale) {
+                let room = random.of(&all);
+                stored.text(text, tagged, &[room]);
+            }
+        }
+    });
+    let mut grower = texts::Grower::new(Random(seed ^ 1));
+    grower.faults = 30;
+    for i in 0..5 * scale {
+        let text = grower.grow(1 + i % 9);
+        let damaged = texts::damaged(&mut random, &text);
+        let soup = texts::soup(&mut random);
+        let short = [text, damaged, soup].into_iter().filter(|text| text.len() <= 160);
+        for text in short {
+            let (tagged, room) = (random.one_in(2), random.of(&all));
+            stored.text(&text, tagged, &[(0, 0, 0), room]);
+            if random.one_in(3) {
+                let at = random.below(text.len() + 1);
+                stored.token(&text, at);
+            }
+        }
+    }
+    let mut grower = tables::Grower::new(Random(seed ^ 2));
+    for i in 0..6 * scale {
+        grower.wide = i % 3 == 0;
+        let made = grower.grow(i % 4, 1 + i % 12);
+        let more = random.of(&[0, 0, 1, 9, -1, -5]);
+        stored.tables(&made, more);
+        stored.tables(&tables::falsified(&mut random, &made), 0);
+    }
+    for made in tables::limits() {
+        if made.nodes.len() <= 60 && made.store.len() < 100 {
+            stored.tables(&made, 0);
+            stored.tables(&made, -1);
+        }
+    }
+    println!("seed {seed}");
+    for (class, count) in &stored.counts {
+        println!("  {count:>6}  {class}");
+    }
+    println!("{} texts are read by the Rust too, the same", stored.also_rust);
+}
+
+fn main() {
+    let folder = std::env::args().nth(1).expect("a folder");
+    let seed = argument("--seed", 1);
+    quiet_panics();
+    oracle::limit_calls(50_000_000);
+    let scale = argument("--scale", 100) as usize;
+    on_stack(4 << 30, || write(&folder, seed, scale));
+}

@@ -1,0 +1,83 @@
+//! Texts and tables by the million, and what the Rust, the second program and the product
+//! answer for them.
+
+pub mod tables;
+pub mod texts;
+pub mod trees;
+
+#[cfg(feature = "product")]
+pub mod product;
+
+/// Numbers that look random and come again for the same seed (SplitMix64).
+#[derive(Clone)]
+pub struct Random(pub u64);
+
+impl Random {
+    pub fn next(&mut self) -> u64 {
+        self.0 = self.0.wrapping_add(0x9e37_79b9_7f4a_7c15);
+        let mut z = self.0;
+        z = (z ^ (z >> 30)).wrapping_mul(0xbf58_476d_1ce4_e5b9);
+        z = (z ^ (z >> 27)).wrapping_mul(0x94d0_49bb_1331_11eb);
+        z ^ (z >> 31)
+    }
+
+    /// Below `n`.
+    pub fn below(&mut self, n: usize) -> usize {
+        (self.next() % n as u64) as usize
+    }
+
+    pub fn one_in(&mut self, n: usize) -> bool {
+        self.below(n) == 0
+    }
+
+    pub fn of<T: Copy>(&mut self, choices: &[T]) -> T {
+        choices[self.below(choices.len())]
+    }
+}
+
+/// Runs on a stack of `bytes`: the Rust recurses once for each bracket and predicate.
+pub fn on_stack<T: Send>(bytes: usize, work: impl FnOnce() -> T + Send) -> T {
+    std::thread::scope(|scope| {
+        let thread = std::thread::Builder::new().stack_size(bytes).spawn_scoped(scope, work);
+        thread.expect("a thread").join().expect("no panic")
+    })
+}
+
+/// Panics of the Rust are answers here, not messages.
+pub fn quiet_panics() {
+    std::panic::set_hook(Box::new(|_| ()));
+}
+
+/// Bytes as a line can hold them.
+pub fn shown(text: &[u8]) -> String {
+    const MOST: usize = 70;
+    let all = String::from_utf8_lossy(text);
+    let mut short = String::from("`");
+    for c in all.chars().take(MOST) {
+        match c {
+            '"' | '\'' | '\\' => short.push(c),
+            _ => short.extend(c.escape_debug()),
+        }
+    }
+    short.push('`');
+    if all.chars().count() > MOST {
+        short.push_str(&format!(" .. ({} bytes)", text.len()));
+    }
+    short
+}
+
+pub fn hex(bytes: &[u8]) -> String {
+    bytes.iter().map(|b| format!("{b:02x}")).collect()
+}
+
+/// `--name value` on the command line, or the default.
+pub fn argument(name: &str, default: u64) -> u64 {
+    let mut arguments = std::env::args();
+    while let Some(argument) = arguments.next() {
+        if argument == name {
+            let value = arguments.next().and_then(|v| v.parse().ok());
+            return value.unwrap_or_else(|| panic!("{name} wants a number"));
+        }
+    }
+    default
+}

@@ -1,0 +1,512 @@
+//! The comparison. `--seed N` (default 1); `--scale N`, hundredths of the full run (default
+//! 100); `--only PART` (texts, tables, characters, product). Ends with 1 if anything is different and not explained.
+
+use std::collections::BTreeMap;
+use std::time::Instant;
+
+use compare::texts::Source;
+use compare::{argument, on_stack, quiet_panics, shown, tables, texts, trees};
+use oracle::{Answer, Tables};
+use second::read::Used;
+use second::token::{Next, BAR};
+
+/// Counts under names, each with its smallest text.
+#[derive(Default)]
+struct Tally(BTreeMap<String, (u64, Vec<u8>)>);
+
+impl Tally {
+    fn add(&mut self, name: String, text: &[u8]) {
+        let (count, least) = self.0.entry(name).or_insert((0, text.to_vec()));
+        *count += 1;
+        if (text.len(), text) < (least.len(), &least[..]) {
+            *least = text.to_vec();
+        }
+    }
+
+    fn print(&self, title: &str) {
+        println!("\n{title}");
+        for (name, (count, least)) in &self.0 {
+            println!("  {count:>9}  {name}   {}", shown(least));
+        }
+    }
+}
+
+fn kept(tables: second::read::Tables) -> Tables {
+    Tables { nodes: tables.nodes, rules: tables.rules, store: tables.store }
+}
+
+/// Where pest's own rule for comments ends the comment at `place`.
+fn pest_comment(text: &[u8], place: usize, fuel: &mut u32) -> Option<usize> {
+    if !text[place..].starts_with(b"/*") || *fuel == 0 {
+        return None;
+    }
+    *fuel -= 1;
+    let mut place = place + 2;
+    loop {
+        if let Some(end) = pest_comment(text, place, fuel) {
+            place = end;
+        } else if text[place..].starts_with(b"*/") {
+            return Some(place + 2);
+        } else if place >= text.len() {
+            return None;
+        } else {
+            place += 1;
+        }
+    }
+}
+
+/// Where pest's blanks from `place` on end.
+fn pest_blanks(text: &[u8], mut place: usize) -> usize {
+    loop {
+        let rest = &text[place..];
+        if rest.starts_with(b" ") || rest.starts_with(b"\t") || rest.starts_with(b"\n") {
+            place += 1;
+        } else if rest.starts_with(b"\r\n") {
+            place += 2;
+        } else if let Some(end) = pest_comment(text, place, &mut 10_000) {
+            place = end;
+        } else if rest.starts_with(b"//") && !rest.starts_with(b"///") && !rest.starts_with(b"//!")
+        {
+            let ends = |i: &usize| rest[*i] == b'\n' || rest[*i..].starts_with(b"\r\n");
+            place += (0..rest.len()).find(ends).unwrap_or(rest.len());
+        } else {
+            return place;
+        }
+    }
+}
+
+/// The ways in which the crate is known to take what the rules refuse.
+#[derive(Clone, Copy, Debug, PartialEq, Eq, PartialOrd, Ord)]
+enum Way {
+    BlankAfterCaret,
+    InnerCommentOpen,
+    BarAfterBracket,
+}
+
+/// The text without what the crate is known to take otherwise, and the ways found.
+fn repaired(text: &[u8], tagged: bool) -> (Vec<u8>, Vec<Way>) {
+    let mut text = text.to_vec();
+    let mut ways = Vec::new();
+    for _ in 0..64 {
+        let Err(refusal) = second::read::tables(&text, tagged) else { break };
+        let place = refusal.place as usize;
+        let way = match (refusal.number, text.get(place)) {
+            (3, Some(b'^')) => {
+                let quote = pest_blanks(&text, place + 1);
+                if quote == place + 1 || text.get(quote) != Some(&b'"') {
+                    break;
+                }
+                text.drain(place + 1..quote);
+                Way::BlankAfterCaret
+            }
+            (3, Some(b'/')) => {
+                let Some(end) = pest_comment(&text, place, &mut 10_000) else { break };
+                text.splice(place..end, *b" ");
+                Way::InnerCommentOpen
+            }
+            (4, Some(b'|')) => {
+                // One bar, right after a bracket that holds an expression.
+                let (mut before, mut at) = (Vec::new(), 0);
+                let after = loop {
+                    let Next::Token(token) = second::token::next(&text, at) else { break None };
+                    if token.start as usize > place {
+                        break Some(token.kind);
+                    }
+                    at = token.end as usize;
+                    before.push(&text[token.start as usize..at]);
+                };
+                let opened = before.ends_with(&[b"(", b"|"]);
+                let literal = before.ends_with(&[b"PUSH_LITERAL", b"(", b"|"]);
+                if !opened || literal || after == Some(BAR) {
+                    break;
+                }
+                text.remove(place);
+                Way::BarAfterBracket
+            }
+            _ => break,
+        };
+        ways.push(way);
+    }
+    ways.sort();
+    ways.dedup();
+    (text, ways)
+}
+
+fn label<T>(answer: &Answer<T>) -> &'static str {
+    match answer {
+        Answer::Read(_) => "read",
+        Answer::NotRecognized(_) => "not recognized",
+        Answer::NotBuilt(..) => "not built",
+        Answer::Panicked(_) => "panic",
+        Answer::GaveUp => "gave up (call limit)",
+    }
+}
+
+const OTHER_PLACE: &str = "at another place";
+
+/// How the Rust's place of a refusal stands to ours.
+fn place_class(text: &[u8], ours: second::Refusal, place: usize) -> &'static str {
+    let at = ours.place as usize;
+    if at == place {
+        return "at the same place";
+    }
+    let (mut before, mut next) = (Vec::new(), 0);
+    while let Next::Token(token) = second::token::next(text, next) {
+        if token.start as usize >= at {
+            break;
+        }
+        next = token.end as usize;
+        before.push(&text[token.start as usize..next]);
+    }
+    match text.get(at) {
+        Some(b'|') if ours.number == 4 && before.ends_with(&[b"("]) => "further on, behind a bar",
+        Some(b'_') if ours.number == 4 && before.ends_with(&[b"="]) => {
+            "further on, behind a `_` taken for the mark"
+        }
+        _ => OTHER_PLACE,
+    }
+}
+
+/// Holds the given files of 2.9.5 against the second program, at one level.
+fn hold(text: &str, tagged: bool, ways: &mut Tally, faults: &mut Tally) -> &'static str {
+    let level = if tagged { "tagged" } else { "plain" };
+    let bytes = text.as_bytes();
+    oracle::limit_calls(1_000_000 + 200 * text.len());
+    let rust = oracle::read(text, tagged);
+    let rust_label = label(&rust);
+    let ours = second::read::tables(bytes, tagged);
+    // With all the room in the world, the limits stay.
+    let number = match &ours {
+        Ok(made) => {
+            let used = Used {
+                nodes: made.nodes.len() / 6,
+                rules: made.rules.len() / 6,
+                store: made.store.len(),
+            };
+            let room = second::read::room(used, usize::MAX, usize::MAX, usize::MAX);
+            room.err().map_or(0, |refusal| refusal.number)
+        }
+        Err(refusal) => refusal.number,
+    };
+    ways.add(format!("{level}: ours {number}, the Rust: {rust_label}"), bytes);
+    if let (Ok(ours), Answer::Read(rules)) = (&ours, &rust) {
+        if kept(ours.clone()) != Tables::of(rules) {
+            faults.add(format!("{level}: TREES DIFFER"), bytes);
+        }
+        return rust_label;
+    }
+    if let (Err(refusal), Answer::NotRecognized(place) | Answer::NotBuilt(place, _)) =
+        (&ours, &rust)
+    {
+        let how = place_class(bytes, *refusal, *place);
+        ways.add(format!("{level}: ours {number}, the Rust: {rust_label}, {how}"), bytes);
+        if how == OTHER_PLACE && matches!(number, 4 | 5 | 6 | 13) {
+            faults.add(format!("{level}: ours {number}, the Rust: {how}"), bytes);
+        }
+    }
+    // No limits there; and unclosed comments can take it exponential time.
+    if number == 1 || number == 9 || number == 3 && matches!(rust, Answer::GaveUp) {
+        return rust_label;
+    }
+    let (text, found) = repaired(bytes, tagged);
+    let after = second::read::tables(&text, tagged);
+    let after_number = after.as_ref().err().map_or(0, |refusal| refusal.number);
+    let good = match (after_number, &rust) {
+        (0, Answer::Read(rules)) => {
+            // A comment apart, the trees are the same; a blank after `^` spoils the string.
+            found.contains(&Way::BlankAfterCaret)
+                || after.map(|t| kept(t).without_spans()) == Ok(Tables::of(rules).without_spans())
+        }
+        (0, Answer::Panicked(_)) => found.contains(&Way::BarAfterBracket),
+        (3 | 4, Answer::NotRecognized(_)) => true,
+        (5 | 6 | 13, Answer::NotBuilt(..) | Answer::Panicked(_)) => true,
+        (7 | 8, Answer::Panicked(_)) => true,
+        (7 | 8, Answer::NotBuilt(..)) => found.contains(&Way::BarAfterBracket),
+        (9, _) => true,
+        _ => false,
+    };
+    if !good {
+        faults.add(format!("{level}: NOT EXPLAINED: ours {number}, the Rust {rust_label}"), bytes);
+    } else if !found.is_empty() && rust_label != "not recognized" {
+        ways.add(format!("{level}: explained by {found:?}: the Rust {rust_label}"), bytes);
+    }
+    rust_label
+}
+
+/// Whether a text has nothing that 2.5.2 lacks.
+fn is_old(text: &str) -> bool {
+    !["#", "PUSH_LITERAL", "///", "//!"].iter().any(|new| text.contains(new))
+}
+
+/// Holds Debian's 2.5.2 against the given files of 2.9.5.
+fn hold_real(text: &str, pairs: &mut Tally, faults: &mut Tally) {
+    oracle::limit_calls(1_000_000 + 200 * text.len());
+    let bytes = text.as_bytes();
+    let recognized = oracle::real::recognize(text);
+    let given = oracle::recognize(text, false);
+    if recognized != given {
+        let known = matches!(recognized, Answer::GaveUp) || matches!(given, Answer::GaveUp);
+        let tally = if known { pairs } else { faults };
+        tally.add("2.5.2: PAIRS DIFFER".to_string(), bytes);
+        return;
+    }
+    if !matches!(recognized, Answer::Read(_)) {
+        return pairs.add(format!("2.5.2: {} in both", label(&recognized)), bytes);
+    }
+    // Over chains of some 4,000 nodes 2.5.2's `consume_rules` took seconds.
+    if text.len() > 2_000 {
+        return pairs.add("2.5.2: long, pairs alone compared, alike".to_string(), bytes);
+    }
+    let real = oracle::real::read(text);
+    let given = oracle::read(text, false);
+    let good = match (&real, &given) {
+        (Answer::Read(real), Answer::Read(given)) => {
+            Tables::of(real) == Tables::of(given).without_spans()
+        }
+        // 2.5.2 gives no tree before its validator has looked.
+        (Answer::NotBuilt(..), Answer::Read(_) | Answer::NotBuilt(..)) => true,
+        (Answer::Panicked(_), Answer::Panicked(_)) => true,
+        _ => false,
+    };
+    if matches!(real, Answer::Read(_)) && !oracle::real::names_pass(text) {
+        pairs.add("2.5.2: read; `validate_pairs` finds fault with names".to_string(), bytes);
+    }
+    let name = format!("2.5.2: {}, given files: {}", label(&real), label(&given));
+    if good {
+        pairs.add(name, bytes);
+    } else {
+        faults.add(name, bytes);
+    }
+}
+
+fn compare_texts(seed: u64, scale: usize) -> bool {
+    let (mut ways, mut pairs, mut faults) = (Tally::default(), Tally::default(), Tally::default());
+    let mut sources: BTreeMap<Source, (u64, f64)> = BTreeMap::new();
+    let (mut count, mut not_utf8, mut old) = (0u64, 0u64, 0u64);
+    texts::all(seed, scale, &mut |source, bytes| {
+        let start = Instant::now();
+        count += 1;
+        let Ok(text) = std::str::from_utf8(bytes) else {
+            not_utf8 += 1;
+            return;
+        };
+        hold(text, true, &mut ways, &mut faults);
+        hold(text, false, &mut ways, &mut faults);
+        if is_old(text) {
+            old += 1;
+            hold_real(text, &mut pairs, &mut faults);
+        }
+        let (texts, seconds) = sources.entry(source).or_default();
+        *texts += 1;
+        *seconds += start.elapsed().as_secs_f64();
+    });
+    println!("\ntexts: {count}; not UTF-8, so not for the Rust: {not_utf8}; old: {old}");
+    for (source, (texts, seconds)) in sources {
+        println!("  {texts:>9}  {source:?}, {seconds:.1} s");
+    }
+    ways.print("the given files of 2.9.5 and the second program, count, class, smallest text:");
+    pairs.print("Debian's 2.5.2 and the given files of 2.9.5, on texts without what is new:");
+    faults.print("DIFFERENT AND NOT EXPLAINED (nothing below is good):");
+    faults.0.is_empty()
+}
+
+fn compare_tables(seed: u64, scale: usize) -> bool {
+    let (mut answers, mut faults) = (Tally::default(), Tally::default());
+    let mut count = 0u64;
+    let mut out = vec![0; 1 << 22];
+    tables::all(seed, scale, &mut |made| {
+        count += 1;
+        let printed = second::print::print(&made.nodes, &made.rules, &made.store, &mut out);
+        let number = printed.as_ref().err().map_or(0, |refusal| refusal.number);
+        let Ok(length) = printed else {
+            return answers.add(format!("ours {number}"), b"");
+        };
+        let text = &out[..length];
+        let rust = oracle::print(&made.nodes, &made.rules, &made.store);
+        let rules = trees::rules(made);
+        if rust.as_bytes() == text {
+            answers.add("printed alike".to_string(), text);
+        } else if ascii(&rules) {
+            faults.add("PRINTED OTHERWISE".to_string(), text);
+        } else {
+            answers.add("other than ASCII: printed otherwise".to_string(), text);
+        }
+        back(rules, text, &mut answers, &mut faults);
+    });
+    println!("\ntables: {count}");
+    answers.print("printer, count, class, smallest text:");
+    faults.print("DIFFERENT (nothing below is good):");
+    faults.0.is_empty()
+}
+
+fn ascii(rules: &[trees::Rule]) -> bool {
+    fn tree_is(tree: &trees::Tree) -> bool {
+        let ends = tree.kind != 3 || tree.numbers[..2].iter().all(|n| *n < 128);
+        ends && tree.text.is_ascii() && tree.children.iter().all(tree_is)
+    }
+    rules.iter().all(|rule| tree_is(&rule.tree))
+}
+
+/// Reads a printed text again: it must be the tree, regrouped once.
+fn back(rules: Vec<trees::Rule>, text: &[u8], answers: &mut Tally, faults: &mut Tally) {
+    let zero = rules.iter().any(|rule| trees::has_zero(&rule.tree));
+    let literal = rules.iter().any(|rule| trees::has_push_literal(&rule.tree));
+    let regrouped: Vec<_> = rules
+        .into_iter()
+        .map(|rule| trees::Rule { tree: trees::regrouped(rule.tree), ..rule })
+        .collect();
+    match second::read::tables(text, true) {
+        Ok(read) if !zero && kept(read.clone()).without_spans() == trees::tables(&regrouped) => {
+            answers.add("back, tagged".to_string(), text);
+        }
+        Err(refusal) if refusal.number == 6 && zero => {
+            answers.add("back: a zero count is refused".to_string(), text);
+        }
+        Err(refusal)
+            if refusal.number == 9
+                || refusal.number == 1
+                || refusal.number == 4 && text.is_empty() =>
+        {
+            answers.add(format!("back: {}", refusal.number), text);
+        }
+        _ => faults.add("NOT BACK, tagged".to_string(), text),
+    }
+    let untagged: Vec<_> = regrouped
+        .into_iter()
+        .map(|rule| trees::Rule { tree: trees::untagged(rule.tree), ..rule })
+        .collect();
+    match second::read::tables(text, false) {
+        Ok(read)
+            if !zero
+                && !literal
+                && kept(read.clone()).without_spans() == trees::tables(&untagged) =>
+        {
+            answers.add("back, plain".to_string(), text);
+        }
+        Err(refusal) if matches!(refusal.number, 6 | 13) && (zero || literal) => {
+            answers.add("back, plain: a zero count or PUSH_LITERAL is refused".to_string(), text);
+        }
+        Err(refusal)
+            if refusal.number == 9
+                || refusal.number == 1
+                || refusal.number == 4 && text.is_empty() =>
+        {
+            answers.add(format!("back, plain: {}", refusal.number), text);
+        }
+        _ => faults.add("NOT BACK, plain".to_string(), text),
+    }
+}
+
+/// Every character between both quotes: what prints alike, and what comes back.
+fn compare_characters() -> bool {
+    oracle::limit_calls(0);
+    let (mut alike, mut otherwise, mut bad) = (0u64, 0u64, 0u64);
+    let mut least = None;
+    for character in '\0'..=char::MAX {
+        let text = character.to_string();
+        let mut out = [0; 64];
+        let rule = [0, 1, 0, 0, 0, 0];
+        let store = format!("a{text}");
+        let mut print = |node: [u32; 6]| {
+            let length = second::print::print(&node, &rule, store.as_bytes(), &mut out);
+            String::from_utf8(out[6..length.expect("a good table") - 3].to_vec()).expect("UTF-8")
+        };
+        let string = print([1, 0, 0, 1, text.len() as u32, 0]);
+        let range = print([3, 0, 0, character as u32, character as u32, 0]);
+        let quoted = oracle::fmt_literal(&text, '\'');
+        let same =
+            oracle::fmt_literal(&text, '"') == string && format!("({quoted}..{quoted})") == range;
+        if same {
+            alike += 1;
+        } else {
+            otherwise += 1;
+            least.get_or_insert(character);
+            bad += u64::from(character.is_ascii());
+        }
+        let unescaped = oracle::unescape(&string);
+        bad += u64::from(unescaped != Some(format!("\"{text}\"")));
+    }
+    println!("\ncharacters: {alike} print alike, {otherwise} otherwise, the first {least:?}");
+    println!("ASCII that prints otherwise, or what `unescape` doesn't give back: {bad}");
+    for open in [4, 8, 12, 16] {
+        let text = format!("a={{b}}{}", "/* ".repeat(open));
+        let start = Instant::now();
+        let answer = oracle::real::recognize(&text);
+        let time = start.elapsed().as_secs_f64() * 1e6;
+        println!("{open} comments, none closed: 2.5.2: {}, after {time:.0} µs", label(&answer));
+    }
+    println!(
+        "`unescape` of \\x+4: {:?}; of \\u{{+4}}: {:?}",
+        oracle::unescape("\\x+4"),
+        oracle::unescape("\\u{+4}")
+    );
+    bad == 0
+}
+
+#[cfg(feature = "product")]
+fn compare_product(seed: u64, scale: usize) -> bool {
+    use compare::{product, Random};
+    let mut random = Random(seed);
+    let (mut reads, mut listed, mut prints) = (0u64, 0u64, 0u64);
+    let (mut texts_seen, mut tables_seen, mut differences) = (0u64, 0u64, 0u64);
+    let mut note = |result: Result<(), String>| {
+        if let Err(difference) = result {
+            differences += 1;
+            if differences <= 20 {
+                println!("DIFFERENT: {difference}");
+            }
+        }
+    };
+    texts::all(seed, scale, &mut |source, text| {
+        texts_seen += 1;
+        let few = source == Source::Exhaustive && !random.one_in(8);
+        note(product::check_read(text, true, few, &mut reads));
+        note(product::check_read(text, false, few, &mut reads));
+        if text.len() < 12 {
+            for at in 0..text.len() + 2 {
+                note(product::check_next(text, at, &mut listed));
+            }
+        } else {
+            let at = random.below(text.len() + 3);
+            note(product::check_next(text, at, &mut listed));
+            note(product::check_next(text, usize::MAX, &mut listed));
+        }
+    });
+    tables::all(seed, scale, &mut |made| {
+        tables_seen += 1;
+        note(product::check_print(made, &mut prints));
+    });
+    println!("\nproduct and second program: {texts_seen} texts ({reads} readings, {listed} calls of the lister), {tables_seen} tables ({prints} printings), {differences} different");
+    differences == 0
+}
+
+#[cfg(not(feature = "product"))]
+fn compare_product(_: u64, _: usize) -> bool {
+    println!("\nproduct: not linked (feature `product`)");
+    true
+}
+
+fn main() {
+    let (seed, scale) = (argument("--seed", 1), argument("--scale", 100) as usize);
+    println!("seed {seed}, scale {scale} of 100");
+    quiet_panics();
+    let parts: [(&str, usize, Box<dyn Fn() -> bool + Send + Sync>); 4] = [
+        ("texts", 4 << 30, Box::new(move || compare_texts(seed, scale))),
+        ("tables", 1 << 30, Box::new(move || compare_tables(seed, scale))),
+        ("characters", 8 << 20, Box::new(compare_characters)),
+        // The product gets the stack that a program has.
+        ("product", 8 << 20, Box::new(move || compare_product(seed, scale))),
+    ];
+    let mut good = true;
+    let only = std::env::args().skip_while(|a| a != "--only").nth(1);
+    for (name, stack, part) in &parts {
+        if only.as_ref().is_some_and(|only| only != name) {
+            continue;
+        }
+        let start = Instant::now();
+        good &= on_stack(*stack, || part());
+        println!("{name}: {:.1} s", start.elapsed().as_secs_f64());
+    }
+    println!("\n{}", if good { "no difference that isn't explained" } else { "DIFFERENT" });
+    std::process::exit(i32::from(!good));
+}

@@ -1,0 +1,234 @@
+//! The product's compiled library, through its C interface, in buffers with canaries.
+
+use crate::shown;
+use oracle::Tables;
+use second::read::Used;
+use second::{read, Refusal};
+
+extern "C" {
+    fn flascjuvan_read(
+        text: *const u8,
+        text_len: usize,
+        tagged: bool,
+        nodes: *mut u32,
+        nodes_len: usize,
+        rules: *mut u32,
+        rules_len: usize,
+        store: *mut u8,
+        store_len: usize,
+        answer: *mut u64,
+    );
+    fn flascjuvan_print(
+        nodes: *const u32,
+        nodes_len: usize,
+        rules: *const u32,
+        rules_len: usize,
+        store: *const u8,
+        store_len: usize,
+        out: *mut u8,
+        out_len: usize,
+        answer: *mut u64,
+    );
+    fn flascjuvan_next_token(text: *const u8, text_len: usize, at: usize, answer: *mut u64);
+}
+
+/// A lent buffer with canaries on both sides.
+struct Lent<T> {
+    all: Vec<T>,
+}
+
+const GUARD: usize = 16;
+
+impl<T: Copy + PartialEq + std::fmt::Debug> Lent<T> {
+    fn new(length: usize, canary: T) -> Lent<T> {
+        Lent { all: vec![canary; length + 2 * GUARD] }
+    }
+
+    fn lent(&mut self) -> &mut [T] {
+        let end = self.all.len() - GUARD;
+        &mut self.all[GUARD..end]
+    }
+
+    /// Whether `used` stands at the front, and all else is as it was.
+    fn holds(&self, used: &[T], canary: T) -> bool {
+        let (front, rest) = self.all.split_at(GUARD);
+        let (written, rest) = rest.split_at(used.len());
+        written == used && front.iter().chain(rest).all(|x| *x == canary)
+    }
+}
+
+const NUMBER: u32 = 0xdead_beef;
+const BYTE: u8 = 0xa5;
+
+/// For measuring: the product's reader into buffers of the caller's.
+pub fn read_into(
+    text: &[u8],
+    tagged: bool,
+    nodes: &mut [u32],
+    rules: &mut [u32],
+    store: &mut [u8],
+) -> [u64; 5] {
+    let mut answer = [u64::MAX; 5];
+    // SAFETY: pointers and lengths are those of slices that live through the call.
+    unsafe {
+        flascjuvan_read(
+            text.as_ptr(),
+            text.len(),
+            tagged,
+            nodes.as_mut_ptr(),
+            nodes.len(),
+            rules.as_mut_ptr(),
+            rules.len(),
+            store.as_mut_ptr(),
+            store.len(),
+            answer.as_mut_ptr(),
+        );
+    }
+    answer
+}
+
+/// For measuring: the product's printer into a buffer of the caller's.
+pub fn print_into(nodes: &[u32], rules: &[u32], store: &[u8], out: &mut [u8]) -> [u64; 3] {
+    let mut answer = [u64::MAX; 3];
+    // SAFETY: as above.
+    unsafe {
+        flascjuvan_print(
+            nodes.as_ptr(),
+            nodes.len(),
+            rules.as_ptr(),
+            rules.len(),
+            store.as_ptr(),
+            store.len(),
+            out.as_mut_ptr(),
+            out.len(),
+            answer.as_mut_ptr(),
+        );
+    }
+    answer
+}
+
+fn next_token(text: &[u8], at: usize) -> [u64; 5] {
+    let mut answer = [u64::MAX; 5];
+    // SAFETY: as above.
+    unsafe { flascjuvan_next_token(text.as_ptr(), text.len(), at, answer.as_mut_ptr()) };
+    answer
+}
+
+/// What differed, in words.
+pub type Difference = String;
+
+/// Lent lengths, in numbers and bytes.
+type Room = (usize, usize, usize);
+
+/// Rooms worth trying: exact, one short of each, ragged, none, and larger than any limit.
+fn rooms(used: Used) -> Vec<Room> {
+    let (n, r, s) = (used.nodes * 6, used.rules * 6, used.store);
+    let mut rooms = vec![(n, r, s), (n + 5, r + 5, s + 1), (n + 64, r + 7, s + 99)];
+    if n > 0 {
+        rooms.extend([(n - 1, r, s), (n - 6, r, s), (n - 1, r, s.saturating_sub(1))]);
+    }
+    if r > 0 {
+        rooms.extend([(n, r - 1, s), (n, r - 6, s), (n.saturating_sub(1), r - 1, s)]);
+    }
+    if s > 0 {
+        rooms.extend([(n, r, s - 1), (0, 0, 0)]);
+    }
+    if n > 6 * 4_000 || r > 6 * 1_000 {
+        rooms.extend([(4_096 * 6, 1_024 * 6, s), (4_097 * 6, 1_025 * 6, s)]);
+    }
+    rooms
+}
+
+/// The reader, at one level, over all rooms worth trying. `few` tries one room.
+pub fn check_read(text: &[u8], tagged: bool, few: bool, calls: &mut u64) -> Result<(), Difference> {
+    let tables = read::tables(text, tagged);
+    let used = match &tables {
+        Ok(t) => Used { nodes: t.nodes.len() / 6, rules: t.rules.len() / 6, store: t.store.len() },
+        Err(_) => Used { nodes: 3, rules: 2, store: 9 },
+    };
+    let mut rooms = rooms(used);
+    if tables.is_err() || few {
+        rooms.truncate(1);
+    }
+    for (n, r, s) in rooms {
+        let mut nodes = Lent::new(n, NUMBER);
+        let mut rules = Lent::new(r, NUMBER);
+        let mut store = Lent::new(s, BYTE);
+        let answer = read_into(text, tagged, nodes.lent(), rules.lent(), store.lent());
+        *calls += 1;
+        let wanted = tables
+            .as_ref()
+            .map_err(|refusal| *refusal)
+            .and_then(|tables| read::room(used, n, r, s).map(|()| tables));
+        let good = match wanted {
+            Ok(tables) => {
+                answer == [0, 0, used.nodes as u64, used.rules as u64, used.store as u64]
+                    && nodes.holds(&tables.nodes, NUMBER)
+                    && rules.holds(&tables.rules, NUMBER)
+                    && store.holds(&tables.store, BYTE)
+            }
+            Err(Refusal { number, place }) => {
+                answer == [number, place, 0, 0, 0]
+                    && nodes.holds(&[], NUMBER)
+                    && rules.holds(&[], NUMBER)
+                    && store.holds(&[], BYTE)
+            }
+        };
+        if !good {
+            let wanted = wanted.map(|_| used);
+            return Err(format!(
+                "read, tagged {tagged}, room {n} {r} {s}: {answer:?} for {wanted:?}: {}",
+                shown(text)
+            ));
+        }
+    }
+    Ok(())
+}
+
+/// The lister at a place. Without a refusal the answer's place is 0.
+pub fn check_next(text: &[u8], at: usize, calls: &mut u64) -> Result<(), Difference> {
+    let answer = next_token(text, at);
+    *calls += 1;
+    let length = text.len() as u64;
+    let wanted = match second::token::next_token(text, at) {
+        Ok(Some(token)) => [0, 0, token.kind.into(), token.start.into(), token.end.into()],
+        Ok(None) => [0, 0, 0, length, length],
+        Err(Refusal { number, place }) => [number, place, 0, 0, 0],
+    };
+    if answer != wanted {
+        return Err(format!("next token at {at}: {answer:?} for {wanted:?}: {}", shown(text)));
+    }
+    Ok(())
+}
+
+/// Printed texts longer than this aren't asked for.
+const LONG: usize = 1 << 23;
+
+/// The printer, with exact room, one short, ample and none.
+pub fn check_print(tables: &Tables, calls: &mut u64) -> Result<(), Difference> {
+    let (nodes, rules, store) = (&tables.nodes[..], &tables.rules[..], &tables.store[..]);
+    let mut text = vec![0; LONG];
+    let printed = second::print::print(nodes, rules, store, &mut text);
+    let mut rooms = vec![0, 40];
+    if let Ok(length) = printed {
+        rooms = vec![length, length + 1, length + 50, length / 2, length.saturating_sub(1), 0];
+    }
+    for room in rooms {
+        let mut out = Lent::new(room, BYTE);
+        let answer = print_into(nodes, rules, store, out.lent());
+        *calls += 1;
+        let wanted = match printed {
+            Ok(length) if length <= room => Ok(length),
+            Ok(_) => Err(Refusal { number: 23, place: 0 }),
+            Err(refusal) => Err(refusal),
+        };
+        let good = match wanted {
+            Ok(length) => answer == [0, 0, length as u64] && out.holds(&text[..length], BYTE),
+            Err(refusal) => answer == [refusal.number, refusal.place, 0] && out.holds(&[], BYTE),
+        };
+        if !good {
+            return Err(format!("print, room {room}: {answer:?} for {wanted:?}: {tables:?}"));
+        }
+    }
+    Ok(())
+}

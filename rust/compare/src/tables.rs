@@ -1,0 +1,313 @@
+//! Tables: random good ones, with store parts shared; false ones; and those at the limits.
+
+use oracle::Tables;
+
+use crate::Random;
+
+const WORDS: [&str; 9] = ["a", "b", "_", "foo_1", "PEEK", "ANY", "pUSH", "Z9", "PUS"];
+const TAGS: [&str; 5] = ["t", "_", "PUSH", "PUSHx", "PUSH_LITERAL"];
+const ASCII: [&str; 10] =
+    ["", "x", "ab", "\"", "'", "\\", "\n\t\r\0", "\u{1}\u{1f}\u{7f}", " ~", "}"];
+const OTHER: [&str; 6] = ["é", "\u{80}", "€\u{301}", "😀", "\u{ad}", "\u{10ffff}\u{fffe}"];
+
+/// Grows good tables.
+pub struct Grower {
+    pub random: Random,
+    /// Strings and range ends may be other than ASCII.
+    pub wide: bool,
+    made: Tables,
+    /// Parts of the store that can be used again: words, tags, strings.
+    parts: [Vec<(u32, u32)>; 3],
+}
+
+impl Grower {
+    pub fn new(random: Random) -> Grower {
+        Grower { random, wide: false, made: Tables::default(), parts: Default::default() }
+    }
+
+    /// Tables of some `rules` rules with trees of some `size`.
+    pub fn grow(&mut self, rules: usize, size: usize) -> Tables {
+        self.made = Tables::default();
+        self.parts = Default::default();
+        if self.random.one_in(4) {
+            // Bytes that nobody uses needn't be UTF-8.
+            self.made.store.push(0xff);
+        }
+        for _ in 0..rules {
+            let (offset, length) = self.part(0);
+            self.tree(size);
+            let root = (self.made.nodes.len() / 6 - 1) as u32;
+            let mark = self.random.below(5) as u32;
+            let span = [self.random.next() as u32, self.random.below(99) as u32];
+            self.made.rules.extend([offset, length, mark, root]);
+            self.made.rules.extend(span);
+        }
+        std::mem::take(&mut self.made)
+    }
+
+    fn part(&mut self, sort: usize) -> (u32, u32) {
+        if !self.parts[sort].is_empty() && self.random.one_in(3) {
+            let (offset, length) = self.random.of(&self.parts[sort]);
+            // An ASCII part has parts.
+            let bytes = &self.made.store[offset as usize..(offset + length) as usize];
+            if sort == 2 && length > 1 && bytes.is_ascii() && self.random.one_in(2) {
+                return (offset + 1, length - 1);
+            }
+            return (offset, length);
+        }
+        let text = match sort {
+            0 => self.random.of(&WORDS),
+            1 => self.random.of(&TAGS),
+            _ if self.wide && self.random.one_in(3) => self.random.of(&OTHER),
+            _ => self.random.of(&ASCII),
+        };
+        let part = (self.made.store.len() as u32, text.len() as u32);
+        self.made.store.extend_from_slice(text.as_bytes());
+        self.parts[sort].push(part);
+        part
+    }
+
+    fn end(&mut self) -> u32 {
+        if self.wide && self.random.one_in(3) {
+            return self.random.of(&[0x80, 0xd7ff, 0xe000, 0x10ffff, 0x301, 0xe9]);
+        }
+        match self.random.below(4) {
+            0 => self.random.of(&[0, 9, 10, 13, 34, 39, 92, 127, 11, 31]),
+            _ => self.random.below(128) as u32,
+        }
+    }
+
+    fn count(&mut self) -> u32 {
+        self.random.of(&[0, 1, 2, 9, 10, 4_294_967_295, 1_000_000_000])
+    }
+
+    /// A number that nobody looks at.
+    fn unused(&mut self) -> u32 {
+        self.random.of(&[0, 0, 7, u32::MAX])
+    }
+
+    fn put(&mut self, kind: u32, p: u32, q: u32, r: u32) {
+        let (start, end) = (self.unused(), self.unused());
+        self.made.nodes.extend([kind, start, end, p, q, r]);
+    }
+
+    fn last(&self) -> u32 {
+        (self.made.nodes.len() / 6).wrapping_sub(1) as u32
+    }
+
+    fn tree(&mut self, size: usize) {
+        if size <= 1 {
+            return self.leaf();
+        }
+        let unused = (self.unused(), self.unused());
+        match self.random.below(20) {
+            0..=7 => {
+                // Long chains, too: often the same operator again on one side.
+                let kind = 8 + self.random.below(2) as u32;
+                let left = 1 + self.random.below(size.min(6));
+                let left = if self.random.one_in(2) { left } else { (size - left).max(1) };
+                self.tree(left.min(size - 1));
+                let p = self.last();
+                self.tree((size - 1).saturating_sub(left).max(1));
+                let q = self.last();
+                self.put(kind, p, q, unused.0);
+            }
+            8 | 9 => {
+                let kind = self.random.of(&[6, 7]);
+                self.lone(size, kind, unused.0, unused.1);
+            }
+            10..=12 => {
+                let kind = self.random.of(&[10, 11, 12, 17]);
+                self.lone(size, kind, unused.0, unused.1);
+            }
+            13 | 14 => {
+                let (kind, count) = (self.random.of(&[13, 14, 15]), self.count());
+                self.lone(size, kind, count, unused.1);
+            }
+            15 => {
+                let (least, most) = (self.count(), self.count());
+                self.lone(size, 16, least, most);
+            }
+            16 => {
+                let (offset, length) = self.part(1);
+                self.lone(size, 19, offset, length);
+            }
+            _ => self.leaf(),
+        }
+    }
+
+    fn lone(&mut self, size: usize, kind: u32, q: u32, r: u32) {
+        self.tree(size - 1);
+        self.put(kind, self.last(), q, r);
+    }
+
+    fn leaf(&mut self) {
+        let r = self.unused();
+        match self.random.below(9) {
+            0..=2 => {
+                let (p, q) = self.part(0);
+                self.put(4, p, q, r);
+            }
+            3..=5 => {
+                let kind = self.random.of(&[1, 2, 18]);
+                let (p, q) = self.part(2);
+                self.put(kind, p, q, r);
+            }
+            6 | 7 => {
+                let (p, q) = (self.end(), self.end());
+                self.put(3, p, q, r);
+            }
+            _ => {
+                let ends = [0, 1, u32::MAX, 0x8000_0000, 0x7fff_ffff, 12_345];
+                let (p, end) = (self.random.of(&ends), self.random.of(&ends));
+                let q = self.random.below(2) as u32;
+                self.put(5, p, q, end);
+            }
+        }
+    }
+}
+
+/// A copy with one to three faults; some turn out to be none.
+pub fn falsified(random: &mut Random, tables: &Tables) -> Tables {
+    let mut tables = tables.clone();
+    for _ in 0..1 + random.below(3) {
+        match random.below(12) {
+            0..=5 if !tables.nodes.is_empty() => {
+                let at = random.below(tables.nodes.len());
+                tables.nodes[at] = other(random, tables.nodes[at]);
+            }
+            6 | 7 if !tables.rules.is_empty() => {
+                let at = random.below(tables.rules.len());
+                tables.rules[at] = other(random, tables.rules[at]);
+            }
+            8 if !tables.store.is_empty() => {
+                let at = random.below(tables.store.len());
+                tables.store[at] = random.of(&[0xff, 0x80, 0xc3, b'P', b'0', b'-', b' ']);
+            }
+            9 => {
+                let whole = random.one_in(2);
+                let (nodes, rules) = (tables.nodes.len(), tables.rules.len());
+                let cut = if whole { 6 } else { 1 + random.below(6) };
+                if random.one_in(2) {
+                    tables.nodes.truncate(nodes.saturating_sub(cut));
+                } else {
+                    tables.rules.truncate(rules.saturating_sub(cut));
+                }
+            }
+            10 => {
+                tables.store.pop();
+            }
+            11 if tables.rules.len() >= 12 => tables.rules.rotate_left(6),
+            _ => {
+                let record = [4, 0, 0, 0, 1, 0];
+                tables.nodes.extend(record);
+            }
+        }
+    }
+    tables
+}
+
+fn other(random: &mut Random, number: u32) -> u32 {
+    match random.below(8) {
+        0 => number.wrapping_add(1),
+        1 => number.wrapping_sub(1),
+        2 => random.below(21) as u32,
+        3 => u32::MAX,
+        4 => random.of(&[0xd7ff, 0xd800, 0xdfff, 0xe000, 0x10ffff, 0x110000]),
+        5 => number ^ 1 << random.below(32),
+        6 => 0,
+        _ => random.below(64) as u32,
+    }
+}
+
+/// Tables on both sides of every limit.
+pub fn limits() -> Vec<Tables> {
+    let store = b"aPUSHx\xc3\xa9".to_vec();
+    let a = [4, 0, 0, 0, 1, 0];
+    let of = |nodes: Vec<u32>, rules: Vec<u32>| Tables { nodes, rules, store: store.clone() };
+    let mut made = vec![Tables::default(), of(vec![], vec![]), of(a.to_vec(), vec![])];
+    for count in [2u32, 2_047, 2_048, 4_095, 4_096, 4_097] {
+        let chain = |kind: u32, right: bool| {
+            let mut nodes = Vec::new();
+            let leaves = count.div_ceil(2);
+            if right {
+                nodes.extend(a.repeat(leaves as usize));
+                for i in leaves..leaves * 2 - 1 {
+                    nodes.extend([kind, 0, 0, leaves * 2 - 2 - i, i - 1, 0]);
+                }
+            } else {
+                nodes.extend(a);
+                for i in 1..leaves {
+                    nodes.extend(a);
+                    nodes.extend([kind, 0, 0, 2 * i - 2, 2 * i - 1, 0]);
+                }
+            }
+            let root = nodes.len() as u32 / 6 - 1;
+            of(nodes, vec![0, 1, 0, root, 0, 0])
+        };
+        made.extend([chain(8, true), chain(9, true), chain(8, false), chain(9, false)]);
+        for kind in [6u32, 7, 10, 13, 16, 17, 19] {
+            let mut nodes = a.to_vec();
+            for i in 1..count {
+                nodes.extend([kind, 0, 0, i - 1, 1, 4]);
+            }
+            made.push(of(nodes, vec![0, 1, 0, count - 1, 0, 0]));
+        }
+        // A postfix on a predicate, over and over.
+        let mut nodes = a.to_vec();
+        for i in 1..count {
+            nodes.extend([if i % 2 == 1 { 7 } else { 11 }, 0, 0, i - 1, 0, 0]);
+        }
+        made.push(of(nodes, vec![0, 1, 0, count - 1, 0, 0]));
+    }
+    for count in [1_023u32, 1_024, 1_025] {
+        let rules: Vec<u32> = (0..count).flat_map(|i| [0, 1, i % 5, i, 0, 0]).collect();
+        made.push(of(a.repeat(count as usize), rules));
+    }
+    for bytes in [65_535usize, 65_536, 65_537] {
+        let store = vec![b'x'; bytes];
+        let long = Tables {
+            nodes: vec![1, 0, 0, 0, bytes as u32, 0],
+            rules: vec![0, bytes as u32, 0, 0, 0, 0],
+            store: store.clone(),
+        };
+        made.push(long);
+        // The whole store over and over, each byte an escape.
+        for (byte, count) in [(0u8, 40u32), (1, 12)] {
+            let mut nodes: Vec<u32> = Vec::new();
+            let all = [1, 0, 0, 1, bytes as u32 - 1, 0];
+            nodes.extend(all);
+            for i in 1..count {
+                nodes.extend(all);
+                nodes.extend([8, 0, 0, 2 * i - 2, 2 * i - 1, 0]);
+            }
+            let root = nodes.len() as u32 / 6 - 1;
+            let mut store = vec![byte; bytes];
+            store[0] = b'a';
+            made.push(Tables { nodes, rules: vec![0, 1, 0, root, 0, 0], store });
+        }
+    }
+    made
+}
+
+/// Every table of a run, in order. `scale` is in hundredths of the full run.
+pub fn all(seed: u64, scale: usize, f: &mut dyn FnMut(&Tables)) {
+    for tables in limits() {
+        f(&tables);
+    }
+    let mut random = Random(seed ^ 0x7ab1e5);
+    let mut grower = Grower::new(Random(seed ^ 0x6e0de5));
+    for _ in 0..900 * scale {
+        grower.wide = random.one_in(3);
+        let rules = random.of(&[1, 1, 1, 2, 3, 5]);
+        let size = random.of(&[1, 2, 3, 5, 8, 13, 20, 40]);
+        let tables = grower.grow(rules, size);
+        f(&tables);
+        f(&falsified(&mut random, &tables));
+    }
+    for _ in 0..scale {
+        let tables = grower.grow(2, 1_500);
+        f(&tables);
+        f(&falsified(&mut random, &tables));
+    }
+}

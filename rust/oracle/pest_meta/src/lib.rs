@@ -1,0 +1,40 @@
+//! The given files of pest_meta 2.9.5 over pest 2.5.2's runtime.
+
+#[allow(dead_code)]
+pub mod ast;
+#[allow(dead_code, mismatched_lifetime_syntaxes)]
+pub mod parser;
+
+/// The crate's validator leans on a file that isn't given. parser.rs calls it in
+/// `consume_rules` only, and nothing here calls that.
+mod validator {
+    use crate::parser::{ParserRule, Rule};
+
+    pub fn validate_ast(_: &[ParserRule<'_>]) -> Vec<pest::error::Error<Rule>> {
+        Vec::new()
+    }
+}
+
+/// `fmt_literal`, for callers outside.
+pub fn literal(string: &str, quote: char) -> String {
+    struct Literal<'a>(&'a str, char);
+    impl core::fmt::Display for Literal<'_> {
+        fn fmt(&self, f: &mut core::fmt::Formatter<'_>) -> core::fmt::Result {
+            ast::fmt_literal(f, self.0, self.1)
+        }
+    }
+    Literal(string, quote).to_string()
+}
+
+/// `print_rule`, which ast.rs compiles for its tests alone, word for word.
+pub fn print_rule(name: &str, ty: ast::RuleType, expr: impl core::fmt::Display) -> String {
+    use ast::RuleType;
+    let modifier = match ty {
+        RuleType::Normal => "",
+        RuleType::Silent => "_",
+        RuleType::Atomic => "@",
+        RuleType::CompoundAtomic => "$",
+        RuleType::NonAtomic => "!",
+    };
+    format!("{name} = {modifier}{{ {expr} }}")
+}

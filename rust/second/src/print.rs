@@ -1,0 +1,313 @@
+//! The printer: 20, 21, 22, 23, then the text. Nothing recurses.
+
+use crate::{is_word, refuse, Refusal, BYTES, NODES, RECORD, RULES};
+
+/// Prints into a lent buffer, and answers the bytes written. A refusal writes nothing.
+pub fn print(nodes: &[u32], rules: &[u32], store: &[u8], out: &mut [u8]) -> Result<usize, Refusal> {
+    check(nodes, rules, store)?;
+    let length = measure(nodes, rules, store, out.len() as u64);
+    if length > out.len() as u64 {
+        return refuse(23, 0);
+    }
+    let text = write(nodes, rules, store, length as usize);
+    assert_eq!(text.len() as u64, length, "measured and written");
+    out[..text.len()].copy_from_slice(&text);
+    Ok(text.len())
+}
+
+fn part(store: &[u8], offset: u32, length: u32) -> Option<&[u8]> {
+    let end = u64::from(offset) + u64::from(length);
+    if end > store.len() as u64 {
+        return None;
+    }
+    Some(&store[offset as usize..end as usize])
+}
+
+fn is_name(store: &[u8], offset: u32, length: u32) -> bool {
+    part(store, offset, length).is_some_and(|name| is_word(name) && !name.starts_with(b"PUSH"))
+}
+
+/// 20, 21 and 22.
+pub fn check(nodes: &[u32], rules: &[u32], store: &[u8]) -> Result<(), Refusal> {
+    let whole = nodes.len() % RECORD == 0 && rules.len() % RECORD == 0;
+    let (node_count, rule_count) = (nodes.len() / RECORD, rules.len() / RECORD);
+    if !whole || node_count > NODES || rule_count > RULES || store.len() > BYTES {
+        return refuse(20, 0);
+    }
+    // The first node of each node's tree.
+    let mut firsts: Vec<usize> = Vec::with_capacity(node_count);
+    for (i, node) in nodes.chunks_exact(RECORD).enumerate() {
+        let (p, q, r) = (node[3], node[4], node[5]);
+        let just_before = |child: u32| i > 0 && child as usize == i - 1;
+        let first = match node[0] {
+            1 | 2 | 18 => {
+                part(store, p, q).is_some_and(|text| std::str::from_utf8(text).is_ok()).then_some(i)
+            }
+            3 => (char::from_u32(p).is_some() && char::from_u32(q).is_some()).then_some(i),
+            4 => is_name(store, p, q).then_some(i),
+            5 => (q <= 1).then_some(i),
+            6 | 7 | 10..=17 => just_before(p).then(|| firsts[i - 1]),
+            8 | 9 => {
+                let right = just_before(q).then(|| firsts[i - 1]);
+                right
+                    .filter(|right| *right > 0 && p as usize == right - 1)
+                    .map(|right| firsts[right - 1])
+            }
+            19 => (just_before(p) && part(store, q, r).is_some_and(is_word)).then(|| firsts[i - 1]),
+            _ => None,
+        };
+        match first {
+            Some(first) => firsts.push(first),
+            None => return refuse(21, i),
+        }
+    }
+    let mut begin = 0;
+    for (i, rule) in rules.chunks_exact(RECORD).enumerate() {
+        let root = rule[3] as usize;
+        let good = is_name(store, rule[0], rule[1])
+            && rule[2] <= 4
+            && root < node_count
+            && firsts[root] == begin;
+        if !good {
+            return refuse(22, i);
+        }
+        begin = root + 1;
+    }
+    if begin != node_count {
+        return refuse(22, rule_count);
+    }
+    Ok(())
+}
+
+/// What a character prints as, between quotes of one kind.
+fn character(character: char, quote: char, out: &mut Vec<u8>) {
+    match character {
+        '\0' => out.extend_from_slice(b"\\0"),
+        '\t' => out.extend_from_slice(b"\\t"),
+        '\n' => out.extend_from_slice(b"\\n"),
+        '\r' => out.extend_from_slice(b"\\r"),
+        _ if character == quote || character == '\\' => {
+            out.extend_from_slice(&[b'\\', character as u8]);
+        }
+        ' '..='~' => out.push(character as u8),
+        _ => {
+            const DIGITS: &[u8; 16] = b"0123456789abcdef";
+            let number = character as u32;
+            out.extend_from_slice(b"\\u{");
+            for i in (0..hex_digits(number)).rev() {
+                out.push(DIGITS[(number >> (4 * i) & 15) as usize]);
+            }
+            out.push(b'}');
+        }
+    }
+}
+
+/// As few as the number needs, but at least two.
+fn hex_digits(number: u32) -> u32 {
+    (32 - number.leading_zeros()).div_ceil(4).max(2)
+}
+
+/// The bytes that `character` writes.
+fn character_length(character: char, quote: char) -> u64 {
+    match character {
+        '\0' | '\t' | '\n' | '\r' | '\\' => 2,
+        _ if character == quote => 2,
+        ' '..='~' => 1,
+        _ => u64::from(hex_digits(character as u32)) + 4,
+    }
+}
+
+fn literal(text: &str, quote: char, out: &mut Vec<u8>) {
+    out.push(quote as u8);
+    for c in text.chars() {
+        character(c, quote, out);
+    }
+    out.push(quote as u8);
+}
+
+fn literal_length(text: &str, quote: char) -> u64 {
+    2 + text.chars().map(|c| character_length(c, quote)).sum::<u64>()
+}
+
+/// A table that `check` has let through.
+struct Good<'a> {
+    nodes: &'a [u32],
+    store: &'a [u8],
+}
+
+impl<'a> Good<'a> {
+    fn node(&self, index: u32) -> [u32; RECORD] {
+        let at = index as usize * RECORD;
+        self.nodes[at..at + RECORD].try_into().expect("a whole record")
+    }
+
+    fn text(&self, offset: u32, length: u32) -> &'a str {
+        let bytes = part(self.store, offset, length).expect("a part that lies inside");
+        std::str::from_utf8(bytes).expect("UTF-8")
+    }
+
+    /// What stands behind the operand of a postfix.
+    fn postfix(&self, node: [u32; RECORD]) -> String {
+        let (q, r) = (node[4], node[5]);
+        match node[0] {
+            10 => "?".to_string(),
+            11 => "*".to_string(),
+            12 => "+".to_string(),
+            13 => format!("{{{q}}}"),
+            14 => format!("{{{q},}}"),
+            15 => format!("{{,{q}}}"),
+            _ => format!("{{{q}, {r}}}"),
+        }
+    }
+
+    fn peek(&self, node: [u32; RECORD]) -> String {
+        let (p, r) = (node[3] as i32, node[5] as i32);
+        if node[4] == 0 {
+            format!("PEEK[{p}..]")
+        } else {
+            format!("PEEK[{p}..{r}]")
+        }
+    }
+}
+
+fn scalar(number: u32) -> char {
+    char::from_u32(number).expect("a scalar")
+}
+
+/// The length of the printed text; or some number above `most`, as soon as it is known to be.
+fn measure(nodes: &[u32], rules: &[u32], store: &[u8], most: u64) -> u64 {
+    let good = Good { nodes, store };
+    // Every leaf is printed, so their lengths together are a lower bound.
+    let mut leaves = 0;
+    let mut whole: Vec<u64> = Vec::new();
+    for (i, node) in nodes.chunks_exact(RECORD).enumerate() {
+        let node: [u32; RECORD] = node.try_into().expect("a whole record");
+        let (p, q, r) = (node[3], node[4], node[5]);
+        let child = || whole[i - 1];
+        let length = match node[0] {
+            1 => literal_length(good.text(p, q), '"'),
+            2 => 1 + literal_length(good.text(p, q), '"'),
+            3 => 8 + [p, q].map(|n| character_length(scalar(n), '\'')).iter().sum::<u64>(),
+            4 => u64::from(q),
+            5 => good.peek(node).len() as u64,
+            6 | 7 => 1 + child(),
+            8 | 9 => {
+                // A right child of the same kind leaves its brackets out.
+                let inside = if good.node(q)[0] == node[0] { child() - 2 } else { child() };
+                whole[p as usize] + 5 + inside
+            }
+            10..=16 => {
+                let brackets = if matches!(good.node(p)[0], 6 | 7) { 2 } else { 0 };
+                child() + brackets + good.postfix(node).len() as u64
+            }
+            17 => 6 + child(),
+            18 => 14 + literal_length(good.text(p, q), '"'),
+            _ => 6 + u64::from(r) + child(),
+        };
+        if matches!(node[0], 1..=5 | 18) {
+            leaves += length;
+            if leaves > most {
+                return leaves;
+            }
+        }
+        whole.push(length);
+    }
+    let line = |rule: &[u32]| {
+        let mark = if rule[2] == 0 { 0 } else { 1 };
+        u64::from(rule[1]) + 3 + mark + 2 + whole[rule[3] as usize] + 3
+    };
+    rules.chunks_exact(RECORD).map(line).sum()
+}
+
+/// What is still to be written, the next at the end.
+enum Left {
+    Node(u32),
+    /// A node's chain, without its brackets.
+    Chain(u32),
+    Bytes(&'static str),
+    Text(String),
+}
+
+fn write(nodes: &[u32], rules: &[u32], store: &[u8], length: usize) -> Vec<u8> {
+    let good = Good { nodes, store };
+    let mut out = Vec::with_capacity(length);
+    for rule in rules.chunks_exact(RECORD) {
+        out.extend_from_slice(good.text(rule[0], rule[1]).as_bytes());
+        out.extend_from_slice(b" = ");
+        out.extend_from_slice(["", "_", "@", "$", "!"][rule[2] as usize].as_bytes());
+        out.extend_from_slice(b"{ ");
+        let mut left = vec![Left::Node(rule[3])];
+        while let Some(next) = left.pop() {
+            match next {
+                Left::Node(index) => node(&good, index, &mut left, &mut out),
+                Left::Chain(index) => {
+                    let node = good.node(index);
+                    let (p, q) = (node[3], node[4]);
+                    let same = good.node(q)[0] == node[0];
+                    left.push(if same { Left::Chain(q) } else { Left::Node(q) });
+                    left.push(Left::Bytes(if node[0] == 8 { " ~ " } else { " | " }));
+                    left.push(Left::Node(p));
+                }
+                Left::Bytes(text) => out.extend_from_slice(text.as_bytes()),
+                Left::Text(text) => out.extend_from_slice(text.as_bytes()),
+            }
+        }
+        out.extend_from_slice(b" }\n");
+    }
+    out
+}
+
+fn node(good: &Good<'_>, index: u32, left: &mut Vec<Left>, out: &mut Vec<u8>) {
+    let node = good.node(index);
+    let (p, q, r) = (node[3], node[4], node[5]);
+    match node[0] {
+        1 => literal(good.text(p, q), '"', out),
+        2 => {
+            out.push(b'^');
+            literal(good.text(p, q), '"', out);
+        }
+        3 => {
+            out.push(b'(');
+            literal(&scalar(p).to_string(), '\'', out);
+            out.extend_from_slice(b"..");
+            literal(&scalar(q).to_string(), '\'', out);
+            out.push(b')');
+        }
+        4 => out.extend_from_slice(good.text(p, q).as_bytes()),
+        5 => out.extend_from_slice(good.peek(node).as_bytes()),
+        6 | 7 => {
+            out.push(if node[0] == 6 { b'&' } else { b'!' });
+            left.push(Left::Node(p));
+        }
+        8 | 9 => {
+            out.push(b'(');
+            left.push(Left::Bytes(")"));
+            left.push(Left::Chain(index));
+        }
+        10..=16 => {
+            left.push(Left::Text(good.postfix(node)));
+            if matches!(good.node(p)[0], 6 | 7) {
+                out.push(b'(');
+                left.push(Left::Bytes(")"));
+            }
+            left.push(Left::Node(p));
+        }
+        17 => {
+            out.extend_from_slice(b"PUSH(");
+            left.push(Left::Bytes(")"));
+            left.push(Left::Node(p));
+        }
+        18 => {
+            out.extend_from_slice(b"PUSH_LITERAL(");
+            literal(good.text(p, q), '"', out);
+            out.push(b')');
+        }
+        _ => {
+            out.extend_from_slice(b"(#");
+            out.extend_from_slice(good.text(q, r).as_bytes());
+            out.extend_from_slice(b" = ");
+            left.push(Left::Bytes(")"));
+            left.push(Left::Node(p));
+        }
+    }
+}
