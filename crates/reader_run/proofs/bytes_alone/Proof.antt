@@ -1,0 +1,51 @@
+use borrow.Author.Needs.{needs}
+use lib.ListN.{length}
+use native.Mathlib.Omega.{arith}
+use Prim.Native.Nat.{_≤_, _-_}
+use Rattle.reader_run.proofs.bytes_alone.Statement.{statement}
+use Rattle.reader_run.proofs.bytes_alone.Tie as tie
+
+abbrev Inv-loop : tie.InvT-loop
+Inv-loop s from n₀ i₀ n i = n ≤ i
+
+abbrev μ-loop : tie.MeasureT-loop
+μ-loop s from n₀ i₀ n i = length s - i
+
+loop-holds : tie.Need-loop-holds Inv-loop μ-loop
+loop-holds c = omega arith
+
+shared-slice-read-one-if : tie.Need-shared-slice-read-one-if Inv-loop μ-loop
+shared-slice-read-one-if c = omega arith
+
+one-if-requires : tie.Need-one-if-requires Inv-loop μ-loop
+one-if-requires c κs = search needs
+
+add-n : tie.Need-add-n Inv-loop μ-loop
+add-n c = omega arith
+
+add-i : tie.Need-add-i Inv-loop μ-loop
+add-i c = omega arith
+
+loop-less : tie.Need-loop-less Inv-loop μ-loop
+loop-less c = omega arith
+
+loop-again : tie.Need-loop-again Inv-loop μ-loop
+loop-again c = omega arith
+
+returns : tie.Need-returns Inv-loop μ-loop
+returns c = search needs
+
+pub bytes-alone-spec : {M : Type 1} → statement M
+bytes-alone-spec =
+    tie.close
+    (tie.spec
+    Inv-loop
+    μ-loop
+    loop-holds
+    shared-slice-read-one-if
+    one-if-requires
+    add-n
+    add-i
+    loop-less
+    loop-again
+    returns)

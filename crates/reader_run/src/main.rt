@@ -1,0 +1,287 @@
+// Reads the texts of its standard input. A line names the level (t or p), how many numbers of the
+// nodes' and the rules' buffers and how many bytes of the store are lent, and the text, in pieces: how
+// many times, and what in hex. It is written again with what came of it: number, place, the nodes,
+// rules and store bytes used, how many numbers or bytes of each whole buffer still stand at what was
+// there before, then what was used of each (of the longer ones a sum).
+use reader::Reading;
+use structure::Level;
+ghost use Prim.Native.Nat.{_≤_};
+ghost use Rattle.io.specs.Counts.{Counts};
+
+fn one_if(met: bool) -> usize
+    ensures { λ r. ⌜ r ≤ 1 ⌝ }
+{
+    if met { 1 } else { 0 }
+}
+
+// How many numbers stand at 2,863,311,530 from a place on.
+fn numbers_alone(s: &[u32], from: usize) -> usize {
+    let mut n = 0;
+    let mut i = from;
+    while i < s.len() {
+        n += one_if(s[i] == 2863311530);
+        i += 1;
+    }
+    n
+}
+
+// How many bytes stand at 170 from a place on.
+fn bytes_alone(s: &[u8], from: usize) -> usize {
+    let mut n = 0;
+    let mut i = from;
+    while i < s.len() {
+        n += one_if(s[i] == 170);
+        i += 1;
+    }
+    n
+}
+
+fn mixed(sum: u32, v: u32) -> u32 {
+    ((sum as u64 * 31 + v as u64) % 0x1_0000_0000) as u32
+}
+
+fn mixed_byte(sum: u32, b: u8) -> u32 {
+    mixed(sum, b as u32)
+}
+
+fn numbers_sum(s: &[u32]) -> u32 {
+    let mut sum: u32 = 0;
+    let mut i = 0;
+    while i < s.len() {
+        sum = mixed(sum, s[i]);
+        i += 1;
+    }
+    sum
+}
+
+fn bytes_sum(s: &[u8]) -> u32 {
+    let mut sum: u32 = 0;
+    let mut i = 0;
+    while i < s.len() {
+        sum = mixed_byte(sum, s[i]);
+        i += 1;
+    }
+    sum
+}
+
+fn write_small(v: u32) {
+    vectors::write_number(v as usize);
+}
+
+fn write_numbers(s: &[u32]) {
+    if 300 < s.len() {
+        write_small(numbers_sum(s));
+        return;
+    }
+    let mut i = 0;
+    while i < s.len() {
+        write_small(s[i]);
+        i += 1;
+    }
+}
+
+fn write_bytes(s: &[u8]) {
+    if 300 < s.len() {
+        write_small(bytes_sum(s));
+        return;
+    }
+    vectors::write_hex(s);
+}
+
+fn answer(
+    number: usize,
+    place: usize,
+    used: usize,
+    count: usize,
+    bytes: usize,
+    nodes: &[u32],
+    rules: &[u32],
+    store: &[u8],
+) {
+    vectors::write_number(number);
+    vectors::write_number(place);
+    vectors::write_number(used);
+    vectors::write_number(count);
+    vectors::write_number(bytes);
+    if 5000 < used {
+        return;
+    }
+    if 5000 < count {
+        return;
+    }
+    let n = 6 * used;
+    let m = 6 * count;
+    if nodes.len() < n {
+        return;
+    }
+    if rules.len() < m {
+        return;
+    }
+    if store.len() < bytes {
+        return;
+    }
+    vectors::write_number(numbers_alone(nodes, n));
+    vectors::write_number(numbers_alone(rules, m));
+    vectors::write_number(bytes_alone(store, bytes));
+    write_numbers(&nodes[..n]);
+    write_numbers(&rules[..m]);
+    write_bytes(&store[..bytes]);
+}
+
+fn run_read(
+    text: &[u8],
+    level: Level,
+    n: usize,
+    m: usize,
+    k: usize,
+    nodes: &mut [u32],
+    rules: &mut [u32],
+    store: &mut [u8],
+) {
+    if nodes.len() < n {
+        return;
+    }
+    if rules.len() < m {
+        return;
+    }
+    if store.len() < k {
+        return;
+    }
+    let reading = reader::read(
+        text,
+        level,
+        &mut nodes[..n],
+        &mut rules[..m],
+        &mut store[..k],
+    );
+    match reading {
+        Reading::Read(a, b, c) => answer(0, 0, a, b, c, nodes, rules, store),
+        Reading::TooLong => answer(1, 0, 0, 0, 0, nodes, rules, store),
+        Reading::NotUtf8(p) => answer(2, p, 0, 0, 0, nodes, rules, store),
+        Reading::NoToken(p) => answer(3, p, 0, 0, 0, nodes, rules, store),
+        Reading::NotAllowed(p) => answer(4, p, 0, 0, 0, nodes, rules, store),
+        Reading::TooDeep(p) => answer(9, p, 0, 0, 0, nodes, rules, store),
+        Reading::Over(p) => answer(5, p, 0, 0, 0, nodes, rules, store),
+        Reading::Zero(p) => answer(6, p, 0, 0, 0, nodes, rules, store),
+        Reading::PeekRange(p) => answer(7, p, 0, 0, 0, nodes, rules, store),
+        Reading::NotScalar(p) => answer(8, p, 0, 0, 0, nodes, rules, store),
+        Reading::NotPlain(p) => answer(13, p, 0, 0, 0, nodes, rules, store),
+        Reading::RulesRoom => answer(12, 0, 0, 0, 0, nodes, rules, store),
+        Reading::NodesRoom => answer(10, 0, 0, 0, 0, nodes, rules, store),
+        Reading::StoreRoom => answer(11, 0, 0, 0, 0, nodes, rules, store),
+    }
+}
+
+// Copies a piece behind what a buffer has, as far as there is room.
+fn append(piece: &[u8], out: &mut [u8], from: usize) -> usize
+    ensures { λ r. ⌜ Counts r (now (out .exit)) ⌝ }
+{
+    if out.len() < from {
+        return 0;
+    }
+    let mut k = from;
+    let mut i = 0;
+    while i < piece.len() {
+        if out.len() <= k {
+            return k;
+        }
+        out[k] = piece[i];
+        k += 1;
+        i += 1;
+    }
+    k
+}
+
+fn repeat(piece: &[u8], times: usize, out: &mut [u8], from: usize) -> usize
+    ensures { λ r. ⌜ Counts r (now (out .exit)) ⌝ }
+{
+    if out.len() < from {
+        return 0;
+    }
+    let mut k = from;
+    let mut i = 0;
+    while i < times {
+        k = append(piece, out, k);
+        i += 1;
+    }
+    k
+}
+
+// A line's pieces from a place on, at most nine.
+fn pieces(line: &[u8], from: usize, out: &mut [u8]) -> usize
+    ensures { λ r. ⌜ Counts r (now (out .exit)) ⌝ }
+{
+    let mut piece = [0u8; 4096];
+    let mut at = from;
+    let mut k = 0;
+    let mut turns: usize = 0;
+    while turns < 9 {
+        let times = vectors::field(line, at);
+        let hex = vectors::field(line, times.end);
+        let a = times.start;
+        let b = times.end;
+        let c = hex.start;
+        let d = hex.end;
+        let n = vectors::unhex(&line[c..d], &mut piece);
+        k = repeat(&piece[..n], vectors::number(&line[a..b]) as usize, out, k);
+        at = d;
+        turns += 1;
+    }
+    k
+}
+
+fn level_of(b: u8) -> Level {
+    if b == b'p' {
+        Level::Plain
+    } else {
+        Level::Tagged
+    }
+}
+
+fn run_line(line: &[u8]) {
+    let mut text = [0u8; 65600];
+    let mut nodes = [2863311530u32; 24588];
+    let mut rules = [2863311530u32; 6156];
+    let mut store = [170u8; 65600];
+    let op = vectors::field(line, 0);
+    let first = vectors::field(line, op.end);
+    let second = vectors::field(line, first.end);
+    let third = vectors::field(line, second.end);
+    let a = first.start;
+    let b = first.end;
+    let c = second.start;
+    let d = second.end;
+    let e = third.start;
+    let f = third.end;
+    let n = vectors::number(&line[a..b]) as usize;
+    let m = vectors::number(&line[c..d]) as usize;
+    let k = vectors::number(&line[e..f]) as usize;
+    let at = op.start;
+    vectors::write(line);
+    if line.len() <= at {
+        return;
+    }
+    let long = pieces(line, f, &mut text);
+    run_read(
+        &text[..long],
+        level_of(line[at]),
+        n,
+        m,
+        k,
+        &mut nodes,
+        &mut rules,
+        &mut store,
+    );
+    vectors::write(b"\n");
+}
+
+fn main() {
+    let mut input = io::large_buffer();
+    let n = io::read_full(0, &mut input);
+    let mut at = 0;
+    while at < n {
+        let end = vectors::line_end(&input[..n], at);
+        run_line(&input[at..end]);
+        at = end + 1;
+    }
+}
