@@ -1,22 +1,16 @@
 use Rattle.reader.proofs.Answers.{no-rules-room, no-nodes-room, no-store-room, room}
 use Rattle.reader.proofs.inner.answers.room_for.Statement.{statement}
 use Rattle.reader.proofs.inner.answers.room_for.Tie as tie
-use Rattle.reader.proofs.inner.answers.room_for.Reads as reads
-use Rattle.reader.proofs.inner.answers.room_for.Lts as lts
 
--- src/inner/answers.rt:33:9
 returns : tie.Need-returns
 returns c = no-rules-room _ _ _ _ _ _ (c .if1 .taken)
 
--- src/inner/answers.rt:36:9
 returns-2 : tie.Need-returns-2
 returns-2 c = no-nodes-room _ _ _ _ _ _ (c .before .if1 .left) (c .if2 .taken)
 
--- src/inner/answers.rt:39:9
 returns-3 : tie.Need-returns-3
 returns-3 c = no-store-room _ _ _ _ _ _ (c .before .before .if1 .left) (c .before .if2 .left) (c .if3 .taken)
 
--- src/inner/answers.rt:29:1
 returns-4 : tie.Need-returns-4
 returns-4 c = room _ _ _ _ _ _ (c .before .before .if1 .left) (c .before .if2 .left) (c .if3 .left)
 

@@ -4,100 +4,134 @@ use native.Mathlib.Omega.{arith}
 use borrow.Author.Needs.{needs}
 use Rattle.reader.proofs.inner.rules.consume_rule.Statement.{statement}
 use Rattle.reader.proofs.inner.rules.consume_rule.Tie as tie
-use Rattle.reader.proofs.inner.rules.consume_rule.Reads as reads
-use Rattle.reader.proofs.inner.rules.consume_rule.Lts as lts
-use Rattle.reader.proofs.inner.build.consume_expr.Reads as consume-expr-reads
-use Rattle.reader.proofs.inner.records.put_bytes.Reads as put-bytes-reads
-use Rattle.reader.proofs.inner.records.put_record.Reads as put-record-reads
-use Rattle.structure.proofs.inner.rules.mark_at.Reads as mark-at-reads
-use Rattle.structure.proofs.inner.rules.past_bar.Reads as past-bar-reads
-use Rattle.structure.proofs.inner.rules.past_mark.Reads as past-mark-reads
-use Rattle.structure.proofs.inner.tokens.end_at.Reads as end-at-reads
-use Rattle.structure.proofs.inner.tokens.start_at.Reads as start-at-reads
 
--- src/inner/rules.rt:39:9
 start-at-requires : tie.Need-start-at-requires
 start-at-requires c κs = search needs
 
--- src/inner/rules.rt:40:9
 end-at-requires : tie.Need-end-at-requires
 end-at-requires c κs = search needs
 
--- src/inner/rules.rt:41:9
 put-bytes-requires : tie.Need-put-bytes-requires
-put-bytes-requires c κs = (name-inside _ _ _ _ _ _ _ _ _ (c .before .before .before .before .before .before .before .before .before .before .pre .0 .short) (c .before .before .before .before .before .before .before .before .before .before .pre .1 .1) _ _ (c .before .before .start-at .ensures) (c .before .end-at .ensures), name-room _ _ _ _ _ _ _ _ _ (c .before .before .before .before .before .before .before .before .before .before .pre .0 .short) (c .before .before .before .before .before .before .before .before .before .before .pre .1 .1) _ _ (c .before .before .start-at .ensures) (c .before .end-at .ensures))
+put-bytes-requires c κs =
+    let at-end-at = c .before in
+    let at-start-at = at-end-at .before in
+    let start = at-start-at .before .before .before .before .before .before .before .before in
+    (name-inside _ _ _ _ _ _ _ _ _ (start .pre .0 .short) (start .pre .1 .1) _ _ (at-start-at .start-at .ensures) (at-end-at .end-at .ensures), name-room _ _ _ _ _ _ _ _ _ (start .pre .0 .short) (start .pre .1 .1) _ _ (at-start-at .start-at .ensures) (at-end-at .end-at .ensures))
 
--- src/inner/rules.rt:42:51
 add-mark-at : tie.Need-add-mark-at
-add-mark-at c = let p = rule-inside _ _ _ _ _ _ _ _ _ (c .before .before .before .before .before .before .before .before .before .before .before .before .before .pre .0 .short) (c .before .before .before .before .before .before .before .before .before .before .before .before .before .pre .1 .1) in omega arith
+add-mark-at c =
+    let start = c .before .before .before .before .before .before .before .before .before .before .before .before .before in
+    let p = rule-inside _ _ _ _ _ _ _ _ _ (start .pre .0 .short) (start .pre .1 .1) in
+    omega arith
 
--- src/inner/rules.rt:42:51
 add-mark-at-2 : tie.Need-add-mark-at-2
-add-mark-at-2 c = let p = rule-inside _ _ _ _ _ _ _ _ _ (c .before .before .before .before .before .before .before .before .before .before .before .before .before .pre .0 .short) (c .before .before .before .before .before .before .before .before .before .before .before .before .before .pre .1 .1) in omega arith
+add-mark-at-2 c =
+    let start = c .before .before .before .before .before .before .before .before .before .before .before .before .before in
+    let p = rule-inside _ _ _ _ _ _ _ _ _ (start .pre .0 .short) (start .pre .1 .1) in
+    omega arith
 
--- src/inner/rules.rt:42:9
 mark-at-requires : tie.Need-mark-at-requires
 mark-at-requires c κs = search needs
 
--- src/inner/rules.rt:43:53
 add-past-mark : tie.Need-add-past-mark
-add-past-mark c = let p = rule-inside _ _ _ _ _ _ _ _ _ (c .before .before .before .before .before .before .before .before .before .before .before .before .before .before .pre .0 .short) (c .before .before .before .before .before .before .before .before .before .before .before .before .before .before .pre .1 .1) in omega arith
+add-past-mark c =
+    let start = c .before .before .before .before .before .before .before .before .before .before .before .before .before .before in
+    let p = rule-inside _ _ _ _ _ _ _ _ _ (start .pre .0 .short) (start .pre .1 .1) in
+    omega arith
 
--- src/inner/rules.rt:43:53
 add-past-mark-2 : tie.Need-add-past-mark-2
-add-past-mark-2 c = let p = rule-inside _ _ _ _ _ _ _ _ _ (c .before .before .before .before .before .before .before .before .before .before .before .before .before .before .pre .0 .short) (c .before .before .before .before .before .before .before .before .before .before .before .before .before .before .pre .1 .1) in omega arith
+add-past-mark-2 c =
+    let start = c .before .before .before .before .before .before .before .before .before .before .before .before .before .before in
+    let p = rule-inside _ _ _ _ _ _ _ _ _ (start .pre .0 .short) (start .pre .1 .1) in
+    omega arith
 
--- src/inner/rules.rt:43:9
 past-mark-requires : tie.Need-past-mark-requires
 past-mark-requires c κs = search needs
 
--- src/inner/rules.rt:44:52
 add-past-bar : tie.Need-add-past-bar
-add-past-bar c = let p = rule-inside _ _ _ _ _ _ _ _ _ (c .before .before .before .before .before .before .before .before .before .before .before .before .before .before .before .pre .0 .short) (c .before .before .before .before .before .before .before .before .before .before .before .before .before .before .before .pre .1 .1) in let m = mark-near _ _ _ (c .past-mark .ensures) in omega arith
+add-past-bar c =
+    let start = c .before .before .before .before .before .before .before .before .before .before .before .before .before .before .before in
+    let p = rule-inside _ _ _ _ _ _ _ _ _ (start .pre .0 .short) (start .pre .1 .1) in
+    let m = mark-near _ _ _ (c .past-mark .ensures) in
+    omega arith
 
--- src/inner/rules.rt:44:9
 past-bar-requires : tie.Need-past-bar-requires
 past-bar-requires c κs = search needs
 
--- src/inner/rules.rt:45:9
 consume-expr-requires : tie.Need-consume-expr-requires
-consume-expr-requires c κs = (c .before .before .before .before .before .before .before .before .before .before .before .before .before .before .before .before .before .before .pre .0, (c .before .before .before .before .before .before .before .before .before .before .before .before .before .before .before .before .before .before .pre .1 .0, body-room _ _ _ _ _ _ _ _ _ (c .before .before .before .before .before .before .before .before .before .before .before .before .before .before .before .before .before .before .pre .0 .short) (c .before .before .before .before .before .before .before .before .before .before .before .before .before .before .before .before .before .before .pre .1 .1) _ _ (c .before .before .before .before .before .before .before .before .before .before .start-at .ensures) (c .before .before .before .before .before .before .before .before .before .end-at .ensures) _ _ (c .before .before .before .before .before .before .before .put-bytes .ensures) _ (c .before .before .before .before .mark-at .ensures) _ (c .before .before .before .past-mark .ensures) _ (c .before .before .past-bar .ensures)))
+consume-expr-requires c κs =
+    let at-past-bar = c .before .before in
+    let at-past-mark = at-past-bar .before in
+    let at-mark-at = at-past-mark .before in
+    let at-put-bytes = at-mark-at .before .before .before in
+    let at-end-at = at-put-bytes .before .before in
+    let at-start-at = at-end-at .before in
+    let start = at-start-at .before .before .before .before .before .before .before .before in
+    (start .pre .0, (start .pre .1 .0, body-room _ _ _ _ _ _ _ _ _ (start .pre .0 .short) (start .pre .1 .1) _ _ (at-start-at .start-at .ensures) (at-end-at .end-at .ensures) _ _ (at-put-bytes .put-bytes .ensures) _ (at-mark-at .mark-at .ensures) _ (at-past-mark .past-mark .ensures) _ (at-past-bar .past-bar .ensures)))
 
--- src/inner/rules.rt:51:9
 cast-put-record : tie.Need-cast-put-record
-cast-put-record c = let l = c .before .before .before .before .before .before .before .before .before .before .before .before .before .before .before .before .before .before .before .before .before .before .before .before .pre .1 .1 .low in omega arith
+cast-put-record c =
+    let start = c .before .before .before .before .before .before .before .before .before .before .before .before .before .before .before .before .before .before .before .before .before .before .before .before in
+    let l = start .pre .1 .1 .low in
+    omega arith
 
--- src/inner/rules.rt:52:9
 sub-put-record : tie.Need-sub-put-record
-sub-put-record c = let p = name-inside _ _ _ _ _ _ _ _ _ (c .before .before .before .before .before .before .before .before .before .before .before .before .before .before .before .before .before .before .before .before .before .before .before .before .pre .0 .short) (c .before .before .before .before .before .before .before .before .before .before .before .before .before .before .before .before .before .before .before .before .before .before .before .before .pre .1 .1) _ _ (c .before .before .before .before .before .before .before .before .before .before .before .before .before .before .before .before .start-at .ensures) (c .before .before .before .before .before .before .before .before .before .before .before .before .before .before .before .end-at .ensures) in omega arith
+sub-put-record c =
+    let at-end-at = c .before .before .before .before .before .before .before .before .before .before .before .before .before .before .before in
+    let at-start-at = at-end-at .before in
+    let start = at-start-at .before .before .before .before .before .before .before .before in
+    let p = name-inside _ _ _ _ _ _ _ _ _ (start .pre .0 .short) (start .pre .1 .1) _ _ (at-start-at .start-at .ensures) (at-end-at .end-at .ensures) in
+    omega arith
 
--- src/inner/rules.rt:54:9
 sub-put-record-2 : tie.Need-sub-put-record-2
 sub-put-record-2 c = search needs
 
--- src/inner/rules.rt:48:5
 put-record-requires : tie.Need-put-record-requires
-put-record-requires c κs = rule-fits _ _ _ _ _ _ _ _ _ (c .before .before .before .before .before .before .before .before .before .before .before .before .before .before .before .before .before .before .before .before .before .before .before .before .before .pre .0 .short) (c .before .before .before .before .before .before .before .before .before .before .before .before .before .before .before .before .before .before .before .before .before .before .before .before .before .pre .1 .1) _ _ (c .before .before .before .before .before .before .before .before .before .before .before .before .before .before .before .before .before .start-at .ensures) (c .before .before .before .before .before .before .before .before .before .before .before .before .before .before .before .before .end-at .ensures) _ _ (c .before .before .before .before .before .before .before .before .before .before .before .before .before .before .put-bytes .ensures) _ (c .before .before .before .before .before .before .before .before .before .before .before .mark-at .ensures) _ (c .before .before .before .before .before .before .before .before .before .before .past-mark .ensures) _ (c .before .before .before .before .before .before .before .before .before .past-bar .ensures) _ _ _ (c .before .before .before .before .before .before .consume-expr .ensures)
+put-record-requires c κs =
+    let at-consume-expr = c .before .before .before .before .before .before in
+    let at-past-bar = at-consume-expr .before .before .before in
+    let at-past-mark = at-past-bar .before in
+    let at-mark-at = at-past-mark .before in
+    let at-put-bytes = at-mark-at .before .before .before in
+    let at-end-at = at-put-bytes .before .before in
+    let at-start-at = at-end-at .before in
+    let start = at-start-at .before .before .before .before .before .before .before .before in
+    rule-fits _ _ _ _ _ _ _ _ _ (start .pre .0 .short) (start .pre .1 .1) _ _ (at-start-at .start-at .ensures) (at-end-at .end-at .ensures) _ _ (at-put-bytes .put-bytes .ensures) _ (at-mark-at .mark-at .ensures) _ (at-past-mark .past-mark .ensures) _ (at-past-bar .past-bar .ensures) _ _ _ (at-consume-expr .consume-expr .ensures)
 
--- src/inner/rules.rt:59:15
 add-t23 : tie.Need-add-t23
-add-t23 c = let p = past-inside _ _ _ _ _ _ _ _ _ (c .before .before .before .before .before .before .before .before .before .before .before .before .before .before .before .before .before .before .before .before .before .before .before .before .before .before .before .before .before .pre .0 .short) (c .before .before .before .before .before .before .before .before .before .before .before .before .before .before .before .before .before .before .before .before .before .before .before .before .before .before .before .before .before .pre .1 .1) _ _ (c .before .before .before .before .before .before .before .before .before .before .before .before .before .before .before .before .before .before .before .before .before .start-at .ensures) (c .before .before .before .before .before .before .before .before .before .before .before .before .before .before .before .before .before .before .before .before .end-at .ensures) _ _ (c .before .before .before .before .before .before .before .before .before .before .before .before .before .before .before .before .before .before .put-bytes .ensures) _ (c .before .before .before .before .before .before .before .before .before .before .before .before .before .before .before .mark-at .ensures) _ (c .before .before .before .before .before .before .before .before .before .before .before .before .before .before .past-mark .ensures) _ (c .before .before .before .before .before .before .before .before .before .before .before .before .before .past-bar .ensures) _ _ _ (c .before .before .before .before .before .before .before .before .before .before .consume-expr .ensures) in omega arith
+add-t23 c =
+    let at-consume-expr = c .before .before .before .before .before .before .before .before .before .before in
+    let at-past-bar = at-consume-expr .before .before .before in
+    let at-past-mark = at-past-bar .before in
+    let at-mark-at = at-past-mark .before in
+    let at-put-bytes = at-mark-at .before .before .before in
+    let at-end-at = at-put-bytes .before .before in
+    let at-start-at = at-end-at .before in
+    let start = at-start-at .before .before .before .before .before .before .before .before in
+    let p = past-inside _ _ _ _ _ _ _ _ _ (start .pre .0 .short) (start .pre .1 .1) _ _ (at-start-at .start-at .ensures) (at-end-at .end-at .ensures) _ _ (at-put-bytes .put-bytes .ensures) _ (at-mark-at .mark-at .ensures) _ (at-past-mark .past-mark .ensures) _ (at-past-bar .past-bar .ensures) _ _ _ (at-consume-expr .consume-expr .ensures) in
+    omega arith
 
--- src/inner/rules.rt:20:1
 same-length : tie.Need-same-length
 same-length c = search needs
 
--- src/inner/rules.rt:20:1
 same-length-2 : tie.Need-same-length-2
 same-length-2 c = search needs
 
--- src/inner/rules.rt:20:1
 same-length-3 : tie.Need-same-length-3
 same-length-3 c = search needs
 
--- src/inner/rules.rt:20:1
 returns : tie.Need-returns
-returns c = rule-built _ _ _ _ _ _ _ _ _ (c .before .before .before .before .before .before .before .before .before .before .before .before .before .before .before .before .before .before .before .before .before .before .before .before .before .before .before .before .before .pre .0 .short) (c .before .before .before .before .before .before .before .before .before .before .before .before .before .before .before .before .before .before .before .before .before .before .before .before .before .before .before .before .before .pre .1 .1) _ _ (c .before .before .before .before .before .before .before .before .before .before .before .before .before .before .before .before .before .before .before .before .before .start-at .ensures) (c .before .before .before .before .before .before .before .before .before .before .before .before .before .before .before .before .before .before .before .before .end-at .ensures) _ _ (c .before .before .before .before .before .before .before .before .before .before .before .before .before .before .before .before .before .before .put-bytes .ensures) _ (c .before .before .before .before .before .before .before .before .before .before .before .before .before .before .before .mark-at .ensures) _ (c .before .before .before .before .before .before .before .before .before .before .before .before .before .before .past-mark .ensures) _ (c .before .before .before .before .before .before .before .before .before .before .before .before .before .past-bar .ensures) _ _ _ (c .before .before .before .before .before .before .before .before .before .before .consume-expr .ensures) _ (c .before .before .before .put-record .ensures)
+returns c =
+    let at-put-record = c .before .before .before in
+    let at-consume-expr = at-put-record .before .before .before .before .before .before .before in
+    let at-past-bar = at-consume-expr .before .before .before in
+    let at-past-mark = at-past-bar .before in
+    let at-mark-at = at-past-mark .before in
+    let at-put-bytes = at-mark-at .before .before .before in
+    let at-end-at = at-put-bytes .before .before in
+    let at-start-at = at-end-at .before in
+    let start = at-start-at .before .before .before .before .before .before .before .before in
+    rule-built _ _ _ _ _ _ _ _ _ (start .pre .0 .short) (start .pre .1 .1) _ _ (at-start-at .start-at .ensures) (at-end-at .end-at .ensures) _ _ (at-put-bytes .put-bytes .ensures) _ (at-mark-at .mark-at .ensures) _ (at-past-mark .past-mark .ensures) _ (at-past-bar .past-bar .ensures) _ _ _ (at-consume-expr .consume-expr .ensures) _ (at-put-record .put-record .ensures)
 
 pub consume-rule-spec : {M : Type 1} → statement M
 consume-rule-spec =
