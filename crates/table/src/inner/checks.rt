@@ -9,8 +9,11 @@ use crate::Sort;
 use text::Check;
 use text::Word;
 ghost use mathlib.Core.Path.{_≡_};
-ghost use Prim.Native.Nat.{_+_, _*_, _≤_};
-ghost use lib.ListN.{length};
+ghost use Prim.Native.Nat.{ℕ, _+_, _*_, _≤_};
+ghost use mathlib.Core.List.{List};
+ghost use lib.Dec.{leb};
+ghost use lib.ListN.{length, getD};
+ghost use Rattle.text.specs.Choice.{choose, and};
 ghost use Rattle.text.specs.Classes.{classes};
 ghost use Rattle.text.specs.declared.Check.the-variants.{Good};
 ghost use Rattle.table.specs.declared.Leaf.the-variants.{Text, Range};
@@ -191,6 +194,62 @@ fn first_of(t: &[u8; 256], nodes: &[u32], store: &[u8], firsts: &[u16; 4096], i:
     }
 }
 
+// Kinds 6 to 17 have children and no text.
+fn is_inner(kind: u32) -> bool
+    ensures { λ r. ⌜ r ≡ and (leb 6 kind) (leb kind 17) ⌝ }
+{
+    if kind < 6 {
+        return false;
+    }
+    kind <= 17
+}
+
+fn pick(on: bool, x: usize, y: usize) -> usize
+    ensures { λ r. ⌜ r ≡ choose on (λ u. x) (λ u. y) ⌝ }
+{
+    if on { x } else { y }
+}
+
+// The same for a node of children alone, by its numbers: kinds 8 and 9 have two. Random kinds make no
+// branch here that a processor has to guess.
+fn first_inner(nodes: &[u32], firsts: &[u16; 4096], i: usize) -> First
+    requires { ⌜ nodeSize * (i + 1) ≤ length (now nodes) ⌝ }
+    requires { ⌜ i ≤ maxNodes ⌝ }
+    requires { ⌜ Firsts (now nodes) (now firsts) i ⌝ }
+    requires { ⌜ 6 ≤ getD (now nodes) (nodeSize * i) 0 ⌝ }
+    requires { ⌜ getD (now nodes) (nodeSize * i) 0 ≤ 17 ⌝ }
+    ensures { λ r. ⌜ ((store : List ℕ) → r ≡ verdict (now (nodes .entry)) store i) ⌝ }
+{
+    let b = NODE_SIZE * i;
+    let p = nodes[b + 3] as usize;
+    let q = nodes[b + 4] as usize;
+    let join = nodes[b] / 2 == 4;
+    let last = pick(join, q, p);
+    if last + 1 != i {
+        return First::Nowhere;
+    }
+    let next = pick(join, wide(firsts[last]), p + 1);
+    if p + 1 != next {
+        return First::Nowhere;
+    }
+    First::At(wide(firsts[p]))
+}
+
+// The same for any node: the shorter way where it may be taken.
+fn first_at(t: &[u8; 256], nodes: &[u32], store: &[u8], firsts: &[u16; 4096], i: usize) -> First
+    requires { ⌜ now t ≡ classes ⌝ }
+    requires { ⌜ nodeSize * (i + 1) ≤ length (now nodes) ⌝ }
+    requires { ⌜ i ≤ maxNodes ⌝ }
+    requires { ⌜ Firsts (now nodes) (now firsts) i ⌝ }
+    ensures { λ r. ⌜ r ≡ verdict (now (nodes .entry)) (now (store .entry)) i ⌝ }
+{
+    let b = NODE_SIZE * i;
+    if is_inner(nodes[b]) {
+        return first_inner(nodes, firsts, i);
+    }
+    first_of(t, nodes, store, firsts, i)
+}
+
 // The lowest false node. If there is none, `firsts` has the first node of each.
 pub(crate) fn lowest_node(
     t: &[u8; 256],
@@ -207,7 +266,7 @@ pub(crate) fn lowest_node(
     let n = nodes.len() / NODE_SIZE;
     let mut i = 0;
     while i < n {
-        let f = first_of(t, nodes, store, firsts, i);
+        let f = first_at(t, nodes, store, firsts, i);
         let First::At(x) = f else {
             return Check::Bad(i);
         };

@@ -26,8 +26,8 @@ loop-holds c =
     let store = now (start .args .store) in
     (omega arith, lowest-none (goodAt nodes store), firsts-none nodes (now (start .args .firsts)), start .pre .1 .1)
 
-first-of-requires : tie.Need-first-of-requires Inv-loop μ-loop
-first-of-requires c κs = (c .before .before .before .before .before .pre .0, (omega arith, (omega arith, c .before .before .loop .inv .2)))
+first-at-requires : tie.Need-first-at-requires Inv-loop μ-loop
+first-at-requires c κs = (c .before .before .before .before .before .pre .0, (omega arith, (omega arith, c .before .before .loop .inv .2)))
 
 enum-known-f : tie.Need-enum-known-f Inv-loop μ-loop
 enum-known-f c = search needs
@@ -42,8 +42,8 @@ returns c =
     let store = now (start .args .store) in
     let loop-test = c .before .before .before .before .loop-test in
     let loop = c .before .before .before .before .before .loop in
-    let first-of = c .before .before .first-of in
-    (sym (lowest-bad (goodAt nodes store) _ _ (loop-test .taken) (loop .inv .1) (verdict-none nodes store _ (sym (first-of .ensures) ∙ c .enum-told .given .1))), λ e. let z : _≡_ {A = ℕ} 0 1 = cc in absurd (omega arith))
+    let first-at = c .before .before .first-at in
+    (sym (lowest-bad (goodAt nodes store) _ _ (loop-test .taken) (loop .inv .1) (verdict-none nodes store _ (sym (first-at .ensures) ∙ c .enum-told .given .1))), λ e. let z : _≡_ {A = ℕ} 0 1 = cc in absurd (omega arith))
 
 cast-firsts : tie.Need-cast-firsts Inv-loop μ-loop
 cast-firsts c =
@@ -51,8 +51,8 @@ cast-firsts c =
     let nodes = now (start .args .nodes) in
     let store = now (start .args .store) in
     let loop = c .before .before .before .before .before .before .loop in
-    let first-of = c .before .before .before .first-of in
-    let here = loop in omega (arith, (verdict-at nodes store (here .i) _ (sym (first-of .ensures) ∙ c .before .f .given .1)) .1, first-le nodes (here .i))
+    let first-at = c .before .before .before .first-at in
+    let here = loop in omega (arith, (verdict-at nodes store (here .i) _ (sym (first-at .ensures) ∙ c .before .f .given .1)) .1, first-le nodes (here .i))
 
 mul-firsts : tie.Need-mul-firsts Inv-loop μ-loop
 mul-firsts c = search needs
@@ -72,8 +72,8 @@ loop-again c =
     let nodes = now (start .args .nodes) in
     let store = now (start .args .store) in
     let loop = c .before .before .before .before .before .before .loop in
-    let first-of = c .before .before .before .first-of in
-    let here = loop in (omega arith, lowest-more (goodAt nodes store) _ (here .inv .1) ((verdict-at nodes store (here .i) _ (sym (first-of .ensures) ∙ c .before .f .given .1)) .0), firsts-more _ (omega (arith, here .inv .3)) (here .inv .2) ((verdict-at nodes store (here .i) _ (sym (first-of .ensures) ∙ c .before .f .given .1)) .1), simp length-set (here .inv .3))
+    let first-at = c .before .before .before .first-at in
+    let here = loop in (omega arith, lowest-more (goodAt nodes store) _ (here .inv .1) ((verdict-at nodes store (here .i) _ (sym (first-at .ensures) ∙ c .before .f .given .1)) .0), firsts-more _ (omega (arith, here .inv .3)) (here .inv .2) ((verdict-at nodes store (here .i) _ (sym (first-at .ensures) ∙ c .before .f .given .1)) .1), simp length-set (here .inv .3))
 
 returns-2 : tie.Need-returns-2 Inv-loop μ-loop
 returns-2 c =
@@ -90,7 +90,7 @@ lowest-node-spec =
     Inv-loop
     μ-loop
     loop-holds
-    first-of-requires
+    first-at-requires
     enum-known-f
     enum-told
     returns
