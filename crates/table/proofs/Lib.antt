@@ -6,6 +6,7 @@ pub mod Nodes
 pub mod Texts
 pub mod Verdicts
 pub mod Forks
+pub mod Ascii
 pub mod Heads
 pub mod Lowest
 pub mod Held

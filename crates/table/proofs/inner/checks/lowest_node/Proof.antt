@@ -14,20 +14,27 @@ use Rattle.table.proofs.inner.checks.lowest_node.Statement.{statement}
 use Rattle.table.proofs.inner.checks.lowest_node.Tie as tie
 
 abbrev Inv-loop : tie.InvT-loop
-Inv-loop t nodes store firsts₀ n i₀ firsts i = (i ≤ n) × (lowest (goodAt nodes store) i ≡ Good) × Firsts nodes firsts i × (length firsts ≡ 4096)
+Inv-loop t nodes store firsts₀ n ascii i₀ firsts i = (i ≤ n) × (lowest (goodAt nodes store) i ≡ Good) × Firsts nodes firsts i × (length firsts ≡ 4096)
 
 abbrev μ-loop : tie.MeasureT-loop
-μ-loop t nodes store firsts₀ n i₀ firsts i = n - i
+μ-loop t nodes store firsts₀ n ascii i₀ firsts i = n - i
+
+is-ascii-requires : tie.Need-is-ascii-requires Inv-loop μ-loop
+is-ascii-requires c κs = search needs
 
 loop-holds : tie.Need-loop-holds Inv-loop μ-loop
 loop-holds c =
-    let start = c .before .before in
+    let start = c .before .before .before in
     let nodes = now (start .args .nodes) in
     let store = now (start .args .store) in
     (omega arith, lowest-none (goodAt nodes store), firsts-none nodes (now (start .args .firsts)), start .pre .1 .1)
 
 first-at-requires : tie.Need-first-at-requires Inv-loop μ-loop
-first-at-requires c κs = (c .before .before .before .before .before .pre .0, (omega arith, (omega arith, c .before .before .loop .inv .2)))
+first-at-requires c κs =
+    let at-loop = c .before .before in
+    let at-is-ascii = at-loop .before in
+    let pre = at-is-ascii .before .before .before .pre in
+    (pre .0, (omega arith, (omega arith, (at-loop .loop .inv .2, at-is-ascii .is-ascii .ensures .0))))
 
 enum-known-f : tie.Need-enum-known-f Inv-loop μ-loop
 enum-known-f c = search needs
@@ -37,7 +44,7 @@ enum-told c = search needs
 
 returns : tie.Need-returns Inv-loop μ-loop
 returns c =
-    let start = c .before .before .before .before .before .before .before .before in
+    let start = c .before .before .before .before .before .before .before .before .before in
     let nodes = now (start .args .nodes) in
     let store = now (start .args .store) in
     let loop-test = c .before .before .before .before .loop-test in
@@ -47,7 +54,7 @@ returns c =
 
 cast-firsts : tie.Need-cast-firsts Inv-loop μ-loop
 cast-firsts c =
-    let start = c .before .before .before .before .before .before .before .before .before in
+    let start = c .before .before .before .before .before .before .before .before .before .before in
     let nodes = now (start .args .nodes) in
     let store = now (start .args .store) in
     let loop = c .before .before .before .before .before .before .loop in
@@ -68,7 +75,7 @@ loop-less c = search needs
 
 loop-again : tie.Need-loop-again Inv-loop μ-loop
 loop-again c =
-    let start = c .before .before .before .before .before .before .before .before .before in
+    let start = c .before .before .before .before .before .before .before .before .before .before in
     let nodes = now (start .args .nodes) in
     let store = now (start .args .store) in
     let loop = c .before .before .before .before .before .before .loop in
@@ -77,7 +84,7 @@ loop-again c =
 
 returns-2 : tie.Need-returns-2 Inv-loop μ-loop
 returns-2 c =
-    let start = c .before .before .before .before in
+    let start = c .before .before .before .before .before in
     let here = c .before .loop in
     let nodes = now (start .args .nodes) in
     let store = now (start .args .store) in
@@ -89,6 +96,7 @@ lowest-node-spec =
     (tie.spec
     Inv-loop
     μ-loop
+    is-ascii-requires
     loop-holds
     first-at-requires
     enum-known-f
