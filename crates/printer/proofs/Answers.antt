@@ -50,9 +50,12 @@ pub answer-no-room : (x : List ℕ) (n : ℕ) {r : ℕ} → r ≡ spent (n + 1) 
 unfolding roomOf
 answer-no-room x n e z = rw (lt-leb (length x) n (spent-over n x (sym e ∙ z)))
 
-pub answer-used : (x : List ℕ) (n : ℕ) {r k : ℕ} → r ≡ spent (n + 1) x → (r ≡ 0 → ⊥) → k ≡ length x → Used k ≡ roomOf x n
+pub answer-fits : (x : List ℕ) (n : ℕ) {k : ℕ} → length x ≤ n → k ≡ length x → Used k ≡ roomOf x n
 unfolding roomOf
-answer-used x n e h z = rw (le-leb (length x) n (room-fits x n e h), z)
+answer-fits x n h z = rw (le-leb (length x) n h, z)
+
+pub answer-used : (x : List ℕ) (n : ℕ) {r k : ℕ} → r ≡ spent (n + 1) x → (r ≡ 0 → ⊥) → k ≡ length x → Used k ≡ roomOf x n
+answer-used x n e h z = answer-fits x n (room-fits x n e h) z
 
 -- what the promise of `print` says of an answer and of what the output holds afterwards
 pub record Meets (ns rs st o : List ℕ) (r : Printed) (o′ : List ℕ) : Type 0 where

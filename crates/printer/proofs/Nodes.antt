@@ -44,7 +44,7 @@ enclosed-three b x y z = ap (λ v. opening b ++ v) (append-assoc x (y ++ z) (clo
 module _ (ns st : List ℕ) (i : ℕ) (w : Place) where
   -- a leaf, with the answers of the functions that its text asks
   module _ {l : Leaf} (e : nodeAt ns i ≡ Tip l) {f : Form} (g : f ≡ atomForm (atomOf [] l)) {on : Bool} (h : on ≡ brackets w f) where
-    leaf-text : printed w (treeAt ns st i) ≡ enclosed on (atomText (atomOf st l))
+    pub leaf-text : printed w (treeAt ns st i) ≡ enclosed on (atomText (atomOf st l))
     unfolding printed
     leaf-text = ap (printed w) (tree-tip ns st i e) ∙ rw (leaf-any st l, h, g)
 
@@ -59,7 +59,7 @@ module _ (ns st : List ℕ) (i : ℕ) (w : Place) where
   module _ (s : Sound ns st (i + 1)) where
     -- one child
     module _ {o : Op} {c : ℕ} (e : nodeAt ns i ≡ One o c) {f : Form} (g : f ≡ wrapForm (wrapOf [] o)) {on : Bool} (h : on ≡ brackets w f) {u : Place} (v : u ≡ under f) where
-      one-text : printed w (treeAt ns st i) ≡ enclosed on (before (wrapOf st o) ++ (printed u (treeAt ns st c) ++ after (wrapOf [] o)))
+      pub one-text : printed w (treeAt ns st i) ≡ enclosed on (before (wrapOf st o) ++ (printed u (treeAt ns st c) ++ after (wrapOf [] o)))
       unfolding printed
       one-text = ap (printed w) (sound-tree-one ns st i s e) ∙ rw (form-any st o, after-any st o, h, v, g)
 
@@ -76,7 +76,7 @@ module _ (ns st : List ℕ) (i : ℕ) (w : Place) where
 
     -- two children
     module _ {j : Join} {a b : ℕ} (e : nodeAt ns i ≡ Two j a b) {on : Bool} (h : on ≡ brackets w (Joined j)) where
-      two-text : printed w (treeAt ns st i) ≡ enclosed on (printed (LeftOf j) (treeAt ns st a) ++ (separator j ++ printed (RightOf j) (treeAt ns st b)))
+      pub two-text : printed w (treeAt ns st i) ≡ enclosed on (printed (LeftOf j) (treeAt ns st a) ++ (separator j ++ printed (RightOf j) (treeAt ns st b)))
       unfolding printed
       two-text = ap (printed w) (sound-tree-two ns st i s e) ∙ rw h
 

@@ -31,7 +31,7 @@ mark-none m a b c d = ⊎-elim
 
 -- a rule in its parts, by its record
 module _ (ns rs st : List ℕ) (k : ℕ) (h : Head) (e : h ≡ headAt rs k) where
-  rule-text : printedRule (ruleAt ns rs st k)
+  pub rule-text : printedRule (ruleAt ns rs st k)
       ≡ part st (h .offset) (h .length) ++ (32 ∷ 61 ∷ 32 ∷ (markText (h .mark) ++ (123 ∷ 32 ∷ (printed Alone (treeAt ns st (h .root)) ++ (32 ∷ 125 ∷ 10 ∷ [])))))
   unfolding printedRule ruleAt ruleRowAt headAt
   rule-text = ap
@@ -80,7 +80,7 @@ unfoldable pub rest : List ℕ → List ℕ → List ℕ → ℕ → List ℕ
 rest ns rs st k = printedRules (rulesFrom ns rs st k (rulesIn rs - k))
 
 module _ (ns rs st : List ℕ) where
-  rest-all : rest ns rs st 0 ≡ tableText ns rs st
+  pub rest-all : rest ns rs st 0 ≡ tableText ns rs st
   unfolding rest tableText rulesOf
   rest-all = let e : rulesIn rs - 0 ≡ rulesIn rs = omega arith in rw e
 
@@ -90,7 +90,7 @@ module _ (ns rs st : List ℕ) where
       let e : rulesIn rs - k ≡ suc (rulesIn rs - (k + 1)) = omega arith in
       rw (e, rulesFrom, add-one)
 
-  rest-end : (k : ℕ) → rulesIn rs ≤ k → rest ns rs st k ≡ []
+  pub rest-end : (k : ℕ) → rulesIn rs ≤ k → rest ns rs st k ≡ []
   unfolding rest rulesFrom printedRules
   rest-end k h = let e : rulesIn rs - k ≡ 0 = omega arith in rw (e, rulesFrom)
 

@@ -1,5 +1,6 @@
 // The two walks from a node to its children, whose indexes are smaller: one measures a text, so that
 // nothing is written where it does not fit, and one writes it.
+use super::bounds::table_most;
 use super::forms;
 use super::leaves;
 use super::unary;
@@ -203,15 +204,27 @@ pub fn print_rules(
     a
 }
 
-// Prints tables that are known not to be false.
+// Writes all rules to the front of an output that has room for them.
+fn print_fitting(nodes: &[u32], rules: &[u32], store: &[u8], out: &mut [u8]) -> usize
+    requires { ⌜ Valid (now nodes) (now rules) (now store) ⌝ }
+    requires { ⌜ Room (now out) 0 (tableText (now nodes) (now rules) (now store)) ⌝ }
+    ensures { λ r. ⌜ Wrote (now (out .entry)) 0 (tableText (now (nodes .entry)) (now (rules .entry)) (now (store .entry))) (now (out .exit)) r ⌝ }
+{
+    let t = hex_digits();
+    print_rules(&t, nodes, rules, store, out, 0)
+}
+
+// Prints tables that are known not to be false. They are measured where their bound does not fit.
 pub fn print_valid(nodes: &[u32], rules: &[u32], store: &[u8], out: &mut [u8]) -> Printed
     requires { ⌜ Valid (now nodes) (now rules) (now store) ⌝ }
     ensures { λ r. ⌜ r ≡ roomOf (tableText (now (nodes .entry)) (now (rules .entry)) (now (store .entry))) (length (now (out .entry))) ⌝ }
     ensures { λ r. ⌜ now (out .exit) ≡ printIn (now (nodes .entry)) (now (rules .entry)) (now (store .entry)) (now (out .entry)) r ⌝ }
 {
+    if table_most(nodes, rules) <= out.len() {
+        return Printed::Used(print_fitting(nodes, rules, store, out));
+    }
     if measure_rules(nodes, rules, store, out.len() + 1) == 0 {
         return Printed::NoRoom;
     }
-    let t = hex_digits();
-    Printed::Used(print_rules(&t, nodes, rules, store, out, 0))
+    Printed::Used(print_fitting(nodes, rules, store, out))
 }

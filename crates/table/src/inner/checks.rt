@@ -9,8 +9,12 @@ use crate::Sort;
 use text::Check;
 use text::Word;
 ghost use mathlib.Core.Path.{_≡_};
-ghost use Prim.Native.Nat.{_+_, _*_, _≤_};
-ghost use lib.ListN.{length};
+ghost use Prim.Native.Nat.{ℕ, _+_, _*_, _≤_, _<_};
+ghost use mathlib.Core.List.{List};
+ghost use mathlib.Core.Bool.{true, false};
+ghost use lib.Dec.{leb, eqb};
+ghost use lib.ListN.{length, getD};
+ghost use Rattle.text.specs.Choice.{choose, and, or};
 ghost use Rattle.text.specs.Classes.{classes};
 ghost use Rattle.text.specs.declared.Check.the-variants.{Good};
 ghost use Rattle.table.specs.declared.Leaf.the-variants.{Text, Range};
@@ -191,6 +195,146 @@ fn first_of(t: &[u8; 256], nodes: &[u32], store: &[u8], firsts: &[u16; 4096], i:
     }
 }
 
+// Kinds 6 to 17 have children and no text.
+fn is_inner(kind: u32) -> bool
+    ensures { λ r. ⌜ r ≡ and (leb 6 kind) (leb kind 17) ⌝ }
+{
+    if kind < 6 {
+        return false;
+    }
+    kind <= 17
+}
+
+fn pick(on: bool, x: usize, y: usize) -> usize
+    ensures { λ r. ⌜ r ≡ choose on (λ u. x) (λ u. y) ⌝ }
+{
+    if on { x } else { y }
+}
+
+// The same for a node of children alone, by its numbers: kinds 8 and 9 have two. Random kinds make no
+// branch here that a processor has to guess.
+fn first_inner(nodes: &[u32], firsts: &[u16; 4096], i: usize) -> First
+    requires { ⌜ nodeSize * (i + 1) ≤ length (now nodes) ⌝ }
+    requires { ⌜ i ≤ maxNodes ⌝ }
+    requires { ⌜ Firsts (now nodes) (now firsts) i ⌝ }
+    requires { ⌜ 6 ≤ getD (now nodes) (nodeSize * i) 0 ⌝ }
+    requires { ⌜ getD (now nodes) (nodeSize * i) 0 ≤ 17 ⌝ }
+    ensures { λ r. ⌜ ((store : List ℕ) → r ≡ verdict (now (nodes .entry)) store i) ⌝ }
+{
+    let b = NODE_SIZE * i;
+    let p = nodes[b + 3] as usize;
+    let q = nodes[b + 4] as usize;
+    let join = nodes[b] / 2 == 4;
+    let last = pick(join, q, p);
+    if last + 1 != i {
+        return First::Nowhere;
+    }
+    let next = pick(join, wide(firsts[last]), p + 1);
+    if p + 1 != next {
+        return First::Nowhere;
+    }
+    First::At(wide(firsts[p]))
+}
+
+fn larger(x: u8, y: u8) -> u8
+    ensures { λ r. ⌜ x ≤ r ⌝ }
+    ensures { λ r. ⌜ y ≤ r ⌝ }
+    ensures { λ r. ⌜ (x < 128 → y < 128 → r < 128) ⌝ }
+{
+    if x < y { y } else { x }
+}
+
+// Whether all bytes are below 128. It looks at each, and a processor at many at once.
+fn is_ascii(s: &[u8]) -> bool
+    ensures { λ r. ⌜ (r ≡ true → (k : ℕ) → getD (now (s .entry)) k 0 < 128) ⌝ }
+    ensures { λ r. ⌜ (r ≡ false → ((k : ℕ) → getD (now (s .entry)) k 0 < 128) → ⊥) ⌝ }
+{
+    let mut x: u8 = 0;
+    let mut i = 0;
+    while i < s.len() {
+        x = larger(x, s[i]);
+        i += 1;
+    }
+    x < 128
+}
+
+fn is_string(kind: u32) -> bool
+    ensures { λ r. ⌜ r ≡ or (eqb kind 1) (or (eqb kind 2) (eqb kind 18)) ⌝ }
+{
+    match kind {
+        1 => true,
+        2 => true,
+        18 => true,
+        _ => false,
+    }
+}
+
+// The same for a name.
+fn first_name(t: &[u8; 256], nodes: &[u32], store: &[u8], i: usize) -> First
+    requires { ⌜ now t ≡ classes ⌝ }
+    requires { ⌜ nodeSize * (i + 1) ≤ length (now nodes) ⌝ }
+    requires { ⌜ getD (now nodes) (nodeSize * i) 0 ≡ 4 ⌝ }
+    ensures { λ r. ⌜ r ≡ verdict (now (nodes .entry)) (now (store .entry)) i ⌝ }
+{
+    let b = NODE_SIZE * i;
+    if good_text(
+        t,
+        store,
+        Sort::Ident,
+        nodes[b + 3] as usize,
+        nodes[b + 4] as usize,
+    ) {
+        return First::At(i);
+    }
+    First::Nowhere
+}
+
+// The same for a string in a store of ASCII, any part of which is UTF-8.
+fn first_string(nodes: &[u32], store: &[u8], i: usize) -> First
+    requires { ⌜ nodeSize * (i + 1) ≤ length (now nodes) ⌝ }
+    requires { ⌜ or (eqb (getD (now nodes) (nodeSize * i) 0) 1) (or (eqb (getD (now nodes) (nodeSize * i) 0) 2) (eqb (getD (now nodes) (nodeSize * i) 0) 18)) ≡ true ⌝ }
+    requires { ⌜ ((k : ℕ) → getD (now store) k 0 < 128) ⌝ }
+    ensures { λ r. ⌜ r ≡ verdict (now (nodes .entry)) (now (store .entry)) i ⌝ }
+{
+    let b = NODE_SIZE * i;
+    if is_inside(store, nodes[b + 3] as usize, nodes[b + 4] as usize) {
+        return First::At(i);
+    }
+    First::Nowhere
+}
+
+// The same for any node: the shorter way where it may be taken.
+fn first_at(
+    t: &[u8; 256],
+    nodes: &[u32],
+    store: &[u8],
+    ascii: bool,
+    firsts: &[u16; 4096],
+    i: usize,
+) -> First
+    requires { ⌜ now t ≡ classes ⌝ }
+    requires { ⌜ nodeSize * (i + 1) ≤ length (now nodes) ⌝ }
+    requires { ⌜ i ≤ maxNodes ⌝ }
+    requires { ⌜ Firsts (now nodes) (now firsts) i ⌝ }
+    requires { ⌜ (ascii ≡ true → (k : ℕ) → getD (now store) k 0 < 128) ⌝ }
+    ensures { λ r. ⌜ r ≡ verdict (now (nodes .entry)) (now (store .entry)) i ⌝ }
+{
+    let b = NODE_SIZE * i;
+    let kind = nodes[b];
+    if is_inner(kind) {
+        return first_inner(nodes, firsts, i);
+    }
+    if kind == 4 {
+        return first_name(t, nodes, store, i);
+    }
+    if ascii {
+        if is_string(kind) {
+            return first_string(nodes, store, i);
+        }
+    }
+    first_of(t, nodes, store, firsts, i)
+}
+
 // The lowest false node. If there is none, `firsts` has the first node of each.
 pub(crate) fn lowest_node(
     t: &[u8; 256],
@@ -205,9 +349,10 @@ pub(crate) fn lowest_node(
     ensures { λ r. ⌜ (r ≡ Good → Firsts (now (nodes .entry)) (now (firsts .exit)) (nodesIn (now (nodes .entry)))) ⌝ }
 {
     let n = nodes.len() / NODE_SIZE;
+    let ascii = is_ascii(store);
     let mut i = 0;
     while i < n {
-        let f = first_of(t, nodes, store, firsts, i);
+        let f = first_at(t, nodes, store, ascii, firsts, i);
         let First::At(x) = f else {
             return Check::Bad(i);
         };

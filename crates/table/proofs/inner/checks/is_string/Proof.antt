@@ -1,0 +1,21 @@
+use mathlib.Core.Path.{_≡_}
+use borrow.Author.Tests.{ne-eqb}
+use Rattle.table.proofs.inner.checks.is_string.Statement.{statement}
+use Rattle.table.proofs.inner.checks.is_string.Tie as tie
+
+returns : tie.Need-returns
+returns c = rw (c .match .keys1)
+
+returns-2 : tie.Need-returns-2
+returns-2 c = rw (c .match .keys2)
+
+returns-3 : tie.Need-returns-3
+returns-3 c = rw (c .match .keys3)
+
+returns-4 : tie.Need-returns-4
+returns-4 c =
+    let r = c .match .rest in
+    rw (ne-eqb _ 1 (r .0 .0 .1), ne-eqb _ 2 (r .0 .1), ne-eqb _ 18 (r .1))
+
+pub is-string-spec : {M : Type 1} → statement M
+is-string-spec = tie.close (tie.spec returns returns-2 returns-3 returns-4)
