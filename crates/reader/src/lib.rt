@@ -101,6 +101,22 @@ pub fn read(
             store,
         );
     }
+    if text.len() <= 16384 {
+        let mut kinds = [0u8; 16384];
+        let mut starts = [0u32; 16384];
+        let mut ends = [0u32; 16384];
+        return inner::answers::work(
+            &t,
+            text,
+            &mut kinds,
+            &mut starts,
+            &mut ends,
+            level,
+            nodes,
+            rules,
+            store,
+        );
+    }
     let mut kinds = [0u8; 65536];
     let mut starts = [0u32; 65536];
     let mut ends = [0u32; 65536];

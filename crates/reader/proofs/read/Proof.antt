@@ -75,11 +75,41 @@ same-length-6 c = search needs
 
 returns-4 : tie.Need-returns-4
 returns-4 c =
-    let at-work2 = c .before .before .before .before .before .before .before .before .before in
-    let at-enum-told = at-work2 .before .before .before .before .before .before .before .before .before .before in
-    let at-first-bad = at-enum-told .before .before in
-    let at-if1 = at-first-bad .before in
-    let m = read-good _ _ _ _ _ (at-if1 .if1 .left) _ (at-first-bad .first-bad .ensures) (at-enum-told .enum-told .given .1) _ _ _ _ (at-work2 .work2 .ensures .0) (at-work2 .work2 .ensures .1) in
+    let at-work = c .before .before .before .before .before .before .before .before .before in
+    let at-told = at-work .before .before .before .before .before .before .before .before .before .before .before in
+    let at-first-bad = at-told .before .before in
+    let at-long = at-first-bad .before in
+    let m = read-good _ _ _ _ _ (at-long .if1 .left) _ (at-first-bad .first-bad .ensures) (at-told .enum-told .given .1) _ _ _ _ (at-work .work2 .ensures .0) (at-work .work2 .ensures .1) in
+    (m .answer, (m .report, m .left))
+
+slice-aggregate-work-7 : tie.Need-slice-aggregate-work-7
+slice-aggregate-work-7 c = search needs
+
+slice-aggregate-work-8 : tie.Need-slice-aggregate-work-8
+slice-aggregate-work-8 c = search needs
+
+slice-aggregate-work-9 : tie.Need-slice-aggregate-work-9
+slice-aggregate-work-9 c = search needs
+
+work-requires-3 : tie.Need-work-requires-3
+work-requires-3 c κs = (search needs, record { short = search needs; kinds = search needs; starts = search needs; ends = search needs })
+
+same-length-7 : tie.Need-same-length-7
+same-length-7 c = search needs
+
+same-length-8 : tie.Need-same-length-8
+same-length-8 c = search needs
+
+same-length-9 : tie.Need-same-length-9
+same-length-9 c = search needs
+
+returns-5 : tie.Need-returns-5
+returns-5 c =
+    let at-work = c .before .before .before .before .before .before .before .before .before in
+    let at-told = at-work .before .before .before .before .before .before .before .before .before .before .before in
+    let at-first-bad = at-told .before .before in
+    let at-long = at-first-bad .before in
+    let m = read-good _ _ _ _ _ (at-long .if1 .left) _ (at-first-bad .first-bad .ensures) (at-told .enum-told .given .1) _ _ _ _ (at-work .work3 .ensures .0) (at-work .work3 .ensures .1) in
     (m .answer, (m .report, m .left))
 
 pub read-spec : {M : Type 1} → statement M
@@ -107,4 +137,12 @@ read-spec =
     same-length-4
     same-length-5
     same-length-6
-    returns-4)
+    returns-4
+    slice-aggregate-work-7
+    slice-aggregate-work-8
+    slice-aggregate-work-9
+    work-requires-3
+    same-length-7
+    same-length-8
+    same-length-9
+    returns-5)
