@@ -1,12 +1,12 @@
 -- The phases of a reading: what each of them answers, and what it leaves in the lent buffers.
-use Prim.Native.Nat.{ℕ, zero, suc, _+_, _*_, _≤_, _<_, _/_, min}
+use Prim.Native.Nat.{ℕ, zero, suc, _+_, _*_, _≤_, _<_}
 use mathlib.Core.Path.{_≡_, refl, sym, ap, _∙_}
 use mathlib.Core.Bool.{Bool, true, false}
-use mathlib.Core.List.{List, [], _∷_, _++_}
+use mathlib.Core.List.{List, [], _∷_}
 use mathlib.Core.Logic.{⊎-elim}
 use native.Mathlib.Nat.{eq-or-lt-of-le}
 use native.Mathlib.Omega.{arith}
-use lib.Dec.{leb, ltb}
+use lib.Dec.{leb, ltb, eqb}
 use denote.Enum.Declared.{tagOf}
 use types.Run.{OneOf}
 use lib.ListN.{length, take, length-append, length-take}
@@ -23,8 +23,7 @@ use Rattle.token.proofs.Lists.{few}
 use Rattle.token.proofs.Fills.{used, filled-all, filled-none}
 use Rattle.text.proofs.Splices.{length-fronted}
 use Rattle.token.proofs.Lists.{length-each}
-use Rattle.table.specs.Tree.{Span, Rule, count, counts, ruleStored, rulesStored}
-use Rattle.table.specs.Record.{nodesIn, rulesIn}
+use Rattle.table.specs.Tree.{Span, Rule, counts, ruleStored, rulesStored}
 use Rattle.table.specs.Flat.{nodesOf, recordsOf}
 use Rattle.structure.specs.declared.Level.{Level}
 use Rattle.structure.specs.declared.Fault.{Fault}
@@ -36,20 +35,20 @@ use Rattle.structure.specs.declared.Counted.the-variants as Counted
 use Rattle.structure.specs.Tokens as Tokens
 use Rattle.structure.specs.Tokens.{toks, is}
 use Rattle.structure.specs.Values.{inside, literalFault, faultAt, orFault, faultsFrom, faults}
-use Rattle.structure.specs.Structure.{Ruled, rules, unruled, ruleAt, grammar, docs}
+use Rattle.structure.specs.Structure.{Ruled, rules, unruled, grammar, docs}
 use Rattle.structure.specs.Structure as Structure
 use Rattle.structure.specs.Answers.{Lent, summaries}
 use Rattle.structure.proofs.Sizes as Sizes
 use Rattle.text.proofs.Tests.{lt-or-ge}
 use Rattle.structure.proofs.Steps.{choose-true, choose-false, split, inside-is, another, and-left, or-first, or-second}
-use Rattle.structure.proofs.Rules.{rule-went, rules-end, rules-doc}
+use Rattle.structure.proofs.Rules.{rule-went, rules-end}
 use Rattle.reader.specs.declared.Reading.{Reading}
 use Rattle.reader.specs.declared.Reading.the-variants as Reading
 use Rattle.reader.proofs.Reading.{the-type}
-use Rattle.reader.specs.Read.{roomForNodes, roomForRules, roomBy, faulty, checkedBy, unreadable, ruledBy, judgedOf, listedOf, readOf, ruledOf, rulesOf, leftIn, numbered, reported, Leaves}
-use Rattle.reader.specs.Build.{most, Scalars}
+use Rattle.reader.specs.Read.{roomForNodes, roomForRules, roomBy, faulty, checkedBy, unreadable, ruledBy, judgedOf, listedOf, readOf, ruledOf, rulesOf, leftIn, Numbered, numbered, reported, Leaves}
+use Rattle.reader.specs.Build.{Scalars}
 use Rattle.reader.specs.Rules.{RulesRoom, RulesBuilt}
-use Rattle.reader.proofs.Rules.{NextRule, next-rule, no-rules}
+use Rattle.reader.proofs.Rules.{next-rule, no-rules}
 
 -- ---- room
 
@@ -363,3 +362,40 @@ module _ (level : Level) (s ns rs st : List ℕ) where
     pub read-good : c ≡ Check.Good → (r : Reading) (ns′ rs′ st′ : List ℕ) → r ≡ listedOf level s (roomForNodes ns) (roomForRules rs) (length st) → Leaves level s r ns rs st ns′ rs′ st′
         → Meets level s ns rs st r ns′ rs′ st′
     read-good q r ns′ rs′ st′ w l = met (w ∙ by-check q) l
+
+-- number, place and counts decide the answer
+decoded : Numbered → Reading
+decoded x =
+    choose (eqb (x .number) 0) (λ u. Reading.Read (x .nodes) (x .rules) (x .store))
+    (λ u. choose (eqb (x .number) 1) (λ u. Reading.TooLong)
+    (λ u. choose (eqb (x .number) 2) (λ u. Reading.NotUtf8 (x .place))
+    (λ u. choose (eqb (x .number) 3) (λ u. Reading.NoToken (x .place))
+    (λ u. choose (eqb (x .number) 4) (λ u. Reading.NotAllowed (x .place))
+    (λ u. choose (eqb (x .number) 9) (λ u. Reading.TooDeep (x .place))
+    (λ u. choose (eqb (x .number) 5) (λ u. Reading.Over (x .place))
+    (λ u. choose (eqb (x .number) 6) (λ u. Reading.Zero (x .place))
+    (λ u. choose (eqb (x .number) 7) (λ u. Reading.PeekRange (x .place))
+    (λ u. choose (eqb (x .number) 8) (λ u. Reading.NotScalar (x .place))
+    (λ u. choose (eqb (x .number) 13) (λ u. Reading.NotPlain (x .place))
+    (λ u. choose (eqb (x .number) 12) (λ u. Reading.RulesRoom)
+    (λ u. choose (eqb (x .number) 10) (λ u. Reading.NodesRoom) (λ u. Reading.StoreRoom)))))))))))))
+
+decode : (r : Reading) → decoded (numbered r) ≡ r
+unfolding decoded numbered
+decode (Reading.Read n r b) = refl
+decode Reading.TooLong = refl
+decode (Reading.NotUtf8 p) = refl
+decode (Reading.NoToken p) = refl
+decode (Reading.NotAllowed p) = refl
+decode (Reading.TooDeep p) = refl
+decode (Reading.Over p) = refl
+decode (Reading.Zero p) = refl
+decode (Reading.PeekRange p) = refl
+decode (Reading.NotScalar p) = refl
+decode (Reading.NotPlain p) = refl
+decode Reading.RulesRoom = refl
+decode Reading.NodesRoom = refl
+decode Reading.StoreRoom = refl
+
+pub numbered-one : (r s : Reading) → numbered r ≡ numbered s → r ≡ s
+numbered-one r s e = sym (decode r) ∙ ap decoded e ∙ decode s

@@ -1,32 +1,30 @@
 -- Rules in the buffers, one after another.
-use Prim.Native.Nat.{ℕ, zero, suc, _+_, _-_, _*_, _≤_, _<_}
+use Prim.Native.Nat.{ℕ, zero, suc, _+_, _-_, _≤_, _<_}
 use mathlib.Core.Path.{_≡_, refl, sym, ap, _∙_}
-use mathlib.Core.Bool.{Bool, true, false}
+use mathlib.Core.Bool.{false}
 use mathlib.Core.List.{List, [], _∷_, _++_}
 use native.Mathlib.Omega.{arith}
 use lib.Dec.{leb, eqb}
 use lib.ListN.{length, length-append}
 use lib.Seq.{sets, length-sets}
-use Rattle.text.specs.Splice.{Wrote, fronted}
+use Rattle.text.specs.Splice.{Wrote}
 use Rattle.text.specs.Splice as Splice
 use Rattle.text.proofs.Splices.{sets-front}
 use Rattle.table.specs.Tree.{Span, Tree, Rule, below, count, counts, size, stored, ruleStored, rulesStored}
-use Rattle.table.specs.Record.{nodeSize, ruleSize}
 use Rattle.table.specs.Flat.{flat, ruleRecord, nodesFrom, recordsFrom, nodesOf, recordsOf}
 use Rattle.table.proofs.Flats.{length-flat}
 use Rattle.table.proofs.Rules.{length-rule, length-nodes, length-records}
 use Rattle.structure.specs.declared.Level.{Level}
 use Rattle.structure.specs.Tokens.{toks, kind, start, end, is, part, word, across, spells}
-use Rattle.structure.specs.Structure.{Parsed, got, expr, Run, silent, markAt, pastMark, pastBar, Ruled, rules, unruled, withRule, Ruling, ruling, noRule, thenRules, ruleAt, rulesIn, docs, grammar}
+use Rattle.structure.specs.Structure.{got, expr, Run, silent, markAt, pastMark, pastBar, Ruled, rules, unruled, withRule, Ruling, ruling, noRule, thenRules, ruleAt, rulesIn, docs, grammar}
 use Rattle.token.proofs.Lists.{few}
 use borrow.Author.Tests.{leb-false}
 use Rattle.structure.proofs.Steps.{split, sees, misses}
-use Rattle.structure.proofs.Cases.{RuleRead, rule-read}
+use Rattle.structure.proofs.Cases.{rule-read}
 use Rattle.structure.proofs.Rules.{size-rule, rule-went, rules-end, rules-doc, rules-rule}
 use Rattle.reader.specs.declared.Placed.{Placed}
 use Rattle.reader.specs.declared.Past.{Past}
-use Rattle.reader.specs.Read.{rulesOf, ruledOf}
-use Rattle.reader.specs.Build.{written, most, Fits, Room, Laid, Built}
+use Rattle.reader.specs.Build.{written, Fits, Room, Built}
 use Rattle.reader.specs.Rules.{RuleRoom, RuleBuilt, RulesRoom, RulesBuilt}
 use Rattle.reader.proofs.Patches.{length-written, sets-on, written-on}
 use Rattle.structure.proofs.Arrays.{low, word-is, part-length}

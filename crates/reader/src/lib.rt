@@ -9,7 +9,9 @@ use table::Unary;
 use text::Check;
 ghost use mathlib.Core.Path.{_≡_};
 ghost use lib.ListN.{length};
-ghost use Rattle.reader.specs.Read.{roomForNodes, roomForRules, readOf, numbered, reported, Leaves};
+ghost use Rattle.table.specs.Tree.{rulesStored};
+ghost use Rattle.table.specs.Flat.{nodesOf, recordsOf};
+ghost use Rattle.reader.specs.Read.{roomForNodes, roomForRules, readOf, numbered, reported, rulesOf, leftIn};
 
 // The nodes, rules and store bytes used, or why nothing was read, and where.
 pub enum Reading {
@@ -75,7 +77,9 @@ pub fn read(
 ) -> Reading
     ensures answer { λ r. ⌜ r ≡ readOf level (now (text .entry)) (roomForNodes (now (nodes .entry))) (roomForRules (now (rules .entry))) (length (now (store .entry))) ⌝ }
     ensures report { λ r. ⌜ numbered r ≡ reported level (now (text .entry)) (roomForNodes (now (nodes .entry))) (roomForRules (now (rules .entry))) (length (now (store .entry))) ⌝ }
-    ensures left { λ r. ⌜ Leaves level (now (text .entry)) r (now (nodes .entry)) (now (rules .entry)) (now (store .entry)) (now (nodes .exit)) (now (rules .exit)) (now (store .exit)) ⌝ }
+    ensures nodes { λ r. ⌜ now (nodes .exit) ≡ leftIn r (nodesOf (rulesOf level (now (text .entry)))) (now (nodes .entry)) ⌝ }
+    ensures rules { λ r. ⌜ now (rules .exit) ≡ leftIn r (recordsOf (rulesOf level (now (text .entry)))) (now (rules .entry)) ⌝ }
+    ensures store { λ r. ⌜ now (store .exit) ≡ leftIn r (rulesStored (rulesOf level (now (text .entry)))) (now (store .entry)) ⌝ }
 {
     if 65536 < text.len() {
         return Reading::TooLong;

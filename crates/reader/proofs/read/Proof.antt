@@ -1,11 +1,10 @@
 use Rattle.reader.proofs.Answers.{read-long, read-bad, read-good}
-use mathlib.Core.Path.{refl}
 use borrow.Author.Needs.{needs}
 use Rattle.reader.proofs.read.Statement.{statement}
 use Rattle.reader.proofs.read.Tie as tie
 
 returns : tie.Need-returns
-returns c = let m = read-long _ _ _ _ _ (c .if1 .taken) in (m .answer, (m .report, m .left))
+returns c = let m = read-long _ _ _ _ _ (c .if1 .taken) in (m .answer, (m .report, (m .left .nodes, (m .left .rules, m .left .store))))
 
 first-bad-requires : tie.Need-first-bad-requires
 first-bad-requires c κs = search needs
@@ -14,7 +13,7 @@ enum-known-utf8 : tie.Need-enum-known-utf8
 enum-known-utf8 c = search needs
 
 returns-2 : tie.Need-returns-2
-returns-2 c = let m = read-bad _ _ _ _ _ (c .before .before .before .before .if1 .left) _ (c .before .before .before .first-bad .ensures) _ (c .before .utf8 .given .1) in (m .answer, (m .report, m .left))
+returns-2 c = let m = read-bad _ _ _ _ _ (c .before .before .before .before .if1 .left) _ (c .before .before .before .first-bad .ensures) _ (c .before .utf8 .given .1) in (m .answer, (m .report, (m .left .nodes, (m .left .rules, m .left .store))))
 
 enum-told : tie.Need-enum-told
 enum-told c = search needs
@@ -50,7 +49,7 @@ returns-3 c =
     let at-first-bad = at-enum-told .before .before in
     let at-if1 = at-first-bad .before in
     let m = read-good _ _ _ _ _ (at-if1 .if1 .left) _ (at-first-bad .first-bad .ensures) (at-enum-told .enum-told .given .1) _ _ _ _ (at-work .work .ensures .0) (at-work .work .ensures .1) in
-    (m .answer, (m .report, m .left))
+    (m .answer, (m .report, (m .left .nodes, (m .left .rules, m .left .store))))
 
 slice-aggregate-work-4 : tie.Need-slice-aggregate-work-4
 slice-aggregate-work-4 c = search needs
@@ -80,7 +79,7 @@ returns-4 c =
     let at-first-bad = at-told .before .before in
     let at-long = at-first-bad .before in
     let m = read-good _ _ _ _ _ (at-long .if1 .left) _ (at-first-bad .first-bad .ensures) (at-told .enum-told .given .1) _ _ _ _ (at-work .work2 .ensures .0) (at-work .work2 .ensures .1) in
-    (m .answer, (m .report, m .left))
+    (m .answer, (m .report, (m .left .nodes, (m .left .rules, m .left .store))))
 
 slice-aggregate-work-7 : tie.Need-slice-aggregate-work-7
 slice-aggregate-work-7 c = search needs
@@ -110,7 +109,7 @@ returns-5 c =
     let at-first-bad = at-told .before .before in
     let at-long = at-first-bad .before in
     let m = read-good _ _ _ _ _ (at-long .if1 .left) _ (at-first-bad .first-bad .ensures) (at-told .enum-told .given .1) _ _ _ _ (at-work .work3 .ensures .0) (at-work .work3 .ensures .1) in
-    (m .answer, (m .report, m .left))
+    (m .answer, (m .report, (m .left .nodes, (m .left .rules, m .left .store))))
 
 pub read-spec : {M : Type 1} → statement M
 read-spec =
