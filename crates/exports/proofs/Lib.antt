@@ -1,0 +1,1 @@
+-- The C interface: what its proofs cite.

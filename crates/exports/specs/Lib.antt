@@ -1,0 +1,2 @@
+-- The C interface: the definitions that its contracts cite.
+pub mod Numbers
