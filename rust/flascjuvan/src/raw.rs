@@ -1,0 +1,81 @@
+//! The C interface as it is, made safe: lent slices in, the answer's numbers out.
+//!
+//! The functions on the other side are proved to answer every input, and ask only for memory that is as their types
+//! say. Rust's slices are that: aligned, never null, as long as they claim, and a `&mut` overlaps nothing. So nothing is
+//! left to test here but that enough stack is free, which no library can.
+
+extern "C" {
+    fn flascjuvan_read(
+        text: *const u8,
+        text_len: usize,
+        tagged: u32,
+        nodes: *mut u32,
+        nodes_len: usize,
+        rules: *mut u32,
+        rules_len: usize,
+        store: *mut u8,
+        store_len: usize,
+        answer: *mut u64,
+    );
+    fn flascjuvan_print(
+        nodes: *const u32,
+        nodes_len: usize,
+        rules: *const u32,
+        rules_len: usize,
+        store: *const u8,
+        store_len: usize,
+        out: *mut u8,
+        out_len: usize,
+        answer: *mut u64,
+    );
+    fn flascjuvan_next_token(text: *const u8, text_len: usize, at: usize, answer: *mut u64);
+}
+
+/// Reads a text into the fronts of the lent buffers. Number, place, nodes, rules, store bytes.
+pub fn read(text: &[u8], tagged: bool, nodes: &mut [u32], rules: &mut [u32], store: &mut [u8]) -> [u64; 5] {
+    let mut answer = [0; 5];
+    // SAFETY: each pointer and length is a live slice's, the mutable ones overlap nothing, the answer has five numbers.
+    unsafe {
+        flascjuvan_read(
+            text.as_ptr(),
+            text.len(),
+            tagged.into(),
+            nodes.as_mut_ptr(),
+            nodes.len(),
+            rules.as_mut_ptr(),
+            rules.len(),
+            store.as_mut_ptr(),
+            store.len(),
+            answer.as_mut_ptr(),
+        );
+    }
+    answer
+}
+
+/// Prints tables to the front of the lent output. Number, place, bytes.
+pub fn print(nodes: &[u32], rules: &[u32], store: &[u8], out: &mut [u8]) -> [u64; 3] {
+    let mut answer = [0; 3];
+    // SAFETY: as in `read`; the answer has three numbers.
+    unsafe {
+        flascjuvan_print(
+            nodes.as_ptr(),
+            nodes.len(),
+            rules.as_ptr(),
+            rules.len(),
+            store.as_ptr(),
+            store.len(),
+            out.as_mut_ptr(),
+            out.len(),
+            answer.as_mut_ptr(),
+        );
+    }
+    answer
+}
+
+/// The next token from a place on. Number, place, kind, start, end.
+pub fn next_token(text: &[u8], at: usize) -> [u64; 5] {
+    let mut answer = [0; 5];
+    // SAFETY: as in `read`.
+    unsafe { flascjuvan_next_token(text.as_ptr(), text.len(), at, answer.as_mut_ptr()) };
+    answer
+}
