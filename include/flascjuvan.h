@@ -9,7 +9,7 @@
  *   - `answer` points to as many numbers as its declaration says;
  *   - what is written (not const) overlaps nothing else that is lent to the same call, and no other thread touches it
  *     until the call returns;
- *   - 2 MB of stack are free (1,024 brackets inside one another take 1.5 MB of it; short texts a few KB).
+ *   - 2 MB of stack are free (1,024 brackets inside one another were seen to take 1.5 MB).
  *
  * Every function writes all of `answer`. answer[0] is a number of this table, answer[1] its place:
  *

@@ -1,1 +1,2 @@
 -- The C interface: what its proofs cite.
+pub mod Levels

@@ -1,0 +1,38 @@
+use Rattle.exports.proofs.Levels.{numbers-at, left-at}
+use mathlib.Core.Path.{_∙_}
+use borrow.Author.Needs.{needs}
+use Rattle.exports.proofs.flascjuvan_read.Statement.{statement}
+use Rattle.exports.proofs.flascjuvan_read.Tie as tie
+
+level-of-requires : tie.Need-level-of-requires
+level-of-requires c κs = search needs
+
+read-requires : tie.Need-read-requires
+read-requires c κs = search needs
+
+read-numbers-requires : tie.Need-read-numbers-requires
+read-numbers-requires c κs = search needs
+
+same-length : tie.Need-same-length
+same-length c = search needs
+
+same-length-2 : tie.Need-same-length-2
+same-length-2 c = search needs
+
+same-length-3 : tie.Need-same-length-3
+same-length-3 c = search needs
+
+returns : tie.Need-returns
+returns c = (c .read-numbers .ensures ∙ numbers-at _ _ (c .before .before .before .before .before .before .before .before .before .before .before .level-of .ensures) _ _ _ _ _ (c .before .before .before .before .before .before .before .read .ensures .1 .0), left-at _ _ (c .before .before .before .before .before .before .before .before .before .before .before .level-of .ensures) _ _ _ _ _ (c .before .before .before .before .before .before .before .read .ensures .0) (c .before .before .before .before .before .before .before .read .ensures .1 .1))
+
+pub flascjuvan-read-spec : {M : Type 1} → statement M
+flascjuvan-read-spec =
+    tie.close
+    (tie.spec
+    level-of-requires
+    read-requires
+    read-numbers-requires
+    same-length
+    same-length-2
+    same-length-3
+    returns)
