@@ -1,0 +1,3 @@
+-- The desk's program: what its proofs cite.
+pub mod Readings
+pub mod Shows

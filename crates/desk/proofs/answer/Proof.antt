@@ -1,0 +1,153 @@
+use Rattle.desk.proofs.Shows.{desk-refused, desk-tables, print-refused, print-done}
+use Rattle.io.proofs.Counting.{front}
+use native.Mathlib.Omega.{arith}
+use borrow.Author.Needs.{needs}
+use Rattle.desk.proofs.answer.Statement.{statement}
+use Rattle.desk.proofs.answer.Tie as tie
+
+slice-aggregate-flascjuvan-read : tie.Need-slice-aggregate-flascjuvan-read
+slice-aggregate-flascjuvan-read c = search needs
+
+slice-aggregate-flascjuvan-read-2 : tie.Need-slice-aggregate-flascjuvan-read-2
+slice-aggregate-flascjuvan-read-2 c = search needs
+
+slice-aggregate-flascjuvan-read-3 : tie.Need-slice-aggregate-flascjuvan-read-3
+slice-aggregate-flascjuvan-read-3 c = search needs
+
+flascjuvan-read-requires : tie.Need-flascjuvan-read-requires
+flascjuvan-read-requires c κs = search needs
+
+array-read-if1 : tie.Need-array-read-if1
+array-read-if1 c = search needs
+
+array-read-t25 : tie.Need-array-read-t25
+array-read-t25 c = search needs
+
+array-read-t28 : tie.Need-array-read-t28
+array-read-t28 c = search needs
+
+returns : tie.Need-returns
+returns c = desk-refused _ _ (c .before .before .before .before .flascjuvan-read .ensures .0) (c .if1 .taken) _
+
+array-read-n : tie.Need-array-read-n
+array-read-n c = search needs
+
+mul-n : tie.Need-mul-n
+mul-n c =
+    let read = c .before .before .before .before .flascjuvan-read in
+    let t = desk-tables _ _ (read .ensures .0) _ _ _ (read .ensures .1) (c .if1 .left) in
+    let h = t .few-nodes in
+    omega arith
+
+array-read-r : tie.Need-array-read-r
+array-read-r c = search needs
+
+mul-r : tie.Need-mul-r
+mul-r c =
+    let read = c .before .before .before .before .flascjuvan-read in
+    let t = desk-tables _ _ (read .ensures .0) _ _ _ (read .ensures .1) (c .if1 .left) in
+    let h = t .few-rules in
+    omega arith
+
+array-read-b : tie.Need-array-read-b
+array-read-b c = search needs
+
+array-share-prefix-nodes : tie.Need-array-share-prefix-nodes
+array-share-prefix-nodes c =
+    let read = c .before .before .before .before .flascjuvan-read in
+    desk-tables _ _ (read .ensures .0) _ _ _ (read .ensures .1) (c .if1 .left) .nodes .0
+
+slice-aggregate-flascjuvan-print : tie.Need-slice-aggregate-flascjuvan-print
+slice-aggregate-flascjuvan-print c =
+    let read = c .before .before .before .before .before .flascjuvan-read in
+    front _ _ (desk-tables _ _ (read .ensures .0) _ _ _ (read .ensures .1) (c .before .if1 .left) .nodes .0)
+
+array-share-prefix-rules : tie.Need-array-share-prefix-rules
+array-share-prefix-rules c =
+    let read = c .before .before .before .before .before .flascjuvan-read in
+    desk-tables _ _ (read .ensures .0) _ _ _ (read .ensures .1) (c .before .if1 .left) .rules .0
+
+slice-aggregate-flascjuvan-print-2 : tie.Need-slice-aggregate-flascjuvan-print-2
+slice-aggregate-flascjuvan-print-2 c =
+    let read = c .before .before .before .before .before .before .flascjuvan-read in
+    front _ _ (desk-tables _ _ (read .ensures .0) _ _ _ (read .ensures .1) (c .before .before .if1 .left) .rules .0)
+
+array-share-prefix-store : tie.Need-array-share-prefix-store
+array-share-prefix-store c =
+    let read = c .before .before .before .before .before .before .flascjuvan-read in
+    desk-tables _ _ (read .ensures .0) _ _ _ (read .ensures .1) (c .before .before .if1 .left) .store .0
+
+slice-aggregate-flascjuvan-print-3 : tie.Need-slice-aggregate-flascjuvan-print-3
+slice-aggregate-flascjuvan-print-3 c =
+    let read = c .before .before .before .before .before .before .before .flascjuvan-read in
+    front _ _ (desk-tables _ _ (read .ensures .0) _ _ _ (read .ensures .1) (c .before .before .before .if1 .left) .store .0)
+
+flascjuvan-print-requires : tie.Need-flascjuvan-print-requires
+flascjuvan-print-requires c κs = search needs
+
+array-read-if2 : tie.Need-array-read-if2
+array-read-if2 c = search needs
+
+array-read-t49 : tie.Need-array-read-t49
+array-read-t49 c = search needs
+
+array-read-t52 : tie.Need-array-read-t52
+array-read-t52 c = search needs
+
+same-length : tie.Need-same-length
+same-length c = search needs
+
+returns-2 : tie.Need-returns-2
+returns-2 c =
+    let at-print = c .before .before .before in
+    let at-if1 = at-print .before .before .before .before .before .before in
+    let read = at-if1 .before .before .before .before .flascjuvan-read in
+    let print = at-print .flascjuvan-print in
+    print-refused _ _ _ _ _ (desk-tables _ _ (read .ensures .0) _ _ _ (read .ensures .1) (at-if1 .if1 .left)) _ _ _ (print .ensures .0) (print .ensures .1) (c .if2 .taken)
+
+array-read-t21 : tie.Need-array-read-t21
+array-read-t21 c = search needs
+
+same-length-2 : tie.Need-same-length-2
+same-length-2 c = search needs
+
+returns-3 : tie.Need-returns-3
+returns-3 c =
+    let at-print = c .before .before .before in
+    let at-if1 = at-print .before .before .before .before .before .before in
+    let read = at-if1 .before .before .before .before .flascjuvan-read in
+    let print = at-print .flascjuvan-print in
+    print-done _ _ _ _ _ (desk-tables _ _ (read .ensures .0) _ _ _ (read .ensures .1) (at-if1 .if1 .left)) _ _ _ (print .ensures .0) (print .ensures .1) (c .if2 .left)
+
+pub answer-spec : {M : Type 1} → statement M
+answer-spec =
+    tie.close
+    (tie.spec
+    slice-aggregate-flascjuvan-read
+    slice-aggregate-flascjuvan-read-2
+    slice-aggregate-flascjuvan-read-3
+    flascjuvan-read-requires
+    array-read-if1
+    array-read-t25
+    array-read-t28
+    returns
+    array-read-n
+    mul-n
+    array-read-r
+    mul-r
+    array-read-b
+    array-share-prefix-nodes
+    slice-aggregate-flascjuvan-print
+    array-share-prefix-rules
+    slice-aggregate-flascjuvan-print-2
+    array-share-prefix-store
+    slice-aggregate-flascjuvan-print-3
+    flascjuvan-print-requires
+    array-read-if2
+    array-read-t49
+    array-read-t52
+    same-length
+    returns-2
+    array-read-t21
+    same-length-2
+    returns-3)

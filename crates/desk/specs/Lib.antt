@@ -1,0 +1,2 @@
+-- The desk's program: the definitions that its contracts cite.
+pub mod Desk
