@@ -7,8 +7,8 @@ use crate::grammar::{Grammar, Row};
 impl fmt::Display for Grammar {
     fn fmt(&self, f: &mut fmt::Formatter<'_>) -> fmt::Result {
         for rule in self.rule_records() {
-            let mark = ["", "_", "@", "$", "!"][rule[2] as usize];
-            writeln!(f, "{} {mark}  {}..{}", self.text(rule[0], rule[1]), rule[4], rule[5])?;
+            let mark = ["", " _", " @", " $", " !"][rule[2] as usize];
+            writeln!(f, "{}{mark}  {}..{}", self.text(rule[0], rule[1]), rule[4], rule[5])?;
             self.draw(rule[3] as usize, f)?;
         }
         Ok(())

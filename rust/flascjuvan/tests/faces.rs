@@ -138,7 +138,7 @@ fn edited_trees_that_no_text_spells_are_refused() {
 #[test]
 fn pictures_show_what_belongs_to_what() {
     let picture = "\
-a   0..1
+a  0..1
 └─ Choice  6..18
    ├─ Seq  6..11
    │  ├─ Ident b  6..7
