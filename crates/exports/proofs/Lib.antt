@@ -1,2 +1,3 @@
--- The C interface: what its proofs cite.
+-- The C interface: what its proofs cite, and that its promises leave no choice.
 pub mod Levels
+pub mod Unique

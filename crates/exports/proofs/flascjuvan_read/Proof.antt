@@ -23,7 +23,10 @@ same-length-3 : tie.Need-same-length-3
 same-length-3 c = search needs
 
 returns : tie.Need-returns
-returns c = (c .read-numbers .ensures ∙ numbers-at _ _ (c .before .before .before .before .before .before .before .before .before .before .before .level-of .ensures) _ _ _ _ _ (c .before .before .before .before .before .before .before .read .ensures .1 .0), left-at _ _ (c .before .before .before .before .before .before .before .before .before .before .before .level-of .ensures) _ _ _ _ _ (c .before .before .before .before .before .before .before .read .ensures .0) (c .before .before .before .before .before .before .before .read .ensures .1 .1))
+returns c =
+    let read = c .before .before .before .before .before .before .before .read in
+    let level = c .before .before .before .before .before .before .before .before .before .before .before .level-of .ensures in
+    (c .read-numbers .ensures ∙ numbers-at _ _ level _ _ _ _ _ (read .ensures .1 .0), left-at _ _ level _ _ _ _ _ (read .ensures .0) (record { nodes = read .ensures .1 .1 .0; rules = read .ensures .1 .1 .1 .0; store = read .ensures .1 .1 .1 .1 }))
 
 pub flascjuvan-read-spec : {M : Type 1} → statement M
 flascjuvan-read-spec =

@@ -1,0 +1,32 @@
+-- Two results that meet an entry point's promise are equal.
+use Prim.Native.Nat.{ℕ}
+use mathlib.Core.Path.{_≡_, sym, _∙_}
+use mathlib.Core.List.{List}
+use lib.ListN.{length}
+use Rattle.structure.specs.declared.Level.{Level}
+use Rattle.reader.specs.Read.{roomForNodes, roomForRules, readOf, reported, Leaves}
+use Rattle.printer.specs.Answers as Answers
+use Rattle.token.specs.Lister.{lister}
+use Rattle.exports.specs.Numbers.{levelOf, readNumbers, printNumbers, tokenNumbers}
+
+-- flascjuvan_read: the answer, and what the three buffers hold
+pub record Read (s : List ℕ) (tagged : ℕ) (ns rs st answer ns′ rs′ st′ : List ℕ) : Type 0 where
+  pub answered : answer ≡ readNumbers (reported (levelOf tagged) s (roomForNodes ns) (roomForRules rs) (length st))
+  pub left : Leaves (levelOf tagged) s (readOf (levelOf tagged) s (roomForNodes ns) (roomForRules rs) (length st)) ns rs st ns′ rs′ st′
+
+pub read-unique : {s : List ℕ} {tagged : ℕ} {ns rs st a b c d x y z w : List ℕ} → Read s tagged ns rs st a b c d → Read s tagged ns rs st x y z w
+    → (a ≡ x) × (b ≡ y) × (c ≡ z) × (d ≡ w)
+read-unique v u =
+    (v .answered ∙ sym (u .answered), v .left .nodes ∙ sym (u .left .nodes), v .left .rules ∙ sym (u .left .rules), v .left .store ∙ sym (u .left .store))
+
+-- flascjuvan_print: the answer, and what the output holds
+pub record Printed (ns rs st o answer o′ : List ℕ) : Type 0 where
+  pub answered : answer ≡ printNumbers (Answers.reported ns rs st (length o))
+  pub written : o′ ≡ Answers.printIn ns rs st o (Answers.printOf ns rs st (length o))
+
+pub print-unique : {ns rs st o a b x y : List ℕ} → Printed ns rs st o a b → Printed ns rs st o x y → (a ≡ x) × (b ≡ y)
+print-unique v u = (v .answered ∙ sym (u .answered), v .written ∙ sym (u .written))
+
+-- flascjuvan_next_token: the answer
+pub token-unique : (s : List ℕ) (at : ℕ) {a b : List ℕ} → a ≡ tokenNumbers (lister s at) → b ≡ tokenNumbers (lister s at) → a ≡ b
+token-unique s at v u = v ∙ sym u
