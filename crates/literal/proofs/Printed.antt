@@ -1,23 +1,32 @@
 -- Laws of printed strings.
 use Prim.Native.Nat.{ℕ, _+_, _-_, _<_}
-use mathlib.Core.Path.{_≡_, ap, _∙_}
+use mathlib.Core.Path.{_≡_, refl, ap, _∙_}
+use mathlib.Core.Bool.{Bool, true, false, not}
 use mathlib.Core.List.{List, [], _∷_, _++_}
 use native.Mathlib.Omega.{arith}
-use lib.ListN.{length, drop, length-append}
+use lib.Dec.{eqb}
+use lib.ListN.{length, getD, drop, length-append}
+use borrow.Author.Tests.{ne-eqb}
+use Rattle.text.specs.Choice.{and}
 use Rattle.text.specs.Scans.{spelled}
 use Rattle.text.specs.Splice.{Room, Wrote, spent}
 use Rattle.text.specs.Utf8.{charOf, encoded}
 use Rattle.text.specs.Digits.{hexes}
 use Rattle.text.specs.declared.Sequence.{Sequence}
 use Rattle.text.specs.declared.Sequence.the-variants.{Is, Broken}
-use Rattle.text.proofs.Decodes.{decoded}
-use Rattle.text.proofs.Encodes.{scalar-below}
+use Rattle.text.proofs.Tests.{at-byte, within-is}
+use Rattle.text.proofs.Decodes.{one, decoded, encoded-one}
+use Rattle.text.proofs.Encodes.{found-read, scalar-below}
 use Rattle.text.proofs.Hexes.{length-hexes}
 use Rattle.text.proofs.Splices.{wrote-then, room-front, room-next}
 use Rattle.text.proofs.Walks.{spelled-step}
 use Rattle.literal.specs.declared.Show.the-variants.{Pair, Bare, Hex}
-use Rattle.literal.specs.Literals.{hexCount, showOf, shownBy, shown, charPieceBy, charPiece, inside, literal}
+use Rattle.literal.specs.Literals.{hexCount, bare, showOf, shownBy, shown, charPieceBy, charPiece, inside, literal}
 use Rattle.literal.proofs.Turns.{Turn}
+
+-- a byte that prints bare between quotes q
+abbrev pub bareIn : ℕ → ℕ → Bool
+bareIn q b = and (bare b) (and (not (eqb b q)) (not (eqb b 92)))
 
 pub char-below : (xs : List ℕ) (c n : ℕ) → charOf xs ≡ Is c n → c < 0x110000
 char-below xs c n e = scalar-below c (decoded xs c n e .good)
@@ -74,6 +83,25 @@ module _ (q : ℕ) (s : List ℕ) {o : List ℕ} {at : ℕ} (r : Room o at (lite
   unfolding literal
   close-room w v = room-next (q ∷ []) v (room-next (inside q s ++ (q ∷ [])) w r)
 
+-- ---- a byte that prints bare
+
+-- a test that joins three others
+three-true : (x y z : Bool) → and x (and (not y) (not z)) ≡ true → (x ≡ true) × (y ≡ false) × (z ≡ false)
+three-true true false false e = (refl, refl, refl)
+three-true true false true e = let z : _≡_ {A = ℕ} 0 1 = cc in absurd (omega arith)
+three-true true true z e = let z : _≡_ {A = ℕ} 0 1 = cc in absurd (omega arith)
+three-true false y z e = let z : _≡_ {A = ℕ} 0 1 = cc in absurd (omega arith)
+
+bare-shown : (q b : ℕ) → bareIn q b ≡ true → (shown q b ≡ b ∷ []) × (b < 0x80)
+unfolding showOf
+bare-shown q b e =
+    let t = three-true (bare b) (eqb b q) (eqb b 92) e in
+    let w = within-is 0x20 0x7e b (t .0) in
+    let l = w .low in
+    let g = w .high in
+    let s : showOf q b ≡ Bare = rw (t .1, t .2, ne-eqb b 0 (omega arith), ne-eqb b 9 (omega arith), ne-eqb b 10 (omega arith), ne-eqb b 13 (omega arith), t .0) in
+    (shown-bare q b s ∙ encoded-one b (omega arith), omega arith)
+
 -- ---- a turn of the loops
 
 module _ (q : ℕ) (s : List ℕ) (i : ℕ) (h : i < length s) where
@@ -88,3 +116,9 @@ module _ (q : ℕ) (s : List ℕ) (i : ℕ) (h : i < length s) where
 
   pub shown-skip : charOf (drop i s) ≡ Broken → spelled (charPiece q) 0 (drop i s) ≡ spelled (charPiece q) 0 (drop (i + 1) s)
   shown-skip e = spelled-step (charPiece q) s i 0 [] h (ap (λ (x : Sequence). charPieceBy q x .gives) e) (ap (λ (x : Sequence). charPieceBy q x .more) e)
+
+  pub bare-turn : bareIn q (getD s i 0) ≡ true → Turn (spelled (charPiece q) 0 (drop i s)) (getD s i 0 ∷ []) (spelled (charPiece q) 0 (drop (i + 1) s))
+  bare-turn b =
+      let d = bare-shown q (getD s i 0) b in
+      let e : charOf (drop i s) ≡ Is (getD s i 0) 1 = rw (at-byte s i h) (found-read (one (d .1))) in
+      record { is = shown-turn (getD s i 0) 1 e .is ∙ ap (λ (x : List ℕ). x ++ spelled (charPiece q) 0 (drop (i + 1) s)) (d .0) }

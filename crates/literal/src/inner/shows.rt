@@ -3,10 +3,13 @@ use crate::Quote;
 use crate::Show;
 use text::Sequence;
 ghost use mathlib.Core.Path.{_≡_};
+ghost use mathlib.Core.Bool.{not};
 ghost use Prim.Native.Nat.{_<_};
+ghost use lib.Dec.{eqb};
+ghost use Rattle.text.specs.Choice.{and};
 ghost use Rattle.text.specs.Splice.{Room, Wrote, spent};
 ghost use Rattle.text.specs.Digits.{hexDigits};
-ghost use Rattle.literal.specs.Literals.{hexCount, showOf, shown, inside, literal, quoteByte};
+ghost use Rattle.literal.specs.Literals.{hexCount, bare, showOf, shown, inside, literal, quoteByte};
 
 pub fn quote_byte(q: Quote) -> u8
     ensures { λ r. ⌜ r ≡ quoteByte q ⌝ }
@@ -52,6 +55,22 @@ fn show_of(q: u8, c: u32) -> Show
             Show::Bare
         }
     }
+}
+
+// Whether a byte is a character that prints bare: then it is not decoded.
+fn is_bare(q: u8, b: u8) -> bool
+    ensures { λ r. ⌜ r ≡ and (bare b) (and (not (eqb b q)) (not (eqb b 92))) ⌝ }
+{
+    if b < 0x20 {
+        return false;
+    }
+    if 0x7e < b {
+        return false;
+    }
+    if b == q {
+        return false;
+    }
+    b != 92
 }
 
 // What is left after a character in a literal.
@@ -122,14 +141,20 @@ fn put_inside(t: &[u8; 16], s: &[u8], q: u8, out: &mut [u8], at: usize) -> usize
     let mut a = at;
     let mut i = 0;
     while i < s.len() {
-        let sequence = text::char_at(s, i);
-        match sequence {
-            Sequence::Is(c, n) => {
-                a = put_shown(t, q, c, out, a);
-                i += n;
-            }
-            Sequence::Broken => {
-                i += 1;
+        if is_bare(q, s[i]) {
+            out[a] = s[i];
+            a += 1;
+            i += 1;
+        } else {
+            let sequence = text::char_at(s, i);
+            match sequence {
+                Sequence::Is(c, n) => {
+                    a = put_shown(t, q, c, out, a);
+                    i += n;
+                }
+                Sequence::Broken => {
+                    i += 1;
+                }
             }
         }
     }
