@@ -5,63 +5,11 @@ use printer::Printed;
 ghost use Prim.Native.Nat.{_≤_};
 ghost use Rattle.io.specs.Counts.{Counts};
 
-// A number with one more digit, kept to 32 bits; other bytes mean nothing.
-fn more(v: u32, b: u8) -> u32 {
-    if b < 48 {
-        return v;
-    }
-    if 57 < b {
-        return v;
-    }
-    ((v as u64 * 10 + (b - 48) as u64) % 0x1_0000_0000) as u32
-}
-
-fn one_if(met: bool) -> usize
-    ensures { λ r. ⌜ r ≤ 1 ⌝ }
-{
-    if met { 1 } else { 0 }
-}
-
-fn kept(v: u32, met: bool) -> u32 {
-    if met { v } else { 0 }
-}
-
-// The numbers of a list in which a comma stands behind each.
-fn numbers(s: &[u8], out: &mut [u32]) -> usize
-    ensures { λ r. ⌜ Counts r (now (out .exit)) ⌝ }
-{
-    let mut v: u32 = 0;
-    let mut k = 0;
-    let mut i = 0;
-    while i < s.len() {
-        if out.len() <= k {
-            return k;
-        }
-        v = more(v, s[i]);
-        out[k] = v;
-        k += one_if(s[i] == b',');
-        v = kept(v, s[i] != b',');
-        i += 1;
-    }
-    k
-}
-
-// How many bytes stand at 170 from a place on.
-fn alone(out: &[u8], from: usize) -> usize {
-    let mut n = 0;
-    let mut i = from;
-    while i < out.len() {
-        n += one_if(out[i] == 170);
-        i += 1;
-    }
-    n
-}
-
 fn answer(number: usize, place: usize, used: usize, out: &[u8]) {
     vectors::write_number(number);
     vectors::write_number(place);
     vectors::write_number(used);
-    vectors::write_number(alone(out, used));
+    vectors::write_number(vectors::bytes_alone(out, used));
     vectors::write(b"\n");
     if used <= out.len() {
         vectors::write(&out[..used]);
@@ -221,8 +169,8 @@ fn run_tables(line: &[u8], from: usize, room: usize, out: &mut [u8]) {
     let d = second.end;
     let e = third.start;
     let f = third.end;
-    let n = numbers(&line[a..b], &mut nodes);
-    let m = numbers(&line[c..d], &mut rules);
+    let n = vectors::numbers(&line[a..b], &mut nodes);
+    let m = vectors::numbers(&line[c..d], &mut rules);
     let k = vectors::unhex(&line[e..f], &mut store);
     run_print(&nodes[..n], &rules[..m], &store[..k], room, out);
 }

@@ -8,81 +8,21 @@ use structure::Level;
 ghost use Prim.Native.Nat.{_≤_};
 ghost use Rattle.io.specs.Counts.{Counts};
 
-fn one_if(met: bool) -> usize
-    ensures { λ r. ⌜ r ≤ 1 ⌝ }
-{
-    if met { 1 } else { 0 }
-}
-
-// How many numbers stand at 2,863,311,530 from a place on.
-fn numbers_alone(s: &[u32], from: usize) -> usize {
-    let mut n = 0;
-    let mut i = from;
-    while i < s.len() {
-        n += one_if(s[i] == 2863311530);
-        i += 1;
-    }
-    n
-}
-
-// How many bytes stand at 170 from a place on.
-fn bytes_alone(s: &[u8], from: usize) -> usize {
-    let mut n = 0;
-    let mut i = from;
-    while i < s.len() {
-        n += one_if(s[i] == 170);
-        i += 1;
-    }
-    n
-}
-
-fn mixed(sum: u32, v: u32) -> u32 {
-    ((sum as u64 * 31 + v as u64) % 0x1_0000_0000) as u32
-}
-
-fn mixed_byte(sum: u32, b: u8) -> u32 {
-    mixed(sum, b as u32)
-}
-
-fn numbers_sum(s: &[u32]) -> u32 {
-    let mut sum: u32 = 0;
-    let mut i = 0;
-    while i < s.len() {
-        sum = mixed(sum, s[i]);
-        i += 1;
-    }
-    sum
-}
-
-fn bytes_sum(s: &[u8]) -> u32 {
-    let mut sum: u32 = 0;
-    let mut i = 0;
-    while i < s.len() {
-        sum = mixed_byte(sum, s[i]);
-        i += 1;
-    }
-    sum
-}
-
-fn write_small(v: u32) {
-    vectors::write_number(v as usize);
-}
-
 fn write_numbers(s: &[u32]) {
     if 300 < s.len() {
-        write_small(numbers_sum(s));
+        vectors::write_small(vectors::numbers_sum(s));
         return;
     }
     let mut i = 0;
     while i < s.len() {
-        write_small(s[i]);
+        vectors::write_small(s[i]);
         i += 1;
     }
 }
 
 fn write_bytes(s: &[u8]) {
     if 300 < s.len() {
-        write_small(bytes_sum(s));
+        vectors::write_small(vectors::bytes_sum(s));
         return;
     }
     vectors::write_hex(s);
@@ -120,9 +60,9 @@ fn answer(
     if store.len() < bytes {
         return;
     }
-    vectors::write_number(numbers_alone(nodes, n));
-    vectors::write_number(numbers_alone(rules, m));
-    vectors::write_number(bytes_alone(store, bytes));
+    vectors::write_number(vectors::numbers_alone(nodes, n));
+    vectors::write_number(vectors::numbers_alone(rules, m));
+    vectors::write_number(vectors::bytes_alone(store, bytes));
     write_numbers(&nodes[..n]);
     write_numbers(&rules[..m]);
     write_bytes(&store[..bytes]);
@@ -172,41 +112,6 @@ fn run_read(
     }
 }
 
-// Copies a piece behind what a buffer has, as far as there is room.
-fn append(piece: &[u8], out: &mut [u8], from: usize) -> usize
-    ensures { λ r. ⌜ Counts r (now (out .exit)) ⌝ }
-{
-    if out.len() < from {
-        return 0;
-    }
-    let mut k = from;
-    let mut i = 0;
-    while i < piece.len() {
-        if out.len() <= k {
-            return k;
-        }
-        out[k] = piece[i];
-        k += 1;
-        i += 1;
-    }
-    k
-}
-
-fn repeat(piece: &[u8], times: usize, out: &mut [u8], from: usize) -> usize
-    ensures { λ r. ⌜ Counts r (now (out .exit)) ⌝ }
-{
-    if out.len() < from {
-        return 0;
-    }
-    let mut k = from;
-    let mut i = 0;
-    while i < times {
-        k = append(piece, out, k);
-        i += 1;
-    }
-    k
-}
-
 // A line's pieces from a place on, at most nine.
 fn pieces(line: &[u8], from: usize, out: &mut [u8]) -> usize
     ensures { λ r. ⌜ Counts r (now (out .exit)) ⌝ }
@@ -223,7 +128,7 @@ fn pieces(line: &[u8], from: usize, out: &mut [u8]) -> usize
         let c = hex.start;
         let d = hex.end;
         let n = vectors::unhex(&line[c..d], &mut piece);
-        k = repeat(&piece[..n], vectors::number(&line[a..b]) as usize, out, k);
+        k = vectors::repeat(&piece[..n], vectors::number(&line[a..b]) as usize, out, k);
         at = d;
         turns += 1;
     }

@@ -11,7 +11,7 @@ pub struct Part {
 }
 
 // From a place on, the first byte that is b (or, asked so, that is not), or the end.
-fn find(s: &[u8], at: usize, b: u8, wanted: bool) -> usize
+pub fn find(s: &[u8], at: usize, b: u8, wanted: bool) -> usize
     ensures { λ r. ⌜ (r ≤ length (now (s .entry))) × (at ≤ length (now (s .entry)) → at ≤ r) ⌝ }
 {
     if s.len() < at {
@@ -97,6 +97,132 @@ pub fn number(s: &[u8]) -> u64 {
     v
 }
 
+// A number with one more digit, kept to 32 bits; other bytes mean nothing.
+fn more(v: u32, b: u8) -> u32 {
+    if b < 48 {
+        return v;
+    }
+    if 57 < b {
+        return v;
+    }
+    ((v as u64 * 10 + (b - 48) as u64) % 0x1_0000_0000) as u32
+}
+
+fn one_if(met: bool) -> usize
+    ensures { λ r. ⌜ r ≤ 1 ⌝ }
+{
+    if met { 1 } else { 0 }
+}
+
+fn kept(v: u32, met: bool) -> u32 {
+    if met { v } else { 0 }
+}
+
+// The numbers of a list in which a comma stands behind each.
+pub fn numbers(s: &[u8], out: &mut [u32]) -> usize
+    ensures { λ r. ⌜ Counts r (now (out .exit)) ⌝ }
+{
+    let mut v: u32 = 0;
+    let mut k = 0;
+    let mut i = 0;
+    while i < s.len() {
+        if out.len() <= k {
+            return k;
+        }
+        v = more(v, s[i]);
+        out[k] = v;
+        k += one_if(s[i] == b',');
+        v = kept(v, s[i] != b',');
+        i += 1;
+    }
+    k
+}
+
+// Copies a piece behind what a buffer has, as far as there is room.
+fn append(piece: &[u8], out: &mut [u8], from: usize) -> usize
+    ensures { λ r. ⌜ Counts r (now (out .exit)) ⌝ }
+{
+    if out.len() < from {
+        return 0;
+    }
+    let mut k = from;
+    let mut i = 0;
+    while i < piece.len() {
+        if out.len() <= k {
+            return k;
+        }
+        out[k] = piece[i];
+        k += 1;
+        i += 1;
+    }
+    k
+}
+
+pub fn repeat(piece: &[u8], times: usize, out: &mut [u8], from: usize) -> usize
+    ensures { λ r. ⌜ Counts r (now (out .exit)) ⌝ }
+{
+    if out.len() < from {
+        return 0;
+    }
+    let mut k = from;
+    let mut i = 0;
+    while i < times {
+        k = append(piece, out, k);
+        i += 1;
+    }
+    k
+}
+
+// How many numbers stand at 2,863,311,530 from a place on.
+pub fn numbers_alone(s: &[u32], from: usize) -> usize {
+    let mut n = 0;
+    let mut i = from;
+    while i < s.len() {
+        n += one_if(s[i] == 2863311530);
+        i += 1;
+    }
+    n
+}
+
+// How many bytes stand at 170 from a place on.
+pub fn bytes_alone(s: &[u8], from: usize) -> usize {
+    let mut n = 0;
+    let mut i = from;
+    while i < s.len() {
+        n += one_if(s[i] == 170);
+        i += 1;
+    }
+    n
+}
+
+fn mixed(sum: u32, v: u32) -> u32 {
+    ((sum as u64 * 31 + v as u64) % 0x1_0000_0000) as u32
+}
+
+fn mixed_byte(sum: u32, b: u8) -> u32 {
+    mixed(sum, b as u32)
+}
+
+pub fn numbers_sum(s: &[u32]) -> u32 {
+    let mut sum: u32 = 0;
+    let mut i = 0;
+    while i < s.len() {
+        sum = mixed(sum, s[i]);
+        i += 1;
+    }
+    sum
+}
+
+pub fn bytes_sum(s: &[u8]) -> u32 {
+    let mut sum: u32 = 0;
+    let mut i = 0;
+    while i < s.len() {
+        sum = mixed_byte(sum, s[i]);
+        i += 1;
+    }
+    sum
+}
+
 pub fn write(s: &[u8]) {
     io::write_all(1, s);
 }
@@ -104,6 +230,10 @@ pub fn write(s: &[u8]) {
 pub fn write_number(n: usize) {
     io::write_all(1, b" ");
     io::print_decimal(1, n as u64);
+}
+
+pub fn write_small(v: u32) {
+    write_number(v as usize);
 }
 
 // Bytes in hex, behind a space.

@@ -14,8 +14,8 @@ write-number-requires-2 c κs = search needs
 write-number-requires-3 : tie.Need-write-number-requires-3
 write-number-requires-3 c κs = search needs
 
-alone-requires : tie.Need-alone-requires
-alone-requires c κs = search needs
+bytes-alone-requires : tie.Need-bytes-alone-requires
+bytes-alone-requires c κs = search needs
 
 write-number-requires-4 : tie.Need-write-number-requires-4
 write-number-requires-4 c κs = search needs
@@ -45,7 +45,7 @@ answer-spec =
     write-number-requires
     write-number-requires-2
     write-number-requires-3
-    alone-requires
+    bytes-alone-requires
     write-number-requires-4
     slice-aggregate-write
     write-requires

@@ -1,18 +1,21 @@
-use Prim.Native.Nat.{_≤_, _-_}
-use lib.ListN.{length}
 use borrow.Author.Needs.{needs}
+use lib.ListN.{length}
 use native.Mathlib.Omega.{arith}
-use Rattle.printer_run.proofs.alone.Statement.{statement}
-use Rattle.printer_run.proofs.alone.Tie as tie
+use Prim.Native.Nat.{_≤_, _-_}
+use Rattle.vectors.proofs.numbers_alone.Statement.{statement}
+use Rattle.vectors.proofs.numbers_alone.Tie as tie
 
 abbrev Inv-loop : tie.InvT-loop
-Inv-loop out from n₀ i₀ n i = n ≤ i
+Inv-loop s from n₀ i₀ n i = n ≤ i
 
 abbrev μ-loop : tie.MeasureT-loop
-μ-loop out from n₀ i₀ n i = length out - i
+μ-loop s from n₀ i₀ n i = length s - i
 
 loop-holds : tie.Need-loop-holds Inv-loop μ-loop
 loop-holds c = omega arith
+
+mul-one-if : tie.Need-mul-one-if Inv-loop μ-loop
+mul-one-if c = search needs
 
 shared-slice-read-one-if : tie.Need-shared-slice-read-one-if Inv-loop μ-loop
 shared-slice-read-one-if c = omega arith
@@ -35,13 +38,14 @@ loop-again c = omega arith
 returns : tie.Need-returns Inv-loop μ-loop
 returns c = search needs
 
-pub alone-spec : {M : Type 1} → statement M
-alone-spec =
+pub numbers-alone-spec : {M : Type 1} → statement M
+numbers-alone-spec =
     tie.close
     (tie.spec
     Inv-loop
     μ-loop
     loop-holds
+    mul-one-if
     shared-slice-read-one-if
     one-if-requires
     add-n

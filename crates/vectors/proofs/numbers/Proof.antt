@@ -4,8 +4,8 @@ use lib.ListN.{length, length-set}
 use mathlib.Core.Path.{_≡_, refl, sym}
 use borrow.Author.Needs.{needs}
 use native.Mathlib.Omega.{arith}
-use Rattle.printer_run.proofs.numbers.Statement.{statement}
-use Rattle.printer_run.proofs.numbers.Tie as tie
+use Rattle.vectors.proofs.numbers.Statement.{statement}
+use Rattle.vectors.proofs.numbers.Tie as tie
 
 abbrev Inv-loop : tie.InvT-loop
 Inv-loop s out₀ v₀ k₀ i₀ out v k i = (k ≤ length out) × (length out ≡ length out₀)

@@ -2,8 +2,8 @@ use borrow.Author.Needs.{needs}
 use lib.ListN.{length}
 use native.Mathlib.Omega.{arith}
 use Prim.Native.Nat.{_≤_, _-_}
-use Rattle.reader_run.proofs.numbers_sum.Statement.{statement}
-use Rattle.reader_run.proofs.numbers_sum.Tie as tie
+use Rattle.vectors.proofs.numbers_sum.Statement.{statement}
+use Rattle.vectors.proofs.numbers_sum.Tie as tie
 
 abbrev Inv-loop : tie.InvT-loop
 Inv-loop s sum₀ i₀ sum i = i ≤ length s

@@ -4,8 +4,8 @@ use lib.Seq.{length-take-le}
 use native.Mathlib.Omega.{arith}
 use mathlib.Core.Path.{_≡_, refl, sym}
 use Prim.Native.Nat.{_≤_, _-_}
-use Rattle.reader_run.proofs.append.Statement.{statement}
-use Rattle.reader_run.proofs.append.Tie as tie
+use Rattle.vectors.proofs.append.Statement.{statement}
+use Rattle.vectors.proofs.append.Tie as tie
 
 abbrev Inv-loop : tie.InvT-loop
 Inv-loop piece out₀ from k₀ i₀ out k i = (k ≤ length out) × (length out ≡ length out₀)

@@ -2,26 +2,23 @@ use borrow.Author.Needs.{needs}
 use lib.ListN.{length}
 use native.Mathlib.Omega.{arith}
 use Prim.Native.Nat.{_≤_, _-_}
-use Rattle.reader_run.proofs.bytes_alone.Statement.{statement}
-use Rattle.reader_run.proofs.bytes_alone.Tie as tie
+use Rattle.vectors.proofs.bytes_sum.Statement.{statement}
+use Rattle.vectors.proofs.bytes_sum.Tie as tie
 
 abbrev Inv-loop : tie.InvT-loop
-Inv-loop s from n₀ i₀ n i = n ≤ i
+Inv-loop s sum₀ i₀ sum i = i ≤ length s
 
 abbrev μ-loop : tie.MeasureT-loop
-μ-loop s from n₀ i₀ n i = length s - i
+μ-loop s sum₀ i₀ sum i = length s - i
 
 loop-holds : tie.Need-loop-holds Inv-loop μ-loop
 loop-holds c = omega arith
 
-shared-slice-read-one-if : tie.Need-shared-slice-read-one-if Inv-loop μ-loop
-shared-slice-read-one-if c = omega arith
+shared-slice-read-mixed-byte : tie.Need-shared-slice-read-mixed-byte Inv-loop μ-loop
+shared-slice-read-mixed-byte c = omega arith
 
-one-if-requires : tie.Need-one-if-requires Inv-loop μ-loop
-one-if-requires c κs = search needs
-
-add-n : tie.Need-add-n Inv-loop μ-loop
-add-n c = omega arith
+mixed-byte-requires : tie.Need-mixed-byte-requires Inv-loop μ-loop
+mixed-byte-requires c κs = search needs
 
 add-i : tie.Need-add-i Inv-loop μ-loop
 add-i c = omega arith
@@ -35,16 +32,15 @@ loop-again c = omega arith
 returns : tie.Need-returns Inv-loop μ-loop
 returns c = search needs
 
-pub bytes-alone-spec : {M : Type 1} → statement M
-bytes-alone-spec =
+pub bytes-sum-spec : {M : Type 1} → statement M
+bytes-sum-spec =
     tie.close
     (tie.spec
     Inv-loop
     μ-loop
     loop-holds
-    shared-slice-read-one-if
-    one-if-requires
-    add-n
+    shared-slice-read-mixed-byte
+    mixed-byte-requires
     add-i
     loop-less
     loop-again

@@ -1,0 +1,113 @@
+use Prim.Native.Nat.{_≤_, _-_}
+use mathlib.Core.Path.{_≡_, sym}
+use native.Mathlib.Omega.{arith}
+use lib.Seq.{length-take-le}
+use lib.ListN.{length}
+use borrow.Author.Needs.{needs}
+use Rattle.replay.proofs.pieces.Statement.{statement}
+use Rattle.replay.proofs.pieces.Tie as tie
+
+abbrev Inv-loop : tie.InvT-loop
+Inv-loop s out₀ piece₀ at₀ k₀ out piece at k = (k ≤ length out) × (length out ≡ length out₀) × (length piece ≡ 1024)
+
+abbrev μ-loop : tie.MeasureT-loop
+μ-loop s out₀ piece₀ at₀ k₀ out piece at k = length s - at
+
+loop-holds : tie.Need-loop-holds Inv-loop μ-loop
+loop-holds c = search needs
+
+find-requires : tie.Need-find-requires Inv-loop μ-loop
+find-requires c κs = search needs
+
+same-length : tie.Need-same-length Inv-loop μ-loop
+same-length c = c .before .before .before .loop .inv .1
+
+returns : tie.Need-returns Inv-loop μ-loop
+returns c = (c .before .before .before .loop .inv .0, sym (length-take-le _ _ (c .before .before .before .loop .inv .0)))
+
+add-from : tie.Need-add-from Inv-loop μ-loop
+add-from c = omega arith
+
+find-requires-2 : tie.Need-find-requires-2 Inv-loop μ-loop
+find-requires-2 c κs = search needs
+
+sub-unhex : tie.Need-sub-unhex Inv-loop μ-loop
+sub-unhex c = c .find2 .ensures .1 (omega arith)
+
+part-unhex-start : tie.Need-part-unhex-start Inv-loop μ-loop
+part-unhex-start c = c .find2 .ensures .1 (omega arith)
+
+part-unhex-end : tie.Need-part-unhex-end Inv-loop μ-loop
+part-unhex-end c = omega arith
+
+slice-aggregate-unhex : tie.Need-slice-aggregate-unhex Inv-loop μ-loop
+slice-aggregate-unhex c = search needs
+
+unhex-requires : tie.Need-unhex-requires Inv-loop μ-loop
+unhex-requires c κs = search needs
+
+array-share-prefix-piece : tie.Need-array-share-prefix-piece Inv-loop μ-loop
+array-share-prefix-piece c = search needs
+
+slice-aggregate-repeat : tie.Need-slice-aggregate-repeat Inv-loop μ-loop
+slice-aggregate-repeat c = search needs
+
+sub-number : tie.Need-sub-number Inv-loop μ-loop
+sub-number c = c .before .before .before .before .before .before .before .find .ensures .1 (omega arith)
+
+part-number-start : tie.Need-part-number-start Inv-loop μ-loop
+part-number-start c = c .before .before .before .before .before .before .before .find .ensures .1 (omega arith)
+
+part-number-end : tie.Need-part-number-end Inv-loop μ-loop
+part-number-end c = omega arith
+
+number-requires : tie.Need-number-requires Inv-loop μ-loop
+number-requires c κs = search needs
+
+repeat-requires : tie.Need-repeat-requires Inv-loop μ-loop
+repeat-requires c κs = search needs
+
+add-at : tie.Need-add-at Inv-loop μ-loop
+add-at c = omega arith
+
+loop-less : tie.Need-loop-less Inv-loop μ-loop
+loop-less c = omega (arith, c .before .before .before .before .before .before .before .before .before .before .before .before .before .find .ensures .1 (omega arith), c .before .before .before .before .before .before .before .before .before .before .before .find2 .ensures .1 (omega arith))
+
+loop-again : tie.Need-loop-again Inv-loop μ-loop
+loop-again c = search needs
+
+same-length-2 : tie.Need-same-length-2 Inv-loop μ-loop
+same-length-2 c = c .before .loop .inv .1
+
+returns-2 : tie.Need-returns-2 Inv-loop μ-loop
+returns-2 c = (c .before .loop .inv .0, sym (length-take-le _ _ (c .before .loop .inv .0)))
+
+pub pieces-spec : {M : Type 1} → statement M
+pieces-spec =
+    tie.close
+    (tie.spec
+    Inv-loop
+    μ-loop
+    loop-holds
+    find-requires
+    same-length
+    returns
+    add-from
+    find-requires-2
+    sub-unhex
+    part-unhex-start
+    part-unhex-end
+    slice-aggregate-unhex
+    unhex-requires
+    array-share-prefix-piece
+    slice-aggregate-repeat
+    sub-number
+    part-number-start
+    part-number-end
+    number-requires
+    repeat-requires
+    add-at
+    loop-less
+    loop-again
+    same-length-2
+    returns-2)

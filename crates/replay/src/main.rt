@@ -1,0 +1,335 @@
+// Asks the questions of its standard input again, whose answers are stored: they come from a comparison
+// with the Rust. Each line is written again with ` = ` and the answer. The buffers lent stand at a number
+// that no answer should leave elsewhere: where anything behind what was used has changed, or anything at
+// all by a refusal, the line ends in CHANGED. At the end stands how many answers were given.
+//
+// - t LEVEL HEX NODES RULES STORE: a text is read, at level 1 tagged, 0 plain; the rooms in numbers and
+//   bytes. Number, place, the nodes, rules and store bytes used; the nodes, the rules, the store.
+// - x LEVEL COUNT:HEX,.. NODES RULES STORE: the same of a long text, made of pieces. A sum in place of each.
+// - k PLACE HEX, l PLACE COUNT:HEX,..: the lister. Number, place, kind, start, end.
+// - p ROOM NODES RULES STORE: tables are printed. Number, place, bytes used; the text.
+use printer::Printed;
+use reader::Reading;
+use structure::Level;
+use token::Listed;
+ghost use Rattle.io.specs.Counts.{Counts};
+
+fn write_listed(v: u32) {
+    io::print_decimal(1, v as u64);
+    vectors::write(b",");
+}
+
+// Numbers with a comma behind each, a dash where there are none.
+fn write_list(s: &[u32]) {
+    if s.len() == 0 {
+        vectors::write(b" -");
+        return;
+    }
+    vectors::write(b" ");
+    let mut i = 0;
+    while i < s.len() {
+        write_listed(s[i]);
+        i += 1;
+    }
+}
+
+fn write_bytes(s: &[u8]) {
+    if s.len() == 0 {
+        vectors::write(b" -");
+        return;
+    }
+    vectors::write_hex(s);
+}
+
+fn write_changed(met: bool) {
+    if met {
+        vectors::write(b" CHANGED");
+    }
+}
+
+fn write_five(number: usize, place: usize, first: usize, second: usize, third: usize) {
+    vectors::write_number(number);
+    vectors::write_number(place);
+    vectors::write_number(first);
+    vectors::write_number(second);
+    vectors::write_number(third);
+}
+
+fn write_tables(long: bool, nodes: &[u32], rules: &[u32], store: &[u8]) {
+    if long {
+        vectors::write_small(vectors::numbers_sum(nodes));
+        vectors::write_small(vectors::numbers_sum(rules));
+        vectors::write_small(vectors::bytes_sum(store));
+        return;
+    }
+    write_list(nodes);
+    write_list(rules);
+    write_bytes(store);
+}
+
+// The tables that were read, of the numbers and bytes used.
+fn answer_read(
+    used: usize,
+    count: usize,
+    bytes: usize,
+    long: bool,
+    nodes: &[u32],
+    rules: &[u32],
+    store: &[u8],
+) {
+    write_five(0, 0, used, count, bytes);
+    if 5000 < used {
+        return;
+    }
+    if 5000 < count {
+        return;
+    }
+    let n = 6 * used;
+    let m = 6 * count;
+    if nodes.len() < n {
+        return;
+    }
+    if rules.len() < m {
+        return;
+    }
+    if store.len() < bytes {
+        return;
+    }
+    write_tables(long, &nodes[..n], &rules[..m], &store[..bytes]);
+    write_changed(vectors::numbers_alone(nodes, n) != nodes.len() - n);
+    write_changed(vectors::numbers_alone(rules, m) != rules.len() - m);
+    write_changed(vectors::bytes_alone(store, bytes) != store.len() - bytes);
+}
+
+fn answer_refused(number: usize, place: usize, nodes: &[u32], rules: &[u32], store: &[u8]) {
+    write_five(number, place, 0, 0, 0);
+    write_changed(vectors::numbers_alone(nodes, 0) != nodes.len());
+    write_changed(vectors::numbers_alone(rules, 0) != rules.len());
+    write_changed(vectors::bytes_alone(store, 0) != store.len());
+}
+
+fn run_read(
+    text: &[u8],
+    level: Level,
+    long: bool,
+    n: usize,
+    m: usize,
+    k: usize,
+    nodes: &mut [u32],
+    rules: &mut [u32],
+    store: &mut [u8],
+) {
+    if nodes.len() < n {
+        return;
+    }
+    if rules.len() < m {
+        return;
+    }
+    if store.len() < k {
+        return;
+    }
+    let reading = reader::read(
+        text,
+        level,
+        &mut nodes[..n],
+        &mut rules[..m],
+        &mut store[..k],
+    );
+    match reading {
+        Reading::Read(a, b, c) => answer_read(a, b, c, long, nodes, rules, store),
+        Reading::TooLong => answer_refused(1, 0, nodes, rules, store),
+        Reading::NotUtf8(p) => answer_refused(2, p, nodes, rules, store),
+        Reading::NoToken(p) => answer_refused(3, p, nodes, rules, store),
+        Reading::NotAllowed(p) => answer_refused(4, p, nodes, rules, store),
+        Reading::TooDeep(p) => answer_refused(9, p, nodes, rules, store),
+        Reading::Over(p) => answer_refused(5, p, nodes, rules, store),
+        Reading::Zero(p) => answer_refused(6, p, nodes, rules, store),
+        Reading::PeekRange(p) => answer_refused(7, p, nodes, rules, store),
+        Reading::NotScalar(p) => answer_refused(8, p, nodes, rules, store),
+        Reading::NotPlain(p) => answer_refused(13, p, nodes, rules, store),
+        Reading::RulesRoom => answer_refused(12, 0, nodes, rules, store),
+        Reading::NodesRoom => answer_refused(10, 0, nodes, rules, store),
+        Reading::StoreRoom => answer_refused(11, 0, nodes, rules, store),
+    }
+}
+
+fn run_next(text: &[u8], at: usize) {
+    let listed = token::next_token(text, at);
+    match listed {
+        Listed::TooLong => write_five(1, 0, 0, 0, 0),
+        Listed::NotUtf8(place) => write_five(2, place, 0, 0, 0),
+        Listed::Next { kind, start, end } => write_five(0, 0, kind as usize, start, end),
+        Listed::End(n) => write_five(0, 0, 0, n, n),
+        Listed::NoToken(place) => write_five(3, place, 0, 0, 0),
+    }
+}
+
+fn write_three(number: usize, place: usize, used: usize) {
+    vectors::write_number(number);
+    vectors::write_number(place);
+    vectors::write_number(used);
+}
+
+fn answer_printed(used: usize, out: &[u8]) {
+    write_three(0, 0, used);
+    if out.len() < used {
+        return;
+    }
+    write_bytes(&out[..used]);
+    write_changed(vectors::bytes_alone(out, used) != out.len() - used);
+}
+
+fn answer_unprinted(number: usize, place: usize, out: &[u8]) {
+    write_three(number, place, 0);
+    write_changed(vectors::bytes_alone(out, 0) != out.len());
+}
+
+fn run_print(nodes: &[u32], rules: &[u32], store: &[u8], room: usize, out: &mut [u8]) {
+    if out.len() < room {
+        return;
+    }
+    let printed = printer::print(nodes, rules, store, &mut out[..room]);
+    match printed {
+        Printed::Used(n) => answer_printed(n, out),
+        Printed::Shape => answer_unprinted(20, 0, out),
+        Printed::Node(i) => answer_unprinted(21, i, out),
+        Printed::Rule(k) => answer_unprinted(22, k, out),
+        Printed::NoRoom => answer_unprinted(23, 0, out),
+    }
+}
+
+// The text of pieces: how often, a colon, in hex what, a comma.
+fn pieces(s: &[u8], out: &mut [u8]) -> usize
+    ensures { λ r. ⌜ Counts r (now (out .exit)) ⌝ }
+{
+    let mut piece = [0u8; 1024];
+    let mut at = 0;
+    let mut k = 0;
+    while at < s.len() {
+        let colon = vectors::find(s, at, b':', true);
+        if s.len() <= colon {
+            return k;
+        }
+        let from = colon + 1;
+        let comma = vectors::find(s, from, b',', true);
+        let n = vectors::unhex(&s[from..comma], &mut piece);
+        k = vectors::repeat(&piece[..n], vectors::number(&s[at..colon]) as usize, out, k);
+        at = comma + 1;
+    }
+    k
+}
+
+fn text_of(s: &[u8], long: bool, out: &mut [u8]) -> usize
+    ensures { λ r. ⌜ Counts r (now (out .exit)) ⌝ }
+{
+    if long {
+        pieces(s, out)
+    } else {
+        vectors::unhex(s, out)
+    }
+}
+
+fn level_of(n: u64) -> Level {
+    if n == 0 { Level::Plain } else { Level::Tagged }
+}
+
+fn run_text(line: &[u8], from: usize, level: Level, long: bool) {
+    let mut text = [0u8; 70100];
+    let mut nodes = [2863311530u32; 24640];
+    let mut rules = [2863311530u32; 6200];
+    let mut store = [170u8; 65600];
+    let shown = vectors::field(line, from);
+    let first = vectors::field(line, shown.end);
+    let second = vectors::field(line, first.end);
+    let third = vectors::field(line, second.end);
+    let a = shown.start;
+    let b = shown.end;
+    let c = first.start;
+    let d = first.end;
+    let e = second.start;
+    let f = second.end;
+    let g = third.start;
+    let h = third.end;
+    let n = vectors::number(&line[c..d]) as usize;
+    let m = vectors::number(&line[e..f]) as usize;
+    let k = vectors::number(&line[g..h]) as usize;
+    let used = text_of(&line[a..b], long, &mut text);
+    run_read(
+        &text[..used],
+        level,
+        long,
+        n,
+        m,
+        k,
+        &mut nodes,
+        &mut rules,
+        &mut store,
+    );
+}
+
+fn run_lister(line: &[u8], from: usize, at: usize, long: bool) {
+    let mut text = [0u8; 70100];
+    let shown = vectors::field(line, from);
+    let a = shown.start;
+    let b = shown.end;
+    let used = text_of(&line[a..b], long, &mut text);
+    run_next(&text[..used], at);
+}
+
+fn run_tables(line: &[u8], from: usize, room: usize) {
+    let mut nodes = [0u32; 600];
+    let mut rules = [0u32; 600];
+    let mut store = [0u8; 600];
+    let mut out = [170u8; 1200];
+    let first = vectors::field(line, from);
+    let second = vectors::field(line, first.end);
+    let third = vectors::field(line, second.end);
+    let a = first.start;
+    let b = first.end;
+    let c = second.start;
+    let d = second.end;
+    let e = third.start;
+    let f = third.end;
+    let n = vectors::numbers(&line[a..b], &mut nodes);
+    let m = vectors::numbers(&line[c..d], &mut rules);
+    let k = vectors::unhex(&line[e..f], &mut store);
+    run_print(&nodes[..n], &rules[..m], &store[..k], room, &mut out);
+}
+
+fn run_line(line: &[u8]) {
+    let op = vectors::field(line, 0);
+    let first = vectors::field(line, op.end);
+    let a = first.start;
+    let b = first.end;
+    let n = vectors::number(&line[a..b]);
+    let at = op.start;
+    vectors::write(line);
+    vectors::write(b" =");
+    if line.len() <= at {
+        return;
+    }
+    match line[at] {
+        b't' => run_text(line, b, level_of(n), false),
+        b'x' => run_text(line, b, level_of(n), true),
+        b'k' => run_lister(line, b, n as usize, false),
+        b'l' => run_lister(line, b, n as usize, true),
+        b'p' => run_tables(line, b, n as usize),
+        _ => {}
+    }
+    vectors::write(b"\n");
+}
+
+fn main() {
+    let mut input = io::large_buffer();
+    let n = io::read_full(0, &mut input);
+    let mut answers = 0;
+    let mut at = 0;
+    while at < n {
+        let end = vectors::line_end(&input[..n], at);
+        run_line(&input[at..end]);
+        answers += 1;
+        at = end + 1;
+    }
+    io::print_decimal(1, answers);
+    vectors::write(b" answers\n");
+}
