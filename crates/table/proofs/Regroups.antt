@@ -179,6 +179,10 @@ pub links-last : (j : Join) (b : Tree Nowhere) → isJoin j b ≡ false → link
 unfolding links
 links-last j b e = choose-false (isJoin j b) _ _ e
 
+-- what stands over one child ends a chain, a tag too
+pub links-one : (j : Join) (s : Nowhere) (o : Wrap) (t : Tree Nowhere) → links j (one s o t) ≡ regroup (one s o t) ∷ []
+links-one j s o t = links-last j (one s o t) refl
+
 -- a tree where no Seq is the right child of a Seq and no Choice of a Choice stays as it is
 pub regroup-same : (t : Tree Nowhere) → grouped t ≡ true → regroup t ≡ t
 unfolding grouped joined
