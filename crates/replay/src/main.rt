@@ -8,10 +8,14 @@
 // - x LEVEL COUNT:HEX,.. NODES RULES STORE: the same of a long text, made of pieces. A sum in place of each.
 // - k PLACE HEX, l PLACE COUNT:HEX,..: the lister. Number, place, kind, start, end.
 // - p ROOM NODES RULES STORE: tables are printed. Number, place, bytes used; the text.
+//
+// The input is read in blocks of 65,536 bytes, and no line lies in two of them: empty lines fill a block up.
 use printer::Printed;
 use reader::Reading;
 use structure::Level;
 use token::Listed;
+ghost use Prim.Native.Nat.{_≤_, _+_};
+ghost use lib.ListN.{length};
 ghost use Rattle.io.specs.Counts.{Counts};
 
 fn write_listed(v: u32) {
@@ -319,16 +323,41 @@ fn run_line(line: &[u8]) {
     vectors::write(b"\n");
 }
 
-fn main() {
-    let mut input = io::large_buffer();
-    let n = io::read_full(0, &mut input);
+// Asks what a line asks, and counts it. An empty line asks nothing.
+fn ask(line: &[u8]) -> u64
+    ensures { λ r. ⌜ r ≤ 1 ⌝ }
+{
+    if line.len() == 0 {
+        return 0;
+    }
+    run_line(line);
+    1
+}
+
+fn run_block(block: &[u8]) -> u64
+    ensures { λ r. ⌜ r ≤ 1 + length (now (block .entry)) ⌝ }
+{
     let mut answers = 0;
     let mut at = 0;
-    while at < n {
-        let end = vectors::line_end(&input[..n], at);
-        run_line(&input[at..end]);
-        answers += 1;
+    while at < block.len() {
+        let end = vectors::line_end(block, at);
+        answers += ask(&block[at..end]);
         at = end + 1;
+    }
+    answers
+}
+
+fn main() {
+    let mut input = io::large_buffer();
+    let mut answers = 0;
+    let mut blocks: usize = 0;
+    while blocks < 1024 {
+        let n = io::read_full(0, &mut input);
+        if n == 0 {
+            break;
+        }
+        answers += run_block(&input[..n]);
+        blocks += 1;
     }
     io::print_decimal(1, answers);
     vectors::write(b" answers\n");

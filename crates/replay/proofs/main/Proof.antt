@@ -1,71 +1,81 @@
-use lib.ListN.{length, take}
-use mathlib.Core.Path.{_≡_}
-use Prim.Native.Nat.{_≤_, _-_}
-use borrow.Author.Needs.{needs}
 use native.Mathlib.Omega.{arith}
+use borrow.Author.Needs.{needs}
+use lib.ListN.{length}
+use mathlib.Core.Path.{_≡_}
+use Prim.Native.Nat.{_≤_, _-_, _*_}
 use Rattle.replay.proofs.main.Statement.{statement}
 use Rattle.replay.proofs.main.Tie as tie
+use Rattle.replay.proofs.main.Reads as reads
+use Rattle.replay.proofs.main.Lts as lts
+use Rattle.io.proofs.large_buffer.Reads as large-buffer-reads
+use Rattle.io.proofs.print_decimal.Reads as print-decimal-reads
+use Rattle.io.proofs.read_full.Reads as read-full-reads
+use Rattle.replay.proofs.run_block.Reads as run-block-reads
+use Rattle.vectors.proofs.write.Reads as write-reads
 
 abbrev Inv-loop : tie.InvT-loop
-Inv-loop input n answers₀ at₀ t6 answers at = (n ≤ length input) × (n ≡ length (take n input)) × (length input ≡ 65536) × (answers ≤ at)
+Inv-loop input₀ answers₀ blocks₀ t5 input answers blocks = (length input ≡ 65536) × (blocks ≤ 1024) × (answers ≤ 65537 * blocks)
 
 abbrev μ-loop : tie.MeasureT-loop
-μ-loop input n answers₀ at₀ t6 answers at = n - at
+μ-loop input₀ answers₀ blocks₀ t5 input answers blocks = 1024 - blocks
 
+-- src/main.rt:349:21
 large-buffer-requires : tie.Need-large-buffer-requires Inv-loop μ-loop
 large-buffer-requires c κs = search needs
 
+-- src/main.rt:352:5
+loop-holds : tie.Need-loop-holds Inv-loop μ-loop
+loop-holds c = (search needs, omega arith, omega arith)
+
+-- src/main.rt:353:34
 slice-aggregate-read-full : tie.Need-slice-aggregate-read-full Inv-loop μ-loop
 slice-aggregate-read-full c = search needs
 
+-- src/main.rt:353:13
 read-full-requires : tie.Need-read-full-requires Inv-loop μ-loop
 read-full-requires c κs = search needs
 
-loop-holds : tie.Need-loop-holds Inv-loop μ-loop
-loop-holds c = (search needs, search needs, search needs, omega arith)
-
+-- src/main.rt:357:30
 array-share-prefix-input : tie.Need-array-share-prefix-input Inv-loop μ-loop
 array-share-prefix-input c = search needs
 
-slice-aggregate-line-end : tie.Need-slice-aggregate-line-end Inv-loop μ-loop
-slice-aggregate-line-end c = search needs
+-- src/main.rt:357:30
+slice-aggregate-run-block : tie.Need-slice-aggregate-run-block Inv-loop μ-loop
+slice-aggregate-run-block c = search needs
 
-line-end-requires : tie.Need-line-end-requires Inv-loop μ-loop
-line-end-requires c κs = search needs
+-- src/main.rt:357:20
+run-block-requires : tie.Need-run-block-requires Inv-loop μ-loop
+run-block-requires c κs = search needs
 
-sub-run-line : tie.Need-sub-run-line Inv-loop μ-loop
-sub-run-line c = c .line-end .ensures .1 (omega arith)
-
-part-run-line-start : tie.Need-part-run-line-start Inv-loop μ-loop
-part-run-line-start c = c .before .line-end .ensures .1 (omega arith)
-
-part-run-line-end : tie.Need-part-run-line-end Inv-loop μ-loop
-part-run-line-end c = omega arith
-
-run-line-requires : tie.Need-run-line-requires Inv-loop μ-loop
-run-line-requires c κs = search needs
-
+-- src/main.rt:357:9
 add-answers : tie.Need-add-answers Inv-loop μ-loop
 add-answers c = omega arith
 
-add-at : tie.Need-add-at Inv-loop μ-loop
-add-at c = omega arith
+-- src/main.rt:358:9
+add-blocks : tie.Need-add-blocks Inv-loop μ-loop
+add-blocks c = omega arith
 
+-- src/main.rt:352:5
 loop-less : tie.Need-loop-less Inv-loop μ-loop
-loop-less c = omega (arith, c .before .before .before .line-end .ensures .1 (omega arith))
+loop-less c = omega arith
 
+-- src/main.rt:352:5
 loop-again : tie.Need-loop-again Inv-loop μ-loop
-loop-again c = (search needs, search needs, search needs, omega (arith, c .before .before .before .line-end .ensures .1 (omega arith)))
+loop-again c = (search needs, omega arith, omega arith)
 
+-- src/main.rt:360:5
 print-decimal-requires : tie.Need-print-decimal-requires Inv-loop μ-loop
 print-decimal-requires c κs = search needs
 
+-- src/main.rt:361:20
 slice-aggregate-write : tie.Need-slice-aggregate-write Inv-loop μ-loop
 slice-aggregate-write c = search needs
 
+-- src/main.rt:361:5
 write-requires : tie.Need-write-requires Inv-loop μ-loop
 write-requires c κs = search needs
 
+-- src/main.rt:348:1
 returns : tie.Need-returns Inv-loop μ-loop
 returns c = search needs
 
@@ -76,18 +86,14 @@ main-spec =
     Inv-loop
     μ-loop
     large-buffer-requires
+    loop-holds
     slice-aggregate-read-full
     read-full-requires
-    loop-holds
     array-share-prefix-input
-    slice-aggregate-line-end
-    line-end-requires
-    sub-run-line
-    part-run-line-start
-    part-run-line-end
-    run-line-requires
+    slice-aggregate-run-block
+    run-block-requires
     add-answers
-    add-at
+    add-blocks
     loop-less
     loop-again
     print-decimal-requires

@@ -1,6 +1,8 @@
 //! Writes a sample of answers for a program that replays them: `stored FOLDER` makes FOLDER/stdin,
-//! one question a line, and FOLDER/stdout, each question again with ` = ` and its answer. `--seed N`;
-//! `--scale N`, hundredths of the random part (default 100).
+//! one question a line, and FOLDER/stdout, each question again with ` = ` and its answer, and at the
+//! end how many there are. `--seed N`; `--scale N`, hundredths of the random part (default 100).
+//!
+//! The program reads blocks of 65,536 bytes: no line lies in two of them, and LFs fill a block up.
 //!
 //! - `t LEVEL HEX NODES RULES STORE`: read the text; level 1 tagged, 0 plain; rooms in numbers,
 //!   numbers, bytes. Answer: number, place, nodes, rules, store bytes; the node numbers, the rule
@@ -77,8 +79,12 @@ fn parts(text: &[u8]) -> String {
     line
 }
 
+const BLOCK: usize = 65_536;
+
 struct Stored {
     questions: BufWriter<fs::File>,
+    /// Bytes of the last block that are written.
+    block: usize,
     answers: BufWriter<fs::File>,
     counts: BTreeMap<String, u64>,
     also_rust: u64,
@@ -87,8 +93,21 @@ struct Stored {
 impl Stored {
     fn put(&mut self, class: String, question: &str, answer: &str) {
         *self.counts.entry(class).or_default() += 1;
+        let line = question.len() + 1;
+        assert!(line <= BLOCK, "a line of more than a block");
+        if self.block + line > BLOCK {
+            write!(self.questions, "{}", "\n".repeat(BLOCK - self.block)).expect("written");
+            self.block = 0;
+        }
+        self.block += line;
         writeln!(self.questions, "{question}").expect("written");
         writeln!(self.answers, "{question} = {answer}").expect("written");
+    }
+
+    /// How many answers there are, as the program says at its end.
+    fn end(&mut self) {
+        let count: u64 = self.counts.values().sum();
+        writeln!(self.answers, "{count} answers").expect("written");
     }
 
     fn text(&mut self, text: &[u8], tagged: bool, rooms: &[(isize, isize, isize)]) {
@@ -183,6 +202,7 @@ fn write(folder: &str, seed: u64, scale: usize) {
     let file = |name| BufWriter::new(fs::File::create(format!("{folder}/{name}")).expect(folder));
     let mut stored = Stored {
         questions: file("stdin"),
+        block: 0,
         answers: file("stdout"),
         counts: BTreeMap::new(),
         also_rust: 0,
@@ -260,6 +280,7 @@ fn write(folder: &str, seed: u64, scale: usize) {
             stored.tables(&made, -1);
         }
     }
+    stored.end();
     println!("seed {seed}");
     for (class, count) in &stored.counts {
         println!("  {count:>6}  {class}");
