@@ -1,36 +1,13 @@
 //! The product's compiled library, through its C interface, in buffers with canaries.
 
 use crate::shown;
+use flascjuvan::raw::next_token;
 use oracle::Tables;
 use second::read::Used;
 use second::{read, Refusal};
 
-extern "C" {
-    fn flascjuvan_read(
-        text: *const u8,
-        text_len: usize,
-        tagged: bool,
-        nodes: *mut u32,
-        nodes_len: usize,
-        rules: *mut u32,
-        rules_len: usize,
-        store: *mut u8,
-        store_len: usize,
-        answer: *mut u64,
-    );
-    fn flascjuvan_print(
-        nodes: *const u32,
-        nodes_len: usize,
-        rules: *const u32,
-        rules_len: usize,
-        store: *const u8,
-        store_len: usize,
-        out: *mut u8,
-        out_len: usize,
-        answer: *mut u64,
-    );
-    fn flascjuvan_next_token(text: *const u8, text_len: usize, at: usize, answer: *mut u64);
-}
+/// As they are, for measuring: into buffers of the caller's.
+pub use flascjuvan::raw::{print as print_into, read as read_into};
 
 /// A lent buffer with canaries on both sides.
 struct Lent<T> {
@@ -59,60 +36,6 @@ impl<T: Copy + PartialEq + std::fmt::Debug> Lent<T> {
 
 const NUMBER: u32 = 0xdead_beef;
 const BYTE: u8 = 0xa5;
-
-/// For measuring: the product's reader into buffers of the caller's.
-pub fn read_into(
-    text: &[u8],
-    tagged: bool,
-    nodes: &mut [u32],
-    rules: &mut [u32],
-    store: &mut [u8],
-) -> [u64; 5] {
-    let mut answer = [u64::MAX; 5];
-    // SAFETY: pointers and lengths are those of slices that live through the call.
-    unsafe {
-        flascjuvan_read(
-            text.as_ptr(),
-            text.len(),
-            tagged,
-            nodes.as_mut_ptr(),
-            nodes.len(),
-            rules.as_mut_ptr(),
-            rules.len(),
-            store.as_mut_ptr(),
-            store.len(),
-            answer.as_mut_ptr(),
-        );
-    }
-    answer
-}
-
-/// For measuring: the product's printer into a buffer of the caller's.
-pub fn print_into(nodes: &[u32], rules: &[u32], store: &[u8], out: &mut [u8]) -> [u64; 3] {
-    let mut answer = [u64::MAX; 3];
-    // SAFETY: as above.
-    unsafe {
-        flascjuvan_print(
-            nodes.as_ptr(),
-            nodes.len(),
-            rules.as_ptr(),
-            rules.len(),
-            store.as_ptr(),
-            store.len(),
-            out.as_mut_ptr(),
-            out.len(),
-            answer.as_mut_ptr(),
-        );
-    }
-    answer
-}
-
-fn next_token(text: &[u8], at: usize) -> [u64; 5] {
-    let mut answer = [u64::MAX; 5];
-    // SAFETY: as above.
-    unsafe { flascjuvan_next_token(text.as_ptr(), text.len(), at, answer.as_mut_ptr()) };
-    answer
-}
 
 /// What differed, in words.
 pub type Difference = String;

@@ -2,7 +2,8 @@
 //!
 //! The functions on the other side are proved to answer every input, and ask only for memory that is as their types
 //! say. Rust's slices are that: aligned, never null, as long as they claim, and a `&mut` overlaps nothing. So nothing is
-//! left to test here but that enough stack is free, which no library can.
+//! left to test here but that enough stack is free, which no library can. An answer starts out as numbers that none
+//! has, so that one which was not written would show.
 
 extern "C" {
     fn flascjuvan_read(
@@ -33,7 +34,7 @@ extern "C" {
 
 /// Reads a text into the fronts of the lent buffers. Number, place, nodes, rules, store bytes.
 pub fn read(text: &[u8], tagged: bool, nodes: &mut [u32], rules: &mut [u32], store: &mut [u8]) -> [u64; 5] {
-    let mut answer = [0; 5];
+    let mut answer = [u64::MAX; 5];
     // SAFETY: each pointer and length is a live slice's, the mutable ones overlap nothing, the answer has five numbers.
     unsafe {
         flascjuvan_read(
@@ -54,7 +55,7 @@ pub fn read(text: &[u8], tagged: bool, nodes: &mut [u32], rules: &mut [u32], sto
 
 /// Prints tables to the front of the lent output. Number, place, bytes.
 pub fn print(nodes: &[u32], rules: &[u32], store: &[u8], out: &mut [u8]) -> [u64; 3] {
-    let mut answer = [0; 3];
+    let mut answer = [u64::MAX; 3];
     // SAFETY: as in `read`; the answer has three numbers.
     unsafe {
         flascjuvan_print(
@@ -74,7 +75,7 @@ pub fn print(nodes: &[u32], rules: &[u32], store: &[u8], out: &mut [u8]) -> [u64
 
 /// The next token from a place on. Number, place, kind, start, end.
 pub fn next_token(text: &[u8], at: usize) -> [u64; 5] {
-    let mut answer = [0; 5];
+    let mut answer = [u64::MAX; 5];
     // SAFETY: as in `read`.
     unsafe { flascjuvan_next_token(text.as_ptr(), text.len(), at, answer.as_mut_ptr()) };
     answer
