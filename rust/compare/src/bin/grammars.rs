@@ -1,5 +1,5 @@
-//! Reads the grammars named on the command line by the Rust (2.5.2 and the given files), by the
-//! second program and (feature `product`) by the product, prints them, and reads what was printed.
+//! Reads the grammars named on the command line at both levels, prints them, and reads what was printed: by the
+//! Rust (2.5.2 and the given files), by the second program and (feature `product`) by the product.
 
 use compare::{on_stack, quiet_panics, trees};
 use oracle::{Answer, Tables};
@@ -9,64 +9,97 @@ fn tables(text: &str, tagged: bool) -> Result<Tables, second::Refusal> {
     Ok(Tables { nodes: made.nodes, rules: made.rules, store: made.store })
 }
 
-/// What went well, or what didn't.
-fn one(text: &str) -> Result<String, String> {
-    let made = tables(text, true).map_err(|e| format!("refused {} at {}", e.number, e.place))?;
-    for tagged in [true, false] {
-        let Answer::Read(rules) = oracle::read(text, tagged) else {
-            return Err("the given files refuse it".to_string());
-        };
-        if Ok(Tables::of(&rules)) != tables(text, tagged) {
-            return Err("the given files read it otherwise".to_string());
-        }
-    }
-    let real = match oracle::real::read(text) {
-        Answer::Read(rules) if Tables::of(&rules) == made.clone().without_spans() => "2.5.2 alike",
-        Answer::Read(_) => return Err("2.5.2 reads it otherwise".to_string()),
-        _ => "2.5.2 refuses it",
-    };
+/// The printed text of a level's tables, and whether they come back as they were: if not, regrouped.
+fn round(made: &Tables, tagged: bool) -> Result<(String, bool), String> {
     let mut out = vec![0; 1 << 20];
     let length = second::print::print(&made.nodes, &made.rules, &made.store, &mut out)
         .map_err(|e| format!("not printed: {} at {}", e.number, e.place))?;
     let printed = std::str::from_utf8(&out[..length]).expect("UTF-8");
-    let display = oracle::print(&made.nodes, &made.rules, &made.store);
-    let alike = if display == printed { "alike" } else { "otherwise" };
-    let regrouped: Vec<_> = trees::rules(&made)
+    let regrouped: Vec<_> = trees::rules(made)
         .into_iter()
         .map(|rule| trees::Rule { tree: trees::regrouped(rule.tree), ..rule })
         .collect();
-    let back = tables(printed, true).map_err(|e| format!("back: {} at {}", e.number, e.place))?;
-    if back.without_spans() != trees::tables(&regrouped) {
+    let regrouped = trees::tables(&regrouped);
+    let back = tables(printed, tagged).map_err(|e| format!("back: {} at {}", e.number, e.place))?;
+    if back.without_spans() != regrouped {
         return Err("it doesn't come back".to_string());
     }
-    #[cfg(feature = "product")]
-    {
-        let mut calls = 0;
-        compare::product::check_read(text.as_bytes(), true, false, &mut calls)?;
-        compare::product::check_read(text.as_bytes(), false, false, &mut calls)?;
-        compare::product::check_read(printed.as_bytes(), true, false, &mut calls)?;
-        compare::product::check_print(&made, &mut calls)?;
+    Ok((printed.to_string(), regrouped == trees::tables(&trees::rules(made))))
+}
+
+/// Whether the product reads a text, prints its tables and reads what was printed as the second program
+/// does, in all rooms worth trying; how often it was called.
+#[cfg(feature = "product")]
+fn product(text: &str, made: &Tables, printed: &str, tagged: bool) -> Result<u64, String> {
+    use compare::product::{check_print, check_read};
+    let mut calls = 0;
+    check_read(text.as_bytes(), tagged, false, &mut calls)?;
+    check_print(made, &mut calls)?;
+    check_read(printed.as_bytes(), tagged, false, &mut calls)?;
+    Ok(calls)
+}
+
+#[cfg(not(feature = "product"))]
+fn product(_: &str, _: &Tables, _: &str, _: bool) -> Result<u64, String> {
+    Ok(0)
+}
+
+/// What went well, or what didn't.
+fn one(text: &str) -> Result<String, String> {
+    let (mut words, mut calls) = (Vec::new(), 0);
+    for (tagged, level) in [(true, "tagged"), (false, "plain")] {
+        let made =
+            tables(text, tagged).map_err(|e| format!("refused {} at {}", e.number, e.place))?;
+        let Answer::Read(rules) = oracle::read(text, tagged) else {
+            return Err("the given files refuse it".to_string());
+        };
+        if Tables::of(&rules) != made {
+            return Err("the given files read it otherwise".to_string());
+        }
+        if tagged {
+            words.push(format!("{} nodes, {} rules", made.nodes.len() / 6, made.rules.len() / 6));
+        } else {
+            words.push(match oracle::real::read(text) {
+                Answer::Read(rules) if Tables::of(&rules) == made.clone().without_spans() => {
+                    "2.5.2 alike".to_string()
+                }
+                Answer::Read(_) => return Err("2.5.2 reads it otherwise".to_string()),
+                _ => "2.5.2 refuses it".to_string(),
+            });
+        }
+        let (printed, same) = round(&made, tagged)?;
+        let display = oracle::print(&made.nodes, &made.rules, &made.store);
+        let alike = if display == printed { "alike" } else { "otherwise" };
+        let back = if same { "back equal" } else { "back regrouped" };
+        words.push(format!("{level}: `Display` prints {alike}, {back}"));
+        calls += product(text, &made, &printed, tagged)?;
     }
-    let same = trees::tables(&regrouped) == trees::tables(&trees::rules(&made));
-    let (nodes, rules) = (made.nodes.len() / 6, made.rules.len() / 6);
-    let back = if same { "back equal" } else { "back regrouped" };
-    Ok(format!("{nodes} nodes, {rules} rules; {real}; `Display` prints {alike}; {back}"))
+    words.push(if calls == 0 {
+        "the product isn't linked".to_string()
+    } else {
+        format!("the product alike in {calls} calls")
+    });
+    Ok(words.join("; "))
 }
 
 fn main() {
     quiet_panics();
-    let mut good = true;
+    let (mut good, mut bad) = (0, 0);
     for path in std::env::args().skip(1) {
         let text = std::fs::read_to_string(&path).expect(&path);
         let name = path.rsplit('/').take(3).collect::<Vec<_>>().into_iter().rev();
         let name = name.collect::<Vec<_>>().join("/");
         match on_stack(1 << 30, || one(&text)) {
-            Ok(words) => println!("{name}: {} bytes, {words}", text.len()),
+            Ok(words) => {
+                good += 1;
+                println!("{name}: {} bytes, {words}", text.len());
+            }
             Err(words) => {
-                good = false;
+                bad += 1;
                 println!("{name}: DIFFERENT: {words}");
             }
         }
     }
-    std::process::exit(i32::from(!good));
+    println!("{good} grammars alike, {bad} different");
+    std::process::exit(i32::from(bad > 0));
 }
