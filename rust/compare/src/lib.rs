@@ -1,6 +1,7 @@
 //! Texts and tables by the million, and what the Rust, the second program and the product
 //! answer for them.
 
+pub mod instructions;
 pub mod tables;
 pub mod texts;
 pub mod trees;
@@ -68,6 +69,11 @@ pub fn shown(text: &[u8]) -> String {
 
 pub fn hex(bytes: &[u8]) -> String {
     bytes.iter().map(|b| format!("{b:02x}")).collect()
+}
+
+/// Whether `--name` stands on the command line.
+pub fn asked(name: &str) -> bool {
+    std::env::args().any(|argument| argument == name)
 }
 
 /// `--name value` on the command line, or the default.

@@ -1,11 +1,13 @@
 //! Measures, in one run: reading by pest 2.5.2, by the given files of 2.9.5, by the second program
 //! and (feature `product`) by the product; and printing by `Display`, by the second program and by
-//! the product. `--seed N`; `--ms N`, milliseconds for each line (default 300).
+//! the product. `--seed N`; `--ms N`, milliseconds for each line (default 300). `--instructions`
+//! counts instructions in the place of time, by callgrind.
 
 use std::hint::black_box;
 use std::time::{Duration, Instant};
 
-use compare::{argument, on_stack, Random};
+use compare::instructions::{self, Counter};
+use compare::{argument, asked, on_stack, Random};
 use oracle::{Answer, Printable, Tables};
 
 /// A grammar of about so many bytes, such as people write: it passes 2.5.2's validator, since
@@ -65,12 +67,59 @@ struct Measured {
     /// Runs in one sample, so that a sample is no shorter than 200 µs.
     runs: u32,
     samples: Vec<Duration>,
+    /// Of one run, where the machine counts them.
+    instructions: Option<u64>,
+}
+
+impl Measured {
+    fn median(&self) -> f64 {
+        self.samples[self.samples.len() / 2].as_secs_f64() * 1e6
+    }
+
+    fn print(&self, bytes: usize, held_to: Option<f64>) {
+        let Measured { name, runs, samples, instructions } = self;
+        let (median, best) = (self.median(), samples[0].as_secs_f64() * 1e6);
+        print!("  {name:<36} {median:>9.1} µs  {:>7.2} ns a byte", median * 1e3 / bytes as f64);
+        if let Some(held_to) = held_to {
+            print!("  {:>6.2} times as fast", held_to / median);
+        }
+        if let Some(count) = instructions {
+            print!("  {count:>10} instructions");
+        }
+        println!("  (best {best:.1}; {} samples of {runs})", samples.len());
+    }
 }
 
 type Work<'a> = (&'a str, Box<dyn FnMut() + 'a>);
 
-/// Runs all works by turns, for about `budget` each, and prints each one's median.
+/// Of the works the one that all are held to has a name that begins so.
+const HELD_TO: &str = "given files of 2.9.5";
+
+/// The first calls find memory that was never touched.
+const WARM: usize = 3;
+
+/// Measures all works by turns and prints a line for each; under callgrind, shows them to it.
 fn measure(budget: Duration, bytes: usize, mut works: Vec<Work<'_>>) {
+    for (_, work) in &mut works {
+        for _ in 0..WARM {
+            work();
+        }
+    }
+    if asked("--callgrind") {
+        for (name, work) in &mut works {
+            instructions::show(name, bytes, work);
+        }
+        return;
+    }
+    let measured = times(budget, works);
+    let held = measured.iter().find(|one| one.name.starts_with(HELD_TO)).map(Measured::median);
+    for one in &measured {
+        one.print(bytes, held);
+    }
+}
+
+/// Runs all works by turns, for about `budget` each. Samples come sorted.
+fn times(budget: Duration, mut works: Vec<Work<'_>>) -> Vec<Measured> {
     let mut measured: Vec<Measured> = Vec::new();
     for (name, work) in &mut works {
         let start = own_time();
@@ -79,7 +128,8 @@ fn measure(budget: Duration, bytes: usize, mut works: Vec<Work<'_>>) {
             work();
             runs += 1;
         }
-        measured.push(Measured { name: name.to_string(), runs, samples: Vec::new() });
+        let instructions = counted(work, runs);
+        measured.push(Measured { name: name.to_string(), runs, samples: Vec::new(), instructions });
     }
     let begun = Instant::now();
     while begun.elapsed() < budget * works.len() as u32 || measured[0].samples.len() < 11 {
@@ -91,21 +141,42 @@ fn measure(budget: Duration, bytes: usize, mut works: Vec<Work<'_>>) {
             measured.samples.push((own_time() - start) / measured.runs);
         }
     }
-    for Measured { name, runs, samples } in &mut measured {
-        samples.sort();
-        let median = samples[samples.len() / 2].as_secs_f64() * 1e6;
-        let best = samples[0].as_secs_f64() * 1e6;
-        let each = median * 1e3 / bytes as f64;
-        let count = samples.len();
-        print!("  {name:<36} {median:>9.1} µs  {each:>7.2} ns a byte");
-        println!("  (best {best:.1}; {count} samples of {runs})");
+    for one in &mut measured {
+        one.samples.sort();
     }
+    measured
+}
+
+/// The instructions of one run, where the machine counts them.
+fn counted(work: &mut dyn FnMut(), runs: u32) -> Option<u64> {
+    let mut counter = Counter::open().ok()?;
+    let before = counter.read();
+    for _ in 0..runs {
+        work();
+    }
+    Some((counter.read() - before) / u64::from(runs))
+}
+
+/// What the numbers are.
+fn heading(seed: u64) -> String {
+    if asked("--callgrind") {
+        return format!("seed {seed}; instructions of one run, by callgrind");
+    }
+    let counts = match Counter::open() {
+        Ok(_) => "instructions by its counter".to_string(),
+        Err(why) => format!("the machine doesn't count instructions ({why}), --instructions does"),
+    };
+    format!("seed {seed}; medians of this thread's own time; {counts}")
 }
 
 fn main() {
+    if asked("--instructions") {
+        instructions::by_callgrind(HELD_TO).expect("valgrind");
+        return;
+    }
     let seed = argument("--seed", 1);
     let budget = Duration::from_millis(argument("--ms", 300));
-    println!("seed {seed}; medians of this thread's own time");
+    println!("{}", heading(seed));
     on_stack(1 << 30, || {
         let mut random = Random(seed);
         for bytes in [1_024, 10_240, 65_536] {
