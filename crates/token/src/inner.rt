@@ -10,7 +10,8 @@ ghost use Rattle.text.specs.Classes.{classes};
 ghost use Rattle.token.specs.Tokens.{tokenAt};
 ghost use Rattle.token.specs.Lists.{tokensOf, filledOf, Space, Holds};
 
-// The token at a place: past blanks, by the class of its first byte.
+// The token at a place: past blanks, by the class of its first byte. Most blanks are spaces, which
+// are told without a look at the table.
 pub fn token_at(t: &[u8; 256], s: &[u8], at: usize) -> Token
     requires { ⌜ now t ≡ classes ⌝ }
     ensures { λ r. ⌜ r ≡ tokenAt (now (s .entry)) at ⌝ }
@@ -18,38 +19,42 @@ pub fn token_at(t: &[u8; 256], s: &[u8], at: usize) -> Token
     let mut i = at;
     while i < s.len() {
         let b = s[i];
-        let c = text::inner::classes::class(t, b);
-        match c {
-            1 => {
-                i += 1;
-            }
-            2 => {
-                return openers::word_at(t, s, i);
-            }
-            3 => {
-                let end = runs::digits_end(t, s, i);
-                return Token::Found {
-                    kind: 20,
-                    start: i,
-                    end,
-                };
-            }
-            4 => {
-                return Token::Found {
-                    kind: openers::one_kind(b),
-                    start: i,
-                    end: i + 1,
-                };
-            }
-            5 => {
-                let next = blanks::opener_blank_end(s, i, b);
-                if next == i {
-                    return openers::opener_at(t, s, i, b);
+        if b == 32 {
+            i += 1;
+        } else {
+            let c = text::inner::classes::class(t, b);
+            match c {
+                1 => {
+                    i += 1;
                 }
-                i = next;
-            }
-            _ => {
-                return Token::NoToken(i);
+                2 => {
+                    return openers::word_at(t, s, i);
+                }
+                3 => {
+                    let end = runs::digits_end(t, s, i);
+                    return Token::Found {
+                        kind: 20,
+                        start: i,
+                        end,
+                    };
+                }
+                4 => {
+                    return Token::Found {
+                        kind: openers::one_kind(b),
+                        start: i,
+                        end: i + 1,
+                    };
+                }
+                5 => {
+                    let next = blanks::opener_blank_end(s, i, b);
+                    if next == i {
+                        return openers::opener_at(t, s, i, b);
+                    }
+                    i = next;
+                }
+                _ => {
+                    return Token::NoToken(i);
+                }
             }
         }
     }
