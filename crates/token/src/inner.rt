@@ -8,6 +8,7 @@ use crate::Token;
 ghost use mathlib.Core.Path.{_≡_};
 ghost use Rattle.text.specs.Classes.{classes};
 ghost use Rattle.token.specs.Tokens.{tokenAt};
+ghost use lib.ListN.{length, take};
 ghost use Rattle.token.specs.Lists.{tokensOf, filledOf, Space, Holds};
 
 // The token at a place: past blanks, by the class of its first byte. Most blanks are spaces, which
@@ -61,7 +62,7 @@ pub fn token_at(t: &[u8; 256], s: &[u8], at: usize) -> Token
     Token::End
 }
 
-// Puts the kinds, starts and ends of a text's tokens into lent arrays.
+// Puts the kinds, starts and ends of a text's tokens into lent arrays, as many as those hold.
 pub fn fill(
     t: &[u8; 256],
     s: &[u8],
@@ -71,8 +72,8 @@ pub fn fill(
 ) -> Filled
     requires { ⌜ now t ≡ classes ⌝ }
     requires { ⌜ Space (now s) (now kinds) (now starts) (now ends) ⌝ }
-    ensures answer { λ r. ⌜ r ≡ filledOf (now (s .entry)) ⌝ }
-    ensures held { λ _. ⌜ Holds (tokensOf (now (s .entry)) .list) (now (kinds .entry)) (now (starts .entry)) (now (ends .entry)) (now (kinds .exit)) (now (starts .exit)) (now (ends .exit)) ⌝ }
+    ensures answer { λ r. ⌜ r ≡ filledOf (length (now (kinds .entry))) (now (s .entry)) ⌝ }
+    ensures held { λ _. ⌜ Holds (take (length (now (kinds .entry))) (tokensOf (now (s .entry)) .list)) (now (kinds .entry)) (now (starts .entry)) (now (ends .entry)) (now (kinds .exit)) (now (starts .exit)) (now (ends .exit)) ⌝ }
 {
     let mut at = 0;
     let mut n = 0;
@@ -86,6 +87,9 @@ pub fn fill(
                 return Filled::NoToken(place);
             }
             Token::Found { kind, start, end } => {
+                if kinds.len() <= n {
+                    return Filled::Full;
+                }
                 kinds[n] = kind;
                 starts[n] = start as u32;
                 ends[n] = end as u32;
