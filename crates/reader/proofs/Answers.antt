@@ -10,6 +10,7 @@ use lib.Dec.{leb, ltb, eqb}
 use denote.Enum.Declared.{tagOf}
 use types.Run.{OneOf}
 use lib.ListN.{length, take, length-append, length-take}
+use lib.Seq.{take-all}
 use borrow.Author.Tests.{le-leb, lt-leb, leb-true, ltb-true, eqb-true}
 use Rattle.text.specs.Choice.{choose, and, or}
 use Rattle.text.specs.Utf8.{firstBad}
@@ -20,7 +21,7 @@ use Rattle.token.specs.Lists.{kindOf, startOf, endOf, tokensOf, filledOf, Space
 use Rattle.token.specs.declared.Filled.{Filled}
 use Rattle.token.specs.declared.Filled.the-variants as Filled
 use Rattle.token.proofs.Lists.{few}
-use Rattle.token.proofs.Fills.{used, filled-all, filled-none}
+use Rattle.token.proofs.Fills.{used, filled-all, filled-none, filled-over}
 use Rattle.text.proofs.Splices.{length-fronted}
 use Rattle.token.proofs.Lists.{length-each}
 use Rattle.table.specs.Tree.{Span, Rule, counts, ruleStored, rulesStored}
@@ -44,8 +45,10 @@ use Rattle.structure.proofs.Steps.{choose-true, choose-false, split, inside-is,
 use Rattle.structure.proofs.Rules.{rule-went, rules-end}
 use Rattle.reader.specs.declared.Reading.{Reading}
 use Rattle.reader.specs.declared.Reading.the-variants as Reading
+use Rattle.reader.specs.declared.Tried.{Tried}
+use Rattle.reader.specs.declared.Tried.the-variants as Tried
 use Rattle.reader.proofs.Reading.{the-type}
-use Rattle.reader.specs.Read.{roomForNodes, roomForRules, roomBy, faulty, checkedBy, unreadable, ruledBy, judgedOf, listedOf, readOf, ruledOf, rulesOf, leftIn, Numbered, numbered, reported, Leaves}
+use Rattle.reader.specs.Read.{roomForNodes, roomForRules, roomBy, faulty, checkedBy, unreadable, ruledBy, judgedOf, listedOf, triedOf, readOf, ruledOf, rulesOf, leftIn, Numbered, numbered, reported, Leaves, TriedLeaves}
 use Rattle.reader.specs.Build.{Scalars}
 use Rattle.reader.specs.Rules.{RulesRoom, RulesBuilt}
 use Rattle.reader.proofs.Rules.{next-rule, no-rules}
@@ -275,34 +278,87 @@ module _ (level : Level) (s ns rs st : List ℕ) (x : Reading) (n r : ℕ) (e : 
 
 -- ---- tokens in the arrays
 
-module _ (s : List ℕ) (f : Filled) (e : f ≡ filledOf s) where
-  pub work-stopped : (level : Level) (ns rs st : List ℕ) (n r b p : ℕ) → f ≡ Filled.NoToken p → (Reading.NoToken p ≡ listedOf level s n r b) × Leaves level s (Reading.NoToken p) ns rs st ns rs st
+module _ (m : ℕ) (level : Level) (s : List ℕ) (n r b : ℕ) where
+  tried-fits : length (toks s) ≤ m → triedOf m level s n r b ≡ Tried.Done (listedOf level s n r b)
+  unfolding triedOf
+  tried-fits h = rw (le-leb (length (toks s)) m h)
+
+  tried-over : m < length (toks s) → triedOf m level s n r b ≡ Tried.Full
+  unfolding triedOf
+  tried-over h = rw (lt-leb (length (toks s)) m h)
+
+  -- what was done is what the text gets
+  tried-done : {t : Tried} {x : Reading} → t ≡ triedOf m level s n r b → t ≡ Tried.Done x → x ≡ listedOf level s n r b
+  tried-done {t} {x} e q =
+      ⊎-elim
+      (λ h.
+      let w : Tried.Full ≡ Tried.Done x = sym (tried-over h) ∙ sym e ∙ q in
+      let z : _≡_ {A = ℕ} 0 1 = cc in
+      absurd (omega arith))
+      (λ h.
+      let w : Tried.Done x ≡ Tried.Done (listedOf level s n r b) = sym q ∙ e ∙ tried-fits h in
+      cc)
+      (lt-or-ge m (length (toks s)))
+
+  -- as many tokens as bytes are enough
+  pub tried-all : {t : Tried} → length s ≤ m → t ≡ triedOf m level s n r b → t ≡ Tried.Full → ⊥
+  tried-all {t} h e q =
+      let l = few s in
+      let w : Tried.Full ≡ Tried.Done (listedOf level s n r b) = sym q ∙ e ∙ tried-fits (omega arith) in
+      let z : _≡_ {A = ℕ} 0 1 = cc in
+      omega arith
+
+-- one size of arrays did
+pub listed-done : (m : ℕ) (level : Level) (s ns rs st ns₁ rs₁ st₁ : List ℕ) {t : Tried} {x : Reading} → t ≡ triedOf m level s (roomForNodes ns) (roomForRules rs) (length st)
+    → TriedLeaves level s t ns rs st ns₁ rs₁ st₁ → t ≡ Tried.Done x → (x ≡ listedOf level s (roomForNodes ns) (roomForRules rs) (length st)) × Leaves level s x ns rs st ns₁ rs₁ st₁
+listed-done m level s ns rs st ns₁ rs₁ st₁ e w q = (tried-done m level s (roomForNodes ns) (roomForRules rs) (length st) e q, rw q at w)
+
+-- or was full, and another followed
+pub listed-again : (level : Level) (s ns rs st ns₁ rs₁ st₁ ns₂ rs₂ st₂ : List ℕ) {t : Tried} {x : Reading} → TriedLeaves level s t ns rs st ns₁ rs₁ st₁ → t ≡ Tried.Full
+    → x ≡ listedOf level s (roomForNodes ns₁) (roomForRules rs₁) (length st₁) → Leaves level s x ns₁ rs₁ st₁ ns₂ rs₂ st₂
+    → (x ≡ listedOf level s (roomForNodes ns) (roomForRules rs) (length st)) × Leaves level s x ns rs st ns₂ rs₂ st₂
+listed-again level s ns rs st ns₁ rs₁ st₁ ns₂ rs₂ st₂ w q e l =
+    let v : (ns₁ ≡ ns) × (rs₁ ≡ rs) × (st₁ ≡ st) = rw q at w in
+    (rw (v .0, v .1, v .2) at e, rw (v .0, v .1, v .2) at l)
+
+module _ (s k₀ : List ℕ) (f : Filled) (e : f ≡ filledOf (length k₀) s) where
+  pub work-full : (level : Level) (ns rs st : List ℕ) (n r b : ℕ) → f ≡ Filled.Full → (Tried.Full ≡ triedOf (length k₀) level s n r b) × TriedLeaves level s Tried.Full ns rs st ns rs st
+  work-full level ns rs st n r b q = (sym (tried-over (length k₀) level s n r b (filled-over (length k₀) s (sym e ∙ q))), (refl, refl, refl))
+
+  pub work-stopped : (level : Level) (ns rs st : List ℕ) (n r b p : ℕ) → f ≡ Filled.NoToken p
+      → (Tried.Done (Reading.NoToken p) ≡ triedOf (length k₀) level s n r b) × TriedLeaves level s (Tried.Done (Reading.NoToken p)) ns rs st ns rs st
   unfolding listedOf
   work-stopped level ns rs st n r b p q =
-      (sym (ap (λ (x : Check). checkedBy x Reading.NoToken (λ u. judgedOf level s n r b)) (filled-none s p (sym e ∙ q))), kept level s ns rs st (Reading.NoToken p) (omega arith))
+      let w = filled-none (length k₀) s p (sym e ∙ q) in
+      let z : Reading.NoToken p ≡ listedOf level s n r b = sym (ap (λ (x : Check). checkedBy x Reading.NoToken (λ u. judgedOf level s n r b)) (w .1)) in
+      (ap Tried.Done z ∙ sym (tried-fits (length k₀) level s n r b (w .0)), kept level s ns rs st (Reading.NoToken p) (omega arith))
 
   module _ (n : ℕ) (q : f ≡ Filled.All n) where
-    many : n ≡ length (toks s)
-    many = filled-all s n (sym e ∙ q) .0
+    all : (length (toks s) ≤ length k₀) × (n ≡ length (toks s)) × (tokensOf s .fault ≡ Check.Good)
+    all = filled-all (length k₀) s n (sym e ∙ q)
 
-    pub work-filled : (level : Level) (x : Reading) (k r b : ℕ) → x ≡ judgedOf level s k r b → x ≡ listedOf level s k r b
+    pub work-filled : (level : Level) (x : Reading) (k r b : ℕ) → x ≡ judgedOf level s k r b → Tried.Done x ≡ triedOf (length k₀) level s k r b
     unfolding listedOf
-    work-filled level x k r b h = h ∙ sym (ap (λ (y : Check). checkedBy y Reading.NoToken (λ u. judgedOf level s k r b)) (filled-all s n (sym e ∙ q) .1))
+    work-filled level x k r b h =
+        let z : x ≡ listedOf level s k r b = h ∙ sym (ap (λ (y : Check). checkedBy y Reading.NoToken (λ u. judgedOf level s k r b)) (all .2)) in
+        ap Tried.Done z ∙ sym (tried-fits (length k₀) level s k r b (all .0))
 
-    module _ (k₀ s₀ e₀ k₁ s₁ e₁ : List ℕ) (w : Space s k₀ s₀ e₀) (h : Holds (tokensOf s .list) k₀ s₀ e₀ k₁ s₁ e₁) where
+    module _ (s₀ e₀ k₁ s₁ e₁ : List ℕ) (w : Space s k₀ s₀ e₀) (h : Holds (take (length k₀) (tokensOf s .list)) k₀ s₀ e₀ k₁ s₁ e₁) where
+      held : Holds (toks s) k₀ s₀ e₀ k₁ s₁ e₁
+      held = rw (take-all (length k₀) (toks s) (all .0)) at h
+
       pub room-in : (n ≤ length k₁) × (n ≤ length s₁) × (n ≤ length e₁)
       room-in =
-          let m = few s in
-          let z = many in
-          let w₁ = w .kinds in
+          let z = all .1 in
+          let w₁ = all .0 in
           let w₂ = w .starts in
           let w₃ = w .ends in
           let l₁ = length-each kindOf (toks s) in
           let l₂ = length-each startOf (toks s) in
           let l₃ = length-each endOf (toks s) in
-          let a = ap length (h .kinds) ∙ length-fronted _ k₀ (omega arith) in
-          let b = ap length (h .starts) ∙ length-fronted _ s₀ (omega arith) in
-          let c = ap length (h .ends) ∙ length-fronted _ e₀ (omega arith) in
+          let a = ap length (held .kinds) ∙ length-fronted _ k₀ (omega arith) in
+          let b = ap length (held .starts) ∙ length-fronted _ s₀ (omega arith) in
+          let c = ap length (held .ends) ∙ length-fronted _ e₀ (omega arith) in
           (omega arith, omega arith, omega arith)
 
       pub takes : (n ≡ length (take n k₁)) × (n ≡ length (take n s₁)) × (n ≡ length (take n e₁))
@@ -316,9 +372,9 @@ module _ (s : List ℕ) (f : Filled) (e : f ≡ filledOf s) where
       pub lent : Lent s (take n k₁) (take n s₁) (take n e₁)
       lent = record {
         short = w .short;
-        kinds = used kindOf (toks s) k₀ k₁ n (h .kinds) many;
-        starts = used startOf (toks s) s₀ s₁ n (h .starts) many;
-        ends = used endOf (toks s) e₀ e₁ n (h .ends) many;
+        kinds = used kindOf (toks s) k₀ k₁ n (held .kinds) (all .1);
+        starts = used startOf (toks s) s₀ s₁ n (held .starts) (all .1);
+        ends = used endOf (toks s) e₀ e₁ n (held .ends) (all .1);
       }
 
 -- ---- the whole

@@ -19,6 +19,8 @@ use Rattle.structure.specs.declared.Fault.{Fault}
 use Rattle.structure.specs.declared.Fault.the-variants as Fault
 use Rattle.reader.specs.declared.Reading.{Reading}
 use Rattle.reader.specs.declared.Reading.the-variants as Reading
+use Rattle.reader.specs.declared.Tried.{Tried}
+use Rattle.reader.specs.declared.Tried.the-variants as Tried
 use Rattle.structure.specs.declared.Refusal.{Refusal}
 use Rattle.structure.specs.declared.Refusal.the-variants as Refusal
 use Rattle.structure.specs.Values.{faults}
@@ -69,6 +71,10 @@ judgedOf level s n r b = ruledBy (grammar level s) (λ us. faulty (faults level 
 -- 3 before those
 unfoldable pub listedOf : Level → List ℕ → ℕ → ℕ → ℕ → Reading
 listedOf level s n r b = checkedBy (tokensOf s .fault) Reading.NoToken (λ u. judgedOf level s n r b)
+
+-- by arrays of m tokens: they have to hold all before the first 3
+unfoldable pub triedOf : ℕ → Level → List ℕ → ℕ → ℕ → ℕ → Tried
+triedOf m level s n r b = choose (leb (length (tokensOf s .list)) m) (λ u. Tried.Done (listedOf level s n r b)) (λ u. Tried.Full)
 
 -- 1 and 2 before those; each phase covers the whole text first
 unfoldable pub readOf : Level → List ℕ → ℕ → ℕ → ℕ → Reading
@@ -136,3 +142,8 @@ pub record Leaves (level : Level) (s : List ℕ) (r : Reading) (ns rs st ns′ r
   pub nodes : ns′ ≡ leftIn r (nodesOf (rulesOf level s)) ns
   pub rules : rs′ ≡ leftIn r (recordsOf (rulesOf level s)) rs
   pub store : st′ ≡ leftIn r (rulesStored (rulesOf level s)) st
+
+-- full arrays leave all as it was
+abbrev pub TriedLeaves : Level → List ℕ → Tried → List ℕ → List ℕ → List ℕ → List ℕ → List ℕ → List ℕ → Type 0
+TriedLeaves level s (Tried.Done r) ns rs st ns′ rs′ st′ = Leaves level s r ns rs st ns′ rs′ st′
+TriedLeaves level s Tried.Full ns rs st ns′ rs′ st′ = (ns′ ≡ ns) × (rs′ ≡ rs) × (st′ ≡ st)

@@ -6,5 +6,6 @@ pub mod leaves;
 pub mod loops;
 pub mod records;
 pub mod rules;
+pub mod sizes;
 pub mod terms;
 pub mod values;

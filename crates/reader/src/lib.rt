@@ -31,6 +31,12 @@ pub enum Reading {
     StoreRoom,
 }
 
+// What a text got whose tokens were listed in arrays; or there are more tokens than those hold.
+pub enum Tried {
+    Done(Reading),
+    Full,
+}
+
 // Where the building goes on: the token, the record and the store byte after what was built; and its
 // span.
 pub struct Placed {
@@ -90,49 +96,7 @@ pub fn read(
     }
     let t = text::inner::classes::classes();
     if text.len() <= 2048 {
-        let mut kinds = [0u8; 2048];
-        let mut starts = [0u32; 2048];
-        let mut ends = [0u32; 2048];
-        return inner::answers::work(
-            &t,
-            text,
-            &mut kinds,
-            &mut starts,
-            &mut ends,
-            level,
-            nodes,
-            rules,
-            store,
-        );
+        return inner::sizes::read_listed(&t, text, level, nodes, rules, store, 2048);
     }
-    if text.len() <= 16384 {
-        let mut kinds = [0u8; 16384];
-        let mut starts = [0u32; 16384];
-        let mut ends = [0u32; 16384];
-        return inner::answers::work(
-            &t,
-            text,
-            &mut kinds,
-            &mut starts,
-            &mut ends,
-            level,
-            nodes,
-            rules,
-            store,
-        );
-    }
-    let mut kinds = [0u8; 65536];
-    let mut starts = [0u32; 65536];
-    let mut ends = [0u32; 65536];
-    inner::answers::work(
-        &t,
-        text,
-        &mut kinds,
-        &mut starts,
-        &mut ends,
-        level,
-        nodes,
-        rules,
-        store,
-    )
+    inner::sizes::read_listed(&t, text, level, nodes, rules, store, 16384)
 }

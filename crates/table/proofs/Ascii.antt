@@ -2,20 +2,13 @@
 use mathlib.Core.Path.{_≡_, refl, sym, ap, _∙_}
 use mathlib.Core.Bool.{Bool, true, false}
 use mathlib.Core.List.{List, [], _∷_}
-use mathlib.Core.Logic.{⊎-elim}
-use Prim.Native.Nat.{ℕ, zero, suc, _+_, _*_, _≤_, _<_}
+use Prim.Native.Nat.{ℕ, zero, suc, _+_, _*_, _<_}
 use native.Mathlib.Omega.{arith}
 use lib.Dec.{eqb}
-use lib.ListN.{length, getD, take, drop, List·getD-eq-default}
+use lib.ListN.{getD, take, drop}
 use borrow.Author.Tests.{eqb-true}
 use Rattle.text.specs.Choice.{or}
-use Rattle.text.specs.Scans.{sought, later}
-use Rattle.text.specs.Utf8.{seqLook, lookBy, firstBad}
-use Rattle.text.specs.declared.Check.the-variants.{Good}
-use Rattle.text.proofs.Tests.{lt-or-ge}
-use Rattle.text.proofs.Walks.{past-head}
-use Rattle.text.proofs.Decodes.{one}
-use Rattle.text.proofs.Encodes.{found-read}
+use Rattle.text.proofs.Ascii.{Low, low-good}
 use Rattle.table.specs.declared.Sort.{Sort}
 use Rattle.table.specs.declared.Sort.the-variants.{Str, Insens, Ident, PushLiteral}
 use Rattle.table.specs.declared.Leaf.the-variants.{Text}
@@ -25,15 +18,6 @@ use Rattle.table.specs.Record.{nodeSize, part, nodeOf, nodeAt}
 use Rattle.table.specs.Check.{isGood, isUtf8, fineText, inside, goodLeaf, verdict}
 use Rattle.table.proofs.Texts.{text-in, text-out}
 use Rattle.table.proofs.Verdicts.{verdict-tip, verdict-tip-out}
-
--- all bytes are below 128
-abbrev pub Low : List ℕ → Type 0
-Low xs = (k : ℕ) → getD xs k 0 < 128
-
--- a bound on all bytes
-pub low-all : (s : List ℕ) (i x : ℕ) → ((k : ℕ) → k < i → getD s k 0 ≤ x) → length s ≤ i → x < 128 → Low s
-low-all s i x h l m k =
-    ⊎-elim (λ b. omega (arith, h k b)) (λ g. omega (arith, List·getD-eq-default s 0 {n = k} (omega arith))) (lt-or-ge k i)
 
 take-low : (n : ℕ) (xs : List ℕ) → Low xs → Low (take n xs)
 take-low zero xs h k = omega arith
@@ -46,14 +30,9 @@ drop-low zero xs h k = h k
 drop-low (suc n) [] h k = omega arith
 drop-low (suc n) (x ∷ xs) h k = drop-low n xs (λ j. h (suc j)) k
 
-low-sought : (xs : List ℕ) → Low xs → sought seqLook 0 xs ≡ Good
-unfolding sought
-low-sought [] h = refl
-low-sought (x ∷ xs) h = past-head seqLook x xs 0 (ap lookBy (found-read (one (h zero)))) ∙ ap (later 1) (low-sought xs (λ k. h (suc k)))
-
 low-utf8 : (xs : List ℕ) → Low xs → isUtf8 xs ≡ true
-unfolding isUtf8 firstBad
-low-utf8 xs h = ap isGood (low-sought xs h)
+unfolding isUtf8
+low-utf8 xs h = ap isGood (low-good xs h)
 
 -- kinds 1, 2 and 18
 abbrev pub stringKind : ℕ → Bool

@@ -4,6 +4,7 @@ pub mod Splices
 pub mod Walks
 pub mod Decodes
 pub mod Encodes
+pub mod Ascii
 pub mod Gathers
 pub mod Ranges
 pub mod Table

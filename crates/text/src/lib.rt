@@ -91,6 +91,9 @@ pub fn char_at(s: &[u8], at: usize) -> Sequence
 pub fn first_bad(s: &[u8]) -> Check
     ensures { λ r. ⌜ r ≡ firstBad (now (s .entry)) ⌝ }
 {
+    if inner::utf8::is_ascii(s) {
+        return Check::Good;
+    }
     let mut i = 0;
     while i < s.len() {
         if s[i] < 128 {

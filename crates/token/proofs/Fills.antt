@@ -1,14 +1,17 @@
 -- Laws of the arrays that hold a text's tokens.
 use Prim.Native.Nat.{ℕ, _+_, _-_, _≤_, _<_}
 use mathlib.Core.Path.{_≡_, refl, sym, ap, _∙_}
+use mathlib.Core.Logic.{⊎-elim}
 use mathlib.Core.List.{List, [], _∷_, _++_, append-assoc, append-nil}
 use native.Mathlib.Nat.{zero-add}
 use native.Mathlib.Omega.{arith}
 use lib.ListN.{length, take, drop, length-append, set}
-use lib.Seq.{sets, length-sets, take-at}
+use lib.Seq.{sets, length-sets, take-at, take-all}
+use borrow.Author.Tests.{le-leb, lt-leb}
 use Rattle.text.specs.Splice.{fronted}
 use Rattle.text.specs.declared.Check.{Check}
 use Rattle.text.specs.declared.Check.the-variants.{Good, Bad}
+use Rattle.text.proofs.Tests.{lt-or-ge}
 use Rattle.text.proofs.Splices.{sets-append, sets-front}
 use Rattle.token.specs.Tokens.{tokenAt}
 use Rattle.token.specs.Lists.{Tok, tok, kindOf, startOf, endOf, Tokens, onto, tokensBy, tokensFrom, tokensOf, each, filledBy, filledOf, Space, Holds}
@@ -52,10 +55,25 @@ filled-by r n e = by-fault (r .fault) e where
   by-fault Good q = (cc, refl)
   by-fault (Bad p) q = let z : _≡_ {A = ℕ} 0 1 = cc in absurd (omega arith)
 
--- the arrays were filled: with all tokens, since none is missing
-pub filled-all : (s : List ℕ) (n : ℕ) → filledOf s ≡ Filled.All n → (n ≡ length (tokensOf s .list)) × (tokensOf s .fault ≡ Good)
+-- what fits and what doesn't
+pub filled-fits : (m : ℕ) (s : List ℕ) → length (tokensOf s .list) ≤ m → filledOf m s ≡ filledBy (length (tokensOf s .list)) (tokensOf s .fault)
 unfolding filledOf
-filled-all s n e = filled-by (tokensOf s) n e
+filled-fits m s h = rw (le-leb (length (tokensOf s .list)) m h)
+
+pub filled-full : (m : ℕ) (s : List ℕ) → m < length (tokensOf s .list) → filledOf m s ≡ Filled.Full
+unfolding filledOf
+filled-full m s h = rw (lt-leb (length (tokensOf s .list)) m h)
+
+-- what is answered but for `Full` fits
+fitted : (m : ℕ) (s : List ℕ) {f : Filled} → filledOf m s ≡ f → (Filled.Full ≡ f → ⊥) → length (tokensOf s .list) ≤ m
+fitted m s e d = ⊎-elim (λ h. absurd (d (sym (filled-full m s h) ∙ e))) (λ h. h) (lt-or-ge m (length (tokensOf s .list)))
+
+-- the arrays were filled: with all tokens, since none is missing
+pub filled-all : (m : ℕ) (s : List ℕ) (n : ℕ) → filledOf m s ≡ Filled.All n → (length (tokensOf s .list) ≤ m) × (n ≡ length (tokensOf s .list)) × (tokensOf s .fault ≡ Good)
+filled-all m s n e =
+    let h = fitted m s e (λ q. let z : _≡_ {A = ℕ} 0 1 = cc in omega arith) in
+    let r = filled-by (tokensOf s) n (sym (filled-fits m s h) ∙ e) in
+    (h, r .0, r .1)
 
 stopped-by : (n : ℕ) (f : Check) (p : ℕ) → filledBy n f ≡ Filled.NoToken p → f ≡ Bad p
 stopped-by n Good p e = let z : _≡_ {A = ℕ} 0 1 = cc in absurd (omega arith)
@@ -64,16 +82,26 @@ stopped-by n (Bad q) p e =
     ap Bad z
 
 -- or up to the text's first 3
-pub filled-none : (s : List ℕ) (p : ℕ) → filledOf s ≡ Filled.NoToken p → tokensOf s .fault ≡ Bad p
-unfolding filledOf
-filled-none s p e = stopped-by (length (tokensOf s .list)) (tokensOf s .fault) p e
+pub filled-none : (m : ℕ) (s : List ℕ) (p : ℕ) → filledOf m s ≡ Filled.NoToken p → (length (tokensOf s .list) ≤ m) × (tokensOf s .fault ≡ Bad p)
+filled-none m s p e =
+    let h = fitted m s e (λ q. let z : _≡_ {A = ℕ} 0 1 = cc in omega arith) in
+    (h, stopped-by (length (tokensOf s .list)) (tokensOf s .fault) p (sym (filled-fits m s h) ∙ e))
+
+not-full : (n : ℕ) (f : Check) → filledBy n f ≡ Filled.Full → ⊥
+not-full n Good e = let z : _≡_ {A = ℕ} 0 1 = cc in omega arith
+not-full n (Bad p) e = let z : _≡_ {A = ℕ} 0 1 = cc in omega arith
+
+-- or there are more
+pub filled-over : (m : ℕ) (s : List ℕ) → filledOf m s ≡ Filled.Full → m < length (tokensOf s .list)
+filled-over m s e =
+    ⊎-elim (λ h. h) (λ h. absurd (not-full (length (tokensOf s .list)) (tokensOf s .fault) (sym (filled-fits m s h) ∙ e))) (lt-or-ge m (length (tokensOf s .list)))
 
 -- the turns of `fill`: so many tokens are done, and are held
 pub record Filling (s k₀ s₀ e₀ ks ss es : List ℕ) (at n : ℕ) : Type 0 where
   pub done : List Tok
   pub meaning : tokensOf s ≡ onto done (tokensFrom s at)
   pub size : n ≡ length done
-  pub few : n ≤ at
+  pub room : n ≤ length k₀
   pub within : at ≤ length s
   pub held : Stores done k₀ s₀ e₀ ks ss es
 
@@ -92,7 +120,7 @@ fill-start s k₀ s₀ e₀ = record {
   done = [];
   meaning = refl;
   size = refl;
-  few = omega arith;
+  room = omega arith;
   within = omega arith;
   held = record { kinds = refl; starts = refl; ends = refl };
 }
@@ -105,61 +133,87 @@ module _ {s k₀ s₀ e₀ ks ss es : List ℕ} {at n : ℕ} (v : Filling s k₀
     ap length (v .held .ends) ∙ length-sets e₀ 0 (each endOf (v .done)),
   )
 
+  -- what is done fits, and is held
+  fits : length (v .done) ≤ length k₀
+  fits =
+      let q = v .size in
+      let m = v .room in
+      omega arith
+
+  done-held : Space s k₀ s₀ e₀ → Holds (v .done) k₀ s₀ e₀ ks ss es
+  done-held w =
+      let m = fits in
+      let w₁ = w .starts in
+      let w₂ = w .ends in
+      record {
+        kinds = fronts kindOf (v .done) k₀ ks (v .held .kinds) m;
+        starts = fronts startOf (v .done) s₀ ss (v .held .starts) (omega arith);
+        ends = fronts endOf (v .done) e₀ es (v .held .ends) (omega arith);
+      }
+
   module _ {r : Token} (e : r ≡ tokenAt s at) where
     now-is : tokensOf s ≡ onto (v .done) (tokensBy r (tokensFrom s))
     now-is = v .meaning ∙ ap (onto (v .done)) (tokens-law s at ∙ ap (λ (x : Token). tokensBy x (tokensFrom s)) (sym e))
 
-    all-held : (f : Check) → Space s k₀ s₀ e₀ → tokensOf s ≡ record { list = v .done; fault = f } → Holds (tokensOf s .list) k₀ s₀ e₀ ks ss es
-    all-held f w z =
-        let q = v .size in
-        let m = v .few in
-        let l = v .within in
-        rw z (record {
-          kinds = fronts kindOf (v .done) k₀ ks (v .held .kinds) (omega arith);
-          starts = fronts startOf (v .done) s₀ ss (v .held .starts) (omega arith);
-          ends = fronts endOf (v .done) e₀ es (v .held .ends) (omega arith);
-        })
-
     ends-with : (f : Check) → tokensBy r (tokensFrom s) ≡ record { list = []; fault = f } → tokensOf s ≡ record { list = v .done; fault = f }
     ends-with f z = now-is ∙ ap (onto (v .done)) z ∙ ap (λ (l : List Tok). record { list = l; fault = f }) (append-nil (v .done))
 
-    pub fill-end : Space s k₀ s₀ e₀ → r ≡ End → (Filled.All n ≡ filledOf s) × Holds (tokensOf s .list) k₀ s₀ e₀ ks ss es
-    unfolding filledOf
-    fill-end w q =
-        let z : tokensOf s ≡ record { list = v .done; fault = Good } = ends-with Good (ap (λ (x : Token). tokensBy x (tokensFrom s)) q) in
-        (rw z (ap Filled.All (v .size)), all-held Good w z)
+    -- all tokens are done: they fit
+    all-held : (f : Check) → Space s k₀ s₀ e₀ → tokensOf s ≡ record { list = v .done; fault = f }
+        → (filledBy n f ≡ filledOf (length k₀) s) × Holds (take (length k₀) (tokensOf s .list)) k₀ s₀ e₀ ks ss es
+    all-held f w z =
+        let l : length (tokensOf s .list) ≤ length k₀ = rw z (fits) in
+        (sym (filled-fits (length k₀) s l ∙ rw (z, v .size)), rw (take-all (length k₀) (tokensOf s .list) l, z) (done-held w))
 
-    pub fill-none : {p : ℕ} → Space s k₀ s₀ e₀ → r ≡ NoToken p → (Filled.NoToken p ≡ filledOf s) × Holds (tokensOf s .list) k₀ s₀ e₀ ks ss es
-    unfolding filledOf
-    fill-none {p} w q =
-        let z : tokensOf s ≡ record { list = v .done; fault = Bad p } = ends-with (Bad p) (ap (λ (x : Token). tokensBy x (tokensFrom s)) q) in
-        (rw z refl, all-held (Bad p) w z)
+    pub fill-end : Space s k₀ s₀ e₀ → r ≡ End → (Filled.All n ≡ filledOf (length k₀) s) × Holds (take (length k₀) (tokensOf s .list)) k₀ s₀ e₀ ks ss es
+    fill-end w q = all-held Good w (ends-with Good (ap (λ (x : Token). tokensBy x (tokensFrom s)) q))
+
+    pub fill-none : {p : ℕ} → Space s k₀ s₀ e₀ → r ≡ NoToken p → (Filled.NoToken p ≡ filledOf (length k₀) s) × Holds (take (length k₀) (tokensOf s .list)) k₀ s₀ e₀ ks ss es
+    fill-none {p} w q = all-held (Bad p) w (ends-with (Bad p) (ap (λ (x : Token). tokensBy x (tokensFrom s)) q))
 
     module _ {k a b : ℕ} (q : r ≡ Found k a b) where
-      -- a token was found: it fits the arrays, and less is left of the text
-      pub fill-room : Space s k₀ s₀ e₀ → Stored s ks ss es at n a b
-      fill-room w =
-          let p = token-in s at k a b (sym e ∙ q) in
-          let l = fill-lengths in
-          let f = v .few in
-          record { kinds = omega arith; starts = omega arith; ends = omega arith; start = omega arith; end = omega arith; less = omega arith }
+      found-is : tokensOf s ≡ onto (v .done ++ (tok k a b ∷ [])) (tokensFrom s b)
+      found-is = now-is ∙ ap (λ (x : Token). onto (v .done) (tokensBy x (tokensFrom s))) q ∙ onto-onto (v .done) (tok k a b ∷ []) (tokensFrom s b)
 
-      pub fill-more : Filling s k₀ s₀ e₀ (set ks n k) (set ss n a) (set es n b) b (n + 1)
-      fill-more =
-          let p = token-in s at k a b (sym e ∙ q) in
-          let f = v .few in
-          record {
-            done = v .done ++ (tok k a b ∷ []);
-            meaning = now-is ∙ ap (λ (x : Token). onto (v .done) (tokensBy x (tokensFrom s))) q ∙ onto-onto (v .done) (tok k a b ∷ []) (tokensFrom s b);
-            size =
-                (let z = v .size in
-                let l = length-append (v .done) (tok k a b ∷ []) in
-                omega arith);
-            few = omega arith;
-            within = p .within;
-            held = record {
-              kinds = set-more kindOf k₀ (v .done) (tok k a b) ks n (v .held .kinds) (v .size);
-              starts = set-more startOf s₀ (v .done) (tok k a b) ss n (v .held .starts) (v .size);
-              ends = set-more endOf e₀ (v .done) (tok k a b) es n (v .held .ends) (v .size);
-            };
-          }
+      -- a token was found, and the arrays are full
+      pub fill-full : Space s k₀ s₀ e₀ → length ks ≤ n → (Filled.Full ≡ filledOf (length k₀) s) × Holds (take (length k₀) (tokensOf s .list)) k₀ s₀ e₀ ks ss es
+      fill-full w h =
+          let z : tokensOf s .list ≡ v .done ++ (tok k a b ∷ tokensFrom s b .list) =
+          ap (λ (x : Tokens). x .list) found-is ∙ append-assoc (v .done) (tok k a b ∷ []) (tokensFrom s b .list) in
+          let l = length-append (v .done) (tok k a b ∷ tokensFrom s b .list) in
+          let g = ap length z in
+          let m = v .size in
+          let o = v .room in
+          let i = fill-lengths .0 in
+          let d : length (v .done) ≡ length k₀ = omega arith in
+          (sym (filled-full (length k₀) s (omega arith)), rw (z, take-at (v .done) (tok k a b ∷ tokensFrom s b .list) (length k₀) d) (done-held w))
+
+      -- or they have room for it; and less is left of the text
+      module _ (h : n < length ks) where
+        pub fill-room : Space s k₀ s₀ e₀ → Stored s ks ss es at n a b
+        fill-room w =
+            let p = token-in s at k a b (sym e ∙ q) in
+            let l = fill-lengths in
+            let w₁ = w .starts in
+            let w₂ = w .ends in
+            record { kinds = h; starts = omega arith; ends = omega arith; start = omega arith; end = omega arith; less = omega arith }
+
+        pub fill-more : Filling s k₀ s₀ e₀ (set ks n k) (set ss n a) (set es n b) b (n + 1)
+        fill-more =
+            let p = token-in s at k a b (sym e ∙ q) in
+            let l = fill-lengths .0 in
+            record {
+              done = v .done ++ (tok k a b ∷ []);
+              meaning = found-is;
+              size =
+                  (let z = v .size in
+                  let g = length-append (v .done) (tok k a b ∷ []) in
+                  omega arith);
+              room = omega arith;
+              within = p .within;
+              held = record {
+                kinds = set-more kindOf k₀ (v .done) (tok k a b) ks n (v .held .kinds) (v .size);
+                starts = set-more startOf s₀ (v .done) (tok k a b) ss n (v .held .starts) (v .size);
+                ends = set-more endOf e₀ (v .done) (tok k a b) es n (v .held .ends) (v .size);
+              };
+            }

@@ -116,3 +116,8 @@ module _ (s : List ℕ) (i : ℕ) (h : i < length s) where
     pub at-none : (c ≡ 1 → ⊥) → (c ≡ 2 → ⊥) → (c ≡ 3 → ⊥) → (c ≡ 4 → ⊥) → (c ≡ 5 → ⊥) → NoToken i ≡ tokenAt s i
     unfolding blankBy tokenBy
     at-none a b d f g = sym (here (rw (ne-eqb _ 1 a, ne-eqb _ 5 g)) ∙ rw (ne-eqb _ 2 b, ne-eqb _ 3 d, ne-eqb _ 4 f, ne-eqb _ 5 g, add-zero i))
+
+-- a space is a blank
+pub at-space : (s : List ℕ) (i : ℕ) → i < length s → getD s i 0 ≡ 32 → tokenAt s i ≡ tokenAt s (i + 1)
+unfolding classOf
+at-space s i h e = at-blank s i h (classOf (getD s i 0)) refl (rw e)

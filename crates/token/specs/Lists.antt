@@ -2,7 +2,9 @@
 use Prim.Native.Nat.{ℕ, zero, suc, _-_, _≤_}
 use mathlib.Core.Path.{_≡_}
 use mathlib.Core.List.{List, [], _∷_, _++_}
+use lib.Dec.{leb}
 use lib.ListN.{length}
+use Rattle.text.specs.Choice.{choose}
 use Rattle.text.specs.Splice.{fronted}
 use Rattle.text.specs.declared.Check.{Check}
 use Rattle.text.specs.declared.Check.the-variants.{Good, Bad}
@@ -64,17 +66,17 @@ abbrev pub filledBy : ℕ → Check → Filled
 filledBy n Good = Filled.All n
 filledBy n (Bad place) = Filled.NoToken place
 
-unfoldable pub filledOf : List ℕ → Filled
-filledOf s = filledBy (length (tokensOf s .list)) (tokensOf s .fault)
+-- arrays of m elements; all tokens before the first 3 have to fit
+unfoldable pub filledOf : ℕ → List ℕ → Filled
+filledOf m s = choose (leb (length (tokensOf s .list)) m) (λ u. filledBy (length (tokensOf s .list)) (tokensOf s .fault)) (λ u. Filled.Full)
 
--- lent arrays have room for the tokens of a text of legal length: no token is empty
+-- a text of legal length, and lent arrays of which the first is not longer than the others
 pub record Space (s ks ss es : List ℕ) : Type 0 where
   pub short : length s ≤ 65536
-  pub kinds : length s ≤ length ks
-  pub starts : length s ≤ length ss
-  pub ends : length s ≤ length es
+  pub starts : length ks ≤ length ss
+  pub ends : length ks ≤ length es
 
--- and hold the tokens found at their fronts, with the rest as it was
+-- they hold tokens at their fronts, with the rest as it was
 pub record Holds (ts : List Tok) (ks ss es ks′ ss′ es′ : List ℕ) : Type 0 where
   pub kinds : ks′ ≡ fronted (each kindOf ts) ks
   pub starts : ss′ ≡ fronted (each startOf ts) ss

@@ -28,10 +28,12 @@ pub enum Close {
     Never,
 }
 
-// How many tokens were put into the lent arrays, or the place where there is no token.
+// How many tokens were put into the lent arrays, or the place where there is no token; or there are
+// more tokens before it than the arrays hold.
 pub enum Filled {
     All(usize),
     NoToken(usize),
+    Full,
 }
 
 // What the lister found: a text over 65,536 bytes, one that is not UTF-8, the next token, the text's

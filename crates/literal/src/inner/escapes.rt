@@ -4,11 +4,11 @@ use crate::Escape;
 use text::Check;
 use text::Value;
 ghost use mathlib.Core.Path.{_≡_};
-ghost use Prim.Native.Nat.{_≤_};
-ghost use lib.ListN.{drop};
+ghost use Prim.Native.Nat.{_≤_, _<_};
+ghost use lib.ListN.{length, drop};
 ghost use Rattle.text.specs.declared.Check as Check;
 ghost use Rattle.text.specs.Splice.{Room, Wrote, spent};
-ghost use Rattle.literal.specs.Escapes.{digitsOf, simpleOf, pairOf, bracedOf, afterOf, noEscape, badEscape, unescaped};
+ghost use Rattle.literal.specs.Escapes.{digitsOf, simpleOf, pairOf, bracedOf, afterOf, escapeOf, noEscape, badEscape, unescaped};
 
 // Hex digits from a place on, up to m of them.
 fn digits_at(s: &[u8], at: usize, m: usize) -> Digits
@@ -110,13 +110,24 @@ pub(crate) fn after_at(s: &[u8], at: usize) -> Escape
     }
 }
 
+// The escape at a place of the text. Most bytes are no backslash, and are told so at once.
+fn escape_in(s: &[u8], at: usize) -> Escape
+    requires { ⌜ at < length (now s) ⌝ }
+    ensures { λ r. ⌜ r ≡ escapeOf (drop at (now (s .entry))) ⌝ }
+{
+    if s[at] != 92 {
+        return Escape::Plain;
+    }
+    crate::escape_at(s, at)
+}
+
 // The first backslash that begins no escape.
 pub fn no_escape(s: &[u8]) -> Check
     ensures { λ r. ⌜ r ≡ noEscape (now (s .entry)) ⌝ }
 {
     let mut i = 0;
     while i < s.len() {
-        let escape = crate::escape_at(s, i);
+        let escape = escape_in(s, i);
         match escape {
             Escape::Plain => {
                 if s[i] == 92 {
@@ -138,7 +149,7 @@ pub fn bad_escape(s: &[u8]) -> Check
 {
     let mut i = 0;
     while i < s.len() {
-        let escape = crate::escape_at(s, i);
+        let escape = escape_in(s, i);
         match escape {
             Escape::Plain => {
                 i += 1;
@@ -161,7 +172,7 @@ pub fn spend_unescaped(s: &[u8], room: usize) -> usize
     let mut left = room;
     let mut i = 0;
     while i < s.len() {
-        let escape = crate::escape_at(s, i);
+        let escape = escape_in(s, i);
         match escape {
             Escape::Plain => {
                 left = text::inner::splice::spend(left, 1);
@@ -185,7 +196,7 @@ pub fn put_unescaped(s: &[u8], out: &mut [u8], at: usize) -> usize
     let mut a = at;
     let mut i = 0;
     while i < s.len() {
-        let escape = crate::escape_at(s, i);
+        let escape = escape_in(s, i);
         match escape {
             Escape::Plain => {
                 a = text::inner::splice::put_byte(s[i], out, a);

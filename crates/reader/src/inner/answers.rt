@@ -1,6 +1,7 @@
 // What a text gets, phase by phase, and the room there is.
 use super::rules::consume_rules_with_spans;
 use crate::Reading;
+use crate::Tried;
 use structure::Counted;
 use structure::Fault;
 use structure::Level;
@@ -15,7 +16,7 @@ ghost use lib.ListN.{length};
 ghost use Rattle.text.specs.Classes.{classes};
 ghost use Rattle.token.specs.Lists.{Space};
 ghost use Rattle.structure.specs.Answers.{Lent};
-ghost use Rattle.reader.specs.Read.{roomForNodes, roomForRules, roomBy, judgedOf, listedOf, Leaves};
+ghost use Rattle.reader.specs.Read.{roomForNodes, roomForRules, roomBy, judgedOf, triedOf, Leaves, TriedLeaves};
 
 // How many whole records there may be: the lower of what is lent and a limit.
 fn whole(numbers: usize, limit: usize) -> usize
@@ -103,7 +104,7 @@ fn build(
     answer
 }
 
-// Lists a text's tokens in lent arrays, and goes on with those.
+// Lists a text's tokens in lent arrays, and goes on with those if they are all there.
 pub fn work(
     t: &[u8; 256],
     text: &[u8],
@@ -114,16 +115,17 @@ pub fn work(
     nodes: &mut [u32],
     rules: &mut [u32],
     store: &mut [u8],
-) -> Reading
+) -> Tried
     requires { ⌜ now t ≡ classes ⌝ }
     requires { ⌜ Space (now text) (now kinds) (now starts) (now ends) ⌝ }
-    ensures answer { λ r. ⌜ r ≡ listedOf level (now (text .entry)) (roomForNodes (now (nodes .entry))) (roomForRules (now (rules .entry))) (length (now (store .entry))) ⌝ }
-    ensures left { λ r. ⌜ Leaves level (now (text .entry)) r (now (nodes .entry)) (now (rules .entry)) (now (store .entry)) (now (nodes .exit)) (now (rules .exit)) (now (store .exit)) ⌝ }
+    ensures answer { λ r. ⌜ r ≡ triedOf (length (now (kinds .entry))) level (now (text .entry)) (roomForNodes (now (nodes .entry))) (roomForRules (now (rules .entry))) (length (now (store .entry))) ⌝ }
+    ensures left { λ r. ⌜ TriedLeaves level (now (text .entry)) r (now (nodes .entry)) (now (rules .entry)) (now (store .entry)) (now (nodes .exit)) (now (rules .exit)) (now (store .exit)) ⌝ }
 {
     let filled = fill(t, text, kinds, starts, ends);
     match filled {
-        Filled::NoToken(place) => Reading::NoToken(place),
-        Filled::All(n) => build(
+        Filled::Full => Tried::Full,
+        Filled::NoToken(place) => Tried::Done(Reading::NoToken(place)),
+        Filled::All(n) => Tried::Done(build(
             text,
             &kinds[..n],
             &starts[..n],
@@ -132,6 +134,6 @@ pub fn work(
             nodes,
             rules,
             store,
-        ),
+        )),
     }
 }

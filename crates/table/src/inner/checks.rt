@@ -236,28 +236,6 @@ fn first_inner(nodes: &[u32], firsts: &[u16; 4096], i: usize) -> First
     First::At(wide(firsts[p]))
 }
 
-fn larger(x: u8, y: u8) -> u8
-    ensures { λ r. ⌜ x ≤ r ⌝ }
-    ensures { λ r. ⌜ y ≤ r ⌝ }
-    ensures { λ r. ⌜ (x < 128 → y < 128 → r < 128) ⌝ }
-{
-    if x < y { y } else { x }
-}
-
-// Whether all bytes are below 128. It looks at each, and a processor at many at once.
-fn is_ascii(s: &[u8]) -> bool
-    ensures { λ r. ⌜ (r ≡ true → (k : ℕ) → getD (now (s .entry)) k 0 < 128) ⌝ }
-    ensures { λ r. ⌜ (r ≡ false → ((k : ℕ) → getD (now (s .entry)) k 0 < 128) → ⊥) ⌝ }
-{
-    let mut x: u8 = 0;
-    let mut i = 0;
-    while i < s.len() {
-        x = larger(x, s[i]);
-        i += 1;
-    }
-    x < 128
-}
-
 fn is_string(kind: u32) -> bool
     ensures { λ r. ⌜ r ≡ or (eqb kind 1) (or (eqb kind 2) (eqb kind 18)) ⌝ }
 {
@@ -349,7 +327,7 @@ pub(crate) fn lowest_node(
     ensures { λ r. ⌜ (r ≡ Good → Firsts (now (nodes .entry)) (now (firsts .exit)) (nodesIn (now (nodes .entry)))) ⌝ }
 {
     let n = nodes.len() / NODE_SIZE;
-    let ascii = is_ascii(store);
+    let ascii = text::inner::utf8::is_ascii(store);
     let mut i = 0;
     while i < n {
         let f = first_at(t, nodes, store, ascii, firsts, i);

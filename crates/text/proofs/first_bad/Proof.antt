@@ -8,6 +8,7 @@ use Rattle.text.specs.Utf8.{seqLook, lookBy, firstBad}
 use Rattle.text.proofs.Walks.{later-zero, sought-stop, sought-end}
 use Rattle.text.proofs.Decodes.{decoded}
 use Rattle.text.proofs.Encodes.{look-ascii, look-step}
+use Rattle.text.proofs.Ascii.{low-good}
 use Rattle.text.proofs.first_bad.Tie as tie
 use Rattle.text.proofs.first_bad.Statement.{statement}
 
@@ -17,12 +18,18 @@ Inv-loop s i₀ i = later i (sought seqLook 0 (drop i s)) ≡ firstBad s
 abbrev μ-loop : tie.MeasureT-loop
 μ-loop s i₀ i = length s - i
 
+is-ascii-requires : tie.Need-is-ascii-requires Inv-loop μ-loop
+is-ascii-requires c κs = search needs
+
+returns : tie.Need-returns Inv-loop μ-loop
+returns c = sym (low-good _ (c .before .is-ascii .ensures .0 (c .if1 .taken)))
+
 loop-holds : tie.Need-loop-holds Inv-loop μ-loop
 unfolding firstBad
 loop-holds c = later-zero _
 
-shared-slice-read-if1 : tie.Need-shared-slice-read-if1 Inv-loop μ-loop
-shared-slice-read-if1 c = omega arith
+shared-slice-read-if2 : tie.Need-shared-slice-read-if2 Inv-loop μ-loop
+shared-slice-read-if2 c = omega arith
 
 add-i : tie.Need-add-i Inv-loop μ-loop
 add-i c = omega arith
@@ -31,7 +38,7 @@ loop-less : tie.Need-loop-less Inv-loop μ-loop
 loop-less c = omega arith
 
 loop-again : tie.Need-loop-again Inv-loop μ-loop
-loop-again c = sym (look-ascii _ _ (c .before .before .loop-test .taken) (c .if1 .taken)) ∙ c .before .before .before .loop .inv
+loop-again c = sym (look-ascii _ _ (c .before .before .loop-test .taken) (c .if2 .taken)) ∙ c .before .before .before .loop .inv
 
 char-at-requires : tie.Need-char-at-requires Inv-loop μ-loop
 char-at-requires c κs = search needs
@@ -59,15 +66,15 @@ loop-again-2 c =
 enum-told : tie.Need-enum-told Inv-loop μ-loop
 enum-told c = search needs
 
-returns : tie.Need-returns Inv-loop μ-loop
-returns c =
+returns-2 : tie.Need-returns-2 Inv-loop μ-loop
+returns-2 c =
     let at-char-at = c .before .before in
     let at-loop-test = at-char-at .before .before .before in
     let at-loop = at-loop-test .before in
     sym (sought-stop seqLook _ _ (at-loop-test .loop-test .taken) (ap lookBy (sym (at-char-at .char-at .ensures) ∙ c .enum-told .given .1))) ∙ at-loop .loop .inv
 
-returns-2 : tie.Need-returns-2 Inv-loop μ-loop
-returns-2 c = sym (sought-end seqLook _ _ (c .loop-test .left)) ∙ c .before .loop .inv
+returns-3 : tie.Need-returns-3 Inv-loop μ-loop
+returns-3 c = sym (sought-end seqLook _ _ (c .loop-test .left)) ∙ c .before .loop .inv
 
 pub first-bad-spec : {M : Type 1} → statement M
 first-bad-spec =
@@ -75,8 +82,10 @@ first-bad-spec =
     (tie.spec
     Inv-loop
     μ-loop
+    is-ascii-requires
+    returns
     loop-holds
-    shared-slice-read-if1
+    shared-slice-read-if2
     add-i
     loop-less
     loop-again
@@ -86,5 +95,5 @@ first-bad-spec =
     loop-less-2
     loop-again-2
     enum-told
-    returns
-    returns-2)
+    returns-2
+    returns-3)

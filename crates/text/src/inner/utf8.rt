@@ -3,8 +3,9 @@ use crate::Lead;
 use crate::Sequence;
 use crate::Value;
 ghost use mathlib.Core.Path.{_≡_};
-ghost use Prim.Native.Nat.{_<_, _≤_};
-ghost use lib.ListN.{length, drop};
+ghost use mathlib.Core.Bool.{true, false};
+ghost use Prim.Native.Nat.{ℕ, _<_, _≤_};
+ghost use lib.ListN.{length, getD, drop};
 ghost use Rattle.text.specs.Splice.{Room, Wrote, spent};
 ghost use Rattle.text.specs.Utf8.{scalar, leadOf, gathered, judged, encoded};
 
@@ -24,6 +25,28 @@ pub fn is_scalar(c: u32) -> bool
         return false;
     }
     c <= 0x10ffff
+}
+
+fn larger(x: u8, y: u8) -> u8
+    ensures { λ r. ⌜ x ≤ r ⌝ }
+    ensures { λ r. ⌜ y ≤ r ⌝ }
+    ensures { λ r. ⌜ (x < 128 → y < 128 → r < 128) ⌝ }
+{
+    if x < y { y } else { x }
+}
+
+// Whether all bytes are below 128. It looks at each, and a processor at many at once.
+pub fn is_ascii(s: &[u8]) -> bool
+    ensures { λ r. ⌜ (r ≡ true → (k : ℕ) → getD (now (s .entry)) k 0 < 128) ⌝ }
+    ensures { λ r. ⌜ (r ≡ false → ((k : ℕ) → getD (now (s .entry)) k 0 < 128) → ⊥) ⌝ }
+{
+    let mut x: u8 = 0;
+    let mut i = 0;
+    while i < s.len() {
+        x = larger(x, s[i]);
+        i += 1;
+    }
+    x < 128
 }
 
 pub(crate) fn lead_of(x: u32) -> Lead

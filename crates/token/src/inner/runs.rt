@@ -66,6 +66,9 @@ fn line_ends(s: &[u8], i: usize) -> bool
     ensures { λ r. ⌜ r ≡ lineEnds (drop i (now (s .entry))) ⌝ }
 {
     let b = s[i];
+    if 13 < b {
+        return false;
+    }
     if b == 10 {
         return true;
     }

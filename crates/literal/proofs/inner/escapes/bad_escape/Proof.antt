@@ -21,8 +21,8 @@ loop-holds : tie.Need-loop-holds Inv-loop μ-loop
 unfolding badEscape
 loop-holds c = later-zero _
 
-escape-at-requires : tie.Need-escape-at-requires Inv-loop μ-loop
-escape-at-requires c κs = search needs
+escape-in-requires : tie.Need-escape-in-requires Inv-loop μ-loop
+escape-in-requires c κs = search needs
 
 enum-told : tie.Need-enum-told Inv-loop μ-loop
 enum-told c = search needs
@@ -36,9 +36,9 @@ loop-less c = omega arith
 loop-again : tie.Need-loop-again Inv-loop μ-loop
 loop-again c =
     let loop-test = c .before .before .before .loop-test in
-    let escape-at = c .before .before .escape-at in
+    let escape-in = c .before .before .escape-in in
     let loop = c .before .before .before .before .loop in
-    sym (plain-look _ _ (loop-test .taken) (sym (escape-at .ensures) ∙ c .enum-told .given .1)) ∙ loop .inv
+    sym (plain-look _ _ (loop-test .taken) (sym (escape-in .ensures) ∙ c .enum-told .given .1)) ∙ loop .inv
 
 enum-known-escape : tie.Need-enum-known-escape Inv-loop μ-loop
 enum-known-escape c = search needs
@@ -49,38 +49,38 @@ is-scalar-requires c κs = search needs
 returns : tie.Need-returns Inv-loop μ-loop
 returns c =
     let at-escape = c .before .before .before in
-    let at-escape-at = at-escape .before .before in
-    let at-loop-test = at-escape-at .before in
+    let at-escape-in = at-escape .before .before in
+    let at-loop-test = at-escape-in .before in
     let at-loop = at-loop-test .before in
     let loop-test = at-loop-test .loop-test in
-    let escape-at = at-escape-at .escape-at in
+    let escape-in = at-escape-in .escape-in in
     let escape = at-escape .escape in
     let loop = at-loop .loop in
-    sym (bad-look _ _ (loop-test .taken) _ _ (sym (escape-at .ensures) ∙ escape .given .1) (sym (c .before .is-scalar .ensures) ∙ not-true _ (c .if1 .taken))) ∙ loop .inv
+    sym (bad-look _ _ (loop-test .taken) _ _ (sym (escape-in .ensures) ∙ escape .given .1) (sym (c .before .is-scalar .ensures) ∙ not-true _ (c .if1 .taken))) ∙ loop .inv
 
 add-i-2 : tie.Need-add-i-2 Inv-loop μ-loop
 add-i-2 c =
-    let escape-at = c .before .before .before .before .before .escape-at in
+    let escape-in = c .before .before .before .before .before .escape-in in
     let escape = c .before .before .before .escape in
-    omega (arith, meant _ _ _ (sym (escape-at .ensures) ∙ escape .given .1) .ten)
+    omega (arith, meant _ _ _ (sym (escape-in .ensures) ∙ escape .given .1) .ten)
 
 loop-less-2 : tie.Need-loop-less-2 Inv-loop μ-loop
 loop-less-2 c =
-    let escape-at = c .before .before .before .before .before .escape-at in
+    let escape-in = c .before .before .before .before .before .escape-in in
     let escape = c .before .before .before .escape in
-    omega (arith, meant _ _ _ (sym (escape-at .ensures) ∙ escape .given .1) .two)
+    omega (arith, meant _ _ _ (sym (escape-in .ensures) ∙ escape .given .1) .two)
 
 loop-again-2 : tie.Need-loop-again-2 Inv-loop μ-loop
 loop-again-2 c =
     let at-escape = c .before .before .before in
-    let at-escape-at = at-escape .before .before in
-    let at-loop-test = at-escape-at .before in
+    let at-escape-in = at-escape .before .before in
+    let at-loop-test = at-escape-in .before in
     let at-loop = at-loop-test .before in
     let loop-test = at-loop-test .loop-test in
-    let escape-at = at-escape-at .escape-at in
+    let escape-in = at-escape-in .escape-in in
     let escape = at-escape .escape in
     let loop = at-loop .loop in
-    sym (means-look _ _ (loop-test .taken) _ _ (sym (escape-at .ensures) ∙ escape .given .1) (sym (c .before .is-scalar .ensures) ∙ not-false _ (c .if1 .left))) ∙ loop .inv
+    sym (means-look _ _ (loop-test .taken) _ _ (sym (escape-in .ensures) ∙ escape .given .1) (sym (c .before .is-scalar .ensures) ∙ not-false _ (c .if1 .left))) ∙ loop .inv
 
 returns-2 : tie.Need-returns-2 Inv-loop μ-loop
 returns-2 c = sym (sought-end escapeLook _ _ (c .loop-test .left)) ∙ c .before .loop .inv
@@ -92,7 +92,7 @@ bad-escape-spec =
     Inv-loop
     μ-loop
     loop-holds
-    escape-at-requires
+    escape-in-requires
     enum-told
     add-i
     loop-less

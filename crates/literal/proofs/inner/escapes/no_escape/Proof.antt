@@ -20,8 +20,8 @@ loop-holds : tie.Need-loop-holds Inv-loop μ-loop
 unfolding noEscape
 loop-holds c = later-zero _
 
-escape-at-requires : tie.Need-escape-at-requires Inv-loop μ-loop
-escape-at-requires c κs = search needs
+escape-in-requires : tie.Need-escape-in-requires Inv-loop μ-loop
+escape-in-requires c κs = search needs
 
 enum-told : tie.Need-enum-told Inv-loop μ-loop
 enum-told c = search needs
@@ -32,14 +32,14 @@ shared-slice-read-if1 c = omega arith
 returns : tie.Need-returns Inv-loop μ-loop
 returns c =
     let at-enum-told = c .before .before in
-    let at-escape-at = at-enum-told .before .before in
-    let at-loop-test = at-escape-at .before in
+    let at-escape-in = at-enum-told .before .before in
+    let at-loop-test = at-escape-in .before in
     let at-loop = at-loop-test .before in
     let loop-test = at-loop-test .loop-test in
-    let escape-at = at-escape-at .escape-at in
+    let escape-in = at-escape-in .escape-in in
     let enum-told = at-enum-told .enum-told in
     let loop = at-loop .loop in
-    sym (slash-stray _ _ (loop-test .taken) (sym (escape-at .ensures) ∙ enum-told .given .1) (c .if1 .taken)) ∙ loop .inv
+    sym (slash-stray _ _ (loop-test .taken) (sym (escape-in .ensures) ∙ enum-told .given .1) (c .if1 .taken)) ∙ loop .inv
 
 add-i : tie.Need-add-i Inv-loop μ-loop
 add-i c = omega arith
@@ -50,37 +50,37 @@ loop-less c = omega arith
 loop-again : tie.Need-loop-again Inv-loop μ-loop
 loop-again c =
     let at-enum-told = c .before .before in
-    let at-escape-at = at-enum-told .before .before in
-    let at-loop-test = at-escape-at .before in
+    let at-escape-in = at-enum-told .before .before in
+    let at-loop-test = at-escape-in .before in
     let at-loop = at-loop-test .before in
     let loop-test = at-loop-test .loop-test in
-    let escape-at = at-escape-at .escape-at in
+    let escape-in = at-escape-in .escape-in in
     let enum-told = at-enum-told .enum-told in
     let loop = at-loop .loop in
-    sym (other-stray _ _ (loop-test .taken) (sym (escape-at .ensures) ∙ enum-told .given .1) (c .if1 .left)) ∙ loop .inv
+    sym (other-stray _ _ (loop-test .taken) (sym (escape-in .ensures) ∙ enum-told .given .1) (c .if1 .left)) ∙ loop .inv
 
 enum-known-escape : tie.Need-enum-known-escape Inv-loop μ-loop
 enum-known-escape c = search needs
 
 add-i-2 : tie.Need-add-i-2 Inv-loop μ-loop
 add-i-2 c =
-    let escape-at = c .before .before .before .escape-at in
-    omega (arith, meant _ _ _ (sym (escape-at .ensures) ∙ c .before .escape .given .1) .ten)
+    let escape-in = c .before .before .before .escape-in in
+    omega (arith, meant _ _ _ (sym (escape-in .ensures) ∙ c .before .escape .given .1) .ten)
 
 loop-less-2 : tie.Need-loop-less-2 Inv-loop μ-loop
 loop-less-2 c =
-    let escape-at = c .before .before .before .escape-at in
-    omega (arith, meant _ _ _ (sym (escape-at .ensures) ∙ c .before .escape .given .1) .two)
+    let escape-in = c .before .before .before .escape-in in
+    omega (arith, meant _ _ _ (sym (escape-in .ensures) ∙ c .before .escape .given .1) .two)
 
 loop-again-2 : tie.Need-loop-again-2 Inv-loop μ-loop
 loop-again-2 c =
-    let at-escape-at = c .before .before .before in
-    let at-loop-test = at-escape-at .before in
+    let at-escape-in = c .before .before .before in
+    let at-loop-test = at-escape-in .before in
     let at-loop = at-loop-test .before in
     let loop-test = at-loop-test .loop-test in
-    let escape-at = at-escape-at .escape-at in
+    let escape-in = at-escape-in .escape-in in
     let loop = at-loop .loop in
-    sym (means-stray _ _ (loop-test .taken) _ _ (sym (escape-at .ensures) ∙ c .before .escape .given .1)) ∙ loop .inv
+    sym (means-stray _ _ (loop-test .taken) _ _ (sym (escape-in .ensures) ∙ c .before .escape .given .1)) ∙ loop .inv
 
 returns-2 : tie.Need-returns-2 Inv-loop μ-loop
 returns-2 c = sym (sought-end strayLook _ _ (c .loop-test .left)) ∙ c .before .loop .inv
@@ -92,7 +92,7 @@ no-escape-spec =
     Inv-loop
     μ-loop
     loop-holds
-    escape-at-requires
+    escape-in-requires
     enum-told
     shared-slice-read-if1
     returns

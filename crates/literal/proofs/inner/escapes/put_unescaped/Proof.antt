@@ -25,8 +25,8 @@ loop-holds c =
     let pre = c .before .before .pre in
     (same-start _ _ _, later-zero _ ∙ pre .0)
 
-escape-at-requires : tie.Need-escape-at-requires Inv-loop μ-loop
-escape-at-requires c κs = search needs
+escape-in-requires : tie.Need-escape-in-requires Inv-loop μ-loop
+escape-in-requires c κs = search needs
 
 enum-told : tie.Need-enum-told Inv-loop μ-loop
 enum-told c = search needs
@@ -37,16 +37,16 @@ shared-slice-read-put-byte c = omega arith
 put-byte-requires : tie.Need-put-byte-requires Inv-loop μ-loop
 put-byte-requires c κs =
     let at-enum-told = c .before .before in
-    let at-escape-at = at-enum-told .before .before in
-    let at-loop-test = at-escape-at .before in
+    let at-escape-in = at-enum-told .before .before in
+    let at-loop-test = at-escape-in .before in
     let at-loop = at-loop-test .before in
     let start = at-loop .before .before .before in
     let loop-test = at-loop-test .loop-test in
-    let escape-at = at-escape-at .escape-at in
+    let escape-in = at-escape-in .escape-in in
     let enum-told = at-enum-told .enum-told in
     let loop = at-loop .loop in
     let pre = start .pre in
-    turn-room (plain-turn _ _ (loop-test .taken) (sym (escape-at .ensures) ∙ enum-told .given .1)) (loop .inv .0) (pre .1)
+    turn-room (plain-turn _ _ (loop-test .taken) (sym (escape-in .ensures) ∙ enum-told .given .1)) (loop .inv .0) (pre .1)
 
 add-i : tie.Need-add-i Inv-loop μ-loop
 add-i c = omega arith
@@ -58,15 +58,15 @@ loop-again : tie.Need-loop-again Inv-loop μ-loop
 loop-again c =
     let at-put-byte = c .before .before in
     let at-enum-told = at-put-byte .before .before .before in
-    let at-escape-at = at-enum-told .before .before in
-    let at-loop-test = at-escape-at .before in
+    let at-escape-in = at-enum-told .before .before in
+    let at-loop-test = at-escape-in .before in
     let at-loop = at-loop-test .before in
-    let escape-at = at-escape-at .escape-at in
+    let escape-in = at-escape-in .escape-in in
     let enum-told = at-enum-told .enum-told in
     let loop-test = at-loop-test .loop-test in
     let loop = at-loop .loop in
     let put-byte = at-put-byte .put-byte in
-    let e = sym (escape-at .ensures) ∙ enum-told .given .1 in
+    let e = sym (escape-in .ensures) ∙ enum-told .given .1 in
     let l = loop-test .taken in
     (turn-same (plain-turn _ _ l e) (loop .inv .0) (put-byte .ensures), sym (plain-look _ _ l e) ∙ loop .inv .1)
 
@@ -76,44 +76,44 @@ enum-known-escape c = search needs
 put-char-requires : tie.Need-put-char-requires Inv-loop μ-loop
 put-char-requires c κs =
     let at-escape = c .before .before in
-    let at-escape-at = at-escape .before .before in
-    let at-loop-test = at-escape-at .before in
+    let at-escape-in = at-escape .before .before in
+    let at-loop-test = at-escape-in .before in
     let at-loop = at-loop-test .before in
     let start = at-loop .before .before .before in
-    let escape-at = at-escape-at .escape-at in
+    let escape-in = at-escape-in .escape-in in
     let escape = at-escape .escape in
     let loop-test = at-loop-test .loop-test in
     let loop = at-loop .loop in
     let pre = start .pre in
-    let e = sym (escape-at .ensures) ∙ escape .given .1 in
+    let e = sym (escape-in .ensures) ∙ escape .given .1 in
     let l = loop-test .taken in
     (scalar-below _ (good-scalar _ _ l _ _ (loop .inv .1) e), turn-room (means-turn _ _ l _ _ e) (loop .inv .0) (pre .1))
 
 add-i-2 : tie.Need-add-i-2 Inv-loop μ-loop
 add-i-2 c =
-    let escape-at = c .before .before .before .before .before .before .before .escape-at in
+    let escape-in = c .before .before .before .before .before .before .before .escape-in in
     let escape = c .before .before .before .before .before .escape in
-    omega (arith, meant _ _ _ (sym (escape-at .ensures) ∙ escape .given .1) .ten)
+    omega (arith, meant _ _ _ (sym (escape-in .ensures) ∙ escape .given .1) .ten)
 
 loop-less-2 : tie.Need-loop-less-2 Inv-loop μ-loop
 loop-less-2 c =
-    let escape-at = c .before .before .before .before .before .before .before .escape-at in
+    let escape-in = c .before .before .before .before .before .before .before .escape-in in
     let escape = c .before .before .before .before .before .escape in
-    omega (arith, meant _ _ _ (sym (escape-at .ensures) ∙ escape .given .1) .two)
+    omega (arith, meant _ _ _ (sym (escape-in .ensures) ∙ escape .given .1) .two)
 
 loop-again-2 : tie.Need-loop-again-2 Inv-loop μ-loop
 loop-again-2 c =
     let at-put-char = c .before .before in
     let at-escape = at-put-char .before .before .before in
-    let at-escape-at = at-escape .before .before in
-    let at-loop-test = at-escape-at .before in
+    let at-escape-in = at-escape .before .before in
+    let at-loop-test = at-escape-in .before in
     let at-loop = at-loop-test .before in
-    let escape-at = at-escape-at .escape-at in
+    let escape-in = at-escape-in .escape-in in
     let escape = at-escape .escape in
     let loop-test = at-loop-test .loop-test in
     let loop = at-loop .loop in
     let put-char = at-put-char .put-char in
-    let e = sym (escape-at .ensures) ∙ escape .given .1 in
+    let e = sym (escape-in .ensures) ∙ escape .given .1 in
     let l = loop-test .taken in
     let g = good-scalar _ _ l _ _ (loop .inv .1) e in
     (turn-same (means-turn _ _ l _ _ e) (loop .inv .0) (put-char .ensures), sym (means-look _ _ l _ _ e g) ∙ loop .inv .1)
@@ -131,7 +131,7 @@ put-unescaped-spec =
     Inv-loop
     μ-loop
     loop-holds
-    escape-at-requires
+    escape-in-requires
     enum-told
     shared-slice-read-put-byte
     put-byte-requires

@@ -22,8 +22,8 @@ loop-holds : tie.Need-loop-holds Inv-loop μ-loop
 unfolding unescaped
 loop-holds c = refl
 
-escape-at-requires : tie.Need-escape-at-requires Inv-loop μ-loop
-escape-at-requires c κs = search needs
+escape-in-requires : tie.Need-escape-in-requires Inv-loop μ-loop
+escape-in-requires c κs = search needs
 
 enum-told : tie.Need-enum-told Inv-loop μ-loop
 enum-told c = search needs
@@ -40,13 +40,13 @@ loop-less c = omega arith
 loop-again : tie.Need-loop-again Inv-loop μ-loop
 unfolding spent
 loop-again c =
-    let at-escape-at = c .before .before .before in
-    let at-loop-test = at-escape-at .before in
+    let at-escape-in = c .before .before .before in
+    let at-loop-test = at-escape-in .before in
     let at-loop = at-loop-test .before in
     let loop-test = at-loop-test .loop-test in
-    let escape-at = at-escape-at .escape-at in
+    let escape-in = at-escape-in .escape-in in
     let loop = at-loop .loop in
-    rw (c .spend .ensures) (turn-spent (plain-turn _ _ (loop-test .taken) (sym (escape-at .ensures) ∙ c .before .enum-told .given .1)) _ ∙ loop .inv)
+    rw (c .spend .ensures) (turn-spent (plain-turn _ _ (loop-test .taken) (sym (escape-in .ensures) ∙ c .before .enum-told .given .1)) _ ∙ loop .inv)
 
 enum-known-escape : tie.Need-enum-known-escape Inv-loop μ-loop
 enum-known-escape c = search needs
@@ -56,27 +56,27 @@ spend-char-requires c κs = search needs
 
 add-i-2 : tie.Need-add-i-2 Inv-loop μ-loop
 add-i-2 c =
-    let escape-at = c .before .before .before .before .escape-at in
+    let escape-in = c .before .before .before .before .escape-in in
     let escape = c .before .before .escape in
-    omega (arith, meant _ _ _ (sym (escape-at .ensures) ∙ escape .given .1) .ten)
+    omega (arith, meant _ _ _ (sym (escape-in .ensures) ∙ escape .given .1) .ten)
 
 loop-less-2 : tie.Need-loop-less-2 Inv-loop μ-loop
 loop-less-2 c =
-    let escape-at = c .before .before .before .before .escape-at in
+    let escape-in = c .before .before .before .before .escape-in in
     let escape = c .before .before .escape in
-    omega (arith, meant _ _ _ (sym (escape-at .ensures) ∙ escape .given .1) .two)
+    omega (arith, meant _ _ _ (sym (escape-in .ensures) ∙ escape .given .1) .two)
 
 loop-again-2 : tie.Need-loop-again-2 Inv-loop μ-loop
 loop-again-2 c =
     let at-escape = c .before .before in
-    let at-escape-at = at-escape .before .before in
-    let at-loop-test = at-escape-at .before in
+    let at-escape-in = at-escape .before .before in
+    let at-loop-test = at-escape-in .before in
     let at-loop = at-loop-test .before in
     let loop-test = at-loop-test .loop-test in
-    let escape-at = at-escape-at .escape-at in
+    let escape-in = at-escape-in .escape-in in
     let escape = at-escape .escape in
     let loop = at-loop .loop in
-    rw (c .spend-char .ensures) (turn-spent (means-turn _ _ (loop-test .taken) _ _ (sym (escape-at .ensures) ∙ escape .given .1)) _ ∙ loop .inv)
+    rw (c .spend-char .ensures) (turn-spent (means-turn _ _ (loop-test .taken) _ _ (sym (escape-in .ensures) ∙ escape .given .1)) _ ∙ loop .inv)
 
 returns : tie.Need-returns Inv-loop μ-loop
 returns c = sym (turn-end _ (spelled-end escapePiece _ _ (c .loop-test .left))) ∙ c .before .loop .inv
@@ -88,7 +88,7 @@ spend-unescaped-spec =
     Inv-loop
     μ-loop
     loop-holds
-    escape-at-requires
+    escape-in-requires
     enum-told
     spend-requires
     add-i

@@ -1,10 +1,18 @@
-use Rattle.reader.proofs.Answers.{work-stopped, work-filled, room-in, takes, lent}
+use Rattle.reader.proofs.Answers.{work-full, work-stopped, work-filled, room-in, takes, lent}
+use denote.Ref.{now}
 use borrow.Author.Needs.{needs}
 use Rattle.reader.proofs.inner.answers.work.Statement.{statement}
 use Rattle.reader.proofs.inner.answers.work.Tie as tie
+use Rattle.reader.proofs.inner.answers.work.Reads as reads
+use Rattle.reader.proofs.inner.answers.work.Lts as lts
+use Rattle.reader.proofs.inner.answers.build.Reads as build-reads
+use Rattle.token.proofs.inner.fill.Reads as fill-reads
 
 fill-requires : tie.Need-fill-requires
 fill-requires c κs = search needs
+
+enum-told : tie.Need-enum-told
+enum-told c = search needs
 
 enum-known-filled : tie.Need-enum-known-filled
 enum-known-filled c = search needs
@@ -17,49 +25,49 @@ slice-reshare-prefix-build c =
     let at-filled2 = c .before in
     let at-fill = at-filled2 .before .before .before .before .before .before .before .before in
     let start = at-fill .before .before .before .before .before .before .before .before .before .before .before in
-    room-in _ _ (at-fill .fill .ensures .0) _ (at-filled2 .filled2 .given .1) _ _ _ _ _ _ (start .pre .1) (at-fill .fill .ensures .1) .0
+    room-in (now (start .args .text)) (now (start .args .kinds)) _ (at-fill .fill .ensures .0) _ (at-filled2 .filled2 .given .1) _ _ _ _ _ (start .pre .1) (at-fill .fill .ensures .1) .0
 
 slice-aggregate-build : tie.Need-slice-aggregate-build
 slice-aggregate-build c =
     let at-filled2 = c .before .before in
     let at-fill = at-filled2 .before .before .before .before .before .before .before .before in
     let start = at-fill .before .before .before .before .before .before .before .before .before .before .before in
-    takes _ _ (at-fill .fill .ensures .0) _ (at-filled2 .filled2 .given .1) _ _ _ _ _ _ (start .pre .1) (at-fill .fill .ensures .1) .0
+    takes (now (start .args .text)) (now (start .args .kinds)) _ (at-fill .fill .ensures .0) _ (at-filled2 .filled2 .given .1) _ _ _ _ _ (start .pre .1) (at-fill .fill .ensures .1) .0
 
 slice-reshare-prefix-build-2 : tie.Need-slice-reshare-prefix-build-2
 slice-reshare-prefix-build-2 c =
     let at-filled2 = c .before .before in
     let at-fill = at-filled2 .before .before .before .before .before .before .before .before in
     let start = at-fill .before .before .before .before .before .before .before .before .before .before .before in
-    room-in _ _ (at-fill .fill .ensures .0) _ (at-filled2 .filled2 .given .1) _ _ _ _ _ _ (start .pre .1) (at-fill .fill .ensures .1) .1
+    room-in (now (start .args .text)) (now (start .args .kinds)) _ (at-fill .fill .ensures .0) _ (at-filled2 .filled2 .given .1) _ _ _ _ _ (start .pre .1) (at-fill .fill .ensures .1) .1
 
 slice-aggregate-build-2 : tie.Need-slice-aggregate-build-2
 slice-aggregate-build-2 c =
     let at-filled2 = c .before .before .before in
     let at-fill = at-filled2 .before .before .before .before .before .before .before .before in
     let start = at-fill .before .before .before .before .before .before .before .before .before .before .before in
-    takes _ _ (at-fill .fill .ensures .0) _ (at-filled2 .filled2 .given .1) _ _ _ _ _ _ (start .pre .1) (at-fill .fill .ensures .1) .1
+    takes (now (start .args .text)) (now (start .args .kinds)) _ (at-fill .fill .ensures .0) _ (at-filled2 .filled2 .given .1) _ _ _ _ _ (start .pre .1) (at-fill .fill .ensures .1) .1
 
 slice-reshare-prefix-build-3 : tie.Need-slice-reshare-prefix-build-3
 slice-reshare-prefix-build-3 c =
     let at-filled2 = c .before .before .before in
     let at-fill = at-filled2 .before .before .before .before .before .before .before .before in
     let start = at-fill .before .before .before .before .before .before .before .before .before .before .before in
-    room-in _ _ (at-fill .fill .ensures .0) _ (at-filled2 .filled2 .given .1) _ _ _ _ _ _ (start .pre .1) (at-fill .fill .ensures .1) .2
+    room-in (now (start .args .text)) (now (start .args .kinds)) _ (at-fill .fill .ensures .0) _ (at-filled2 .filled2 .given .1) _ _ _ _ _ (start .pre .1) (at-fill .fill .ensures .1) .2
 
 slice-aggregate-build-3 : tie.Need-slice-aggregate-build-3
 slice-aggregate-build-3 c =
     let at-filled2 = c .before .before .before .before in
     let at-fill = at-filled2 .before .before .before .before .before .before .before .before in
     let start = at-fill .before .before .before .before .before .before .before .before .before .before .before in
-    takes _ _ (at-fill .fill .ensures .0) _ (at-filled2 .filled2 .given .1) _ _ _ _ _ _ (start .pre .1) (at-fill .fill .ensures .1) .2
+    takes (now (start .args .text)) (now (start .args .kinds)) _ (at-fill .fill .ensures .0) _ (at-filled2 .filled2 .given .1) _ _ _ _ _ (start .pre .1) (at-fill .fill .ensures .1) .2
 
 build-requires : tie.Need-build-requires
 build-requires c κs =
     let at-filled2 = c .before .before .before .before .before .before .before in
     let at-fill = at-filled2 .before .before .before .before .before .before .before .before in
     let start = at-fill .before .before .before .before .before .before .before .before .before .before .before in
-    lent _ _ (at-fill .fill .ensures .0) _ (at-filled2 .filled2 .given .1) _ _ _ _ _ _ (start .pre .1) (at-fill .fill .ensures .1)
+    lent (now (start .args .text)) (now (start .args .kinds)) _ (at-fill .fill .ensures .0) _ (at-filled2 .filled2 .given .1) _ _ _ _ _ (start .pre .1) (at-fill .fill .ensures .1)
 
 same-length : tie.Need-same-length
 same-length c = search needs
@@ -72,9 +80,9 @@ same-length-3 c = search needs
 
 returns : tie.Need-returns
 returns c =
-    let at-filled = c .before in
-    let at-fill = at-filled .before .before .before .before .before .before .before .before in
-    work-stopped _ _ (at-fill .fill .ensures .0) _ _ _ _ _ _ _ _ (at-filled .filled .given .1)
+    let at-fill = c .before .before .before .before .before .before .before .before in
+    let start = at-fill .before .before .before .before .before .before .before .before .before .before .before in
+    work-full (now (start .args .text)) (now (start .args .kinds)) _ (at-fill .fill .ensures .0) _ _ _ _ _ _ _ (c .enum-told .given .1)
 
 same-length-4 : tie.Need-same-length-4
 same-length-4 c = search needs
@@ -85,6 +93,13 @@ same-length-5 c = search needs
 same-length-6 : tie.Need-same-length-6
 same-length-6 c = search needs
 
+returns-2 : tie.Need-returns-2
+returns-2 c =
+    let at-filled = c .before in
+    let at-fill = at-filled .before .before .before .before .before .before .before .before in
+    let start = at-fill .before .before .before .before .before .before .before .before .before .before .before in
+    work-stopped (now (start .args .text)) (now (start .args .kinds)) _ (at-fill .fill .ensures .0) _ _ _ _ _ _ _ _ (at-filled .filled .given .1)
+
 same-length-7 : tie.Need-same-length-7
 same-length-7 c = search needs
 
@@ -94,18 +109,29 @@ same-length-8 c = search needs
 same-length-9 : tie.Need-same-length-9
 same-length-9 c = search needs
 
-returns-2 : tie.Need-returns-2
-returns-2 c =
+same-length-10 : tie.Need-same-length-10
+same-length-10 c = search needs
+
+same-length-11 : tie.Need-same-length-11
+same-length-11 c = search needs
+
+same-length-12 : tie.Need-same-length-12
+same-length-12 c = search needs
+
+returns-3 : tie.Need-returns-3
+returns-3 c =
     let at-build = c .before .before .before .before .before .before in
     let at-filled2 = at-build .before .before .before .before .before .before .before .before in
     let at-fill = at-filled2 .before .before .before .before .before .before .before .before in
-    (work-filled _ _ (at-fill .fill .ensures .0) _ (at-filled2 .filled2 .given .1) _ _ _ _ _ (at-build .build .ensures .0), at-build .build .ensures .1)
+    let start = at-fill .before .before .before .before .before .before .before .before .before .before .before in
+    (work-filled (now (start .args .text)) (now (start .args .kinds)) _ (at-fill .fill .ensures .0) _ (at-filled2 .filled2 .given .1) _ _ _ _ _ (at-build .build .ensures .0), at-build .build .ensures .1)
 
 pub work-spec : {M : Type 1} → statement M
 work-spec =
     tie.close
     (tie.spec
     fill-requires
+    enum-told
     enum-known-filled
     enum-known-filled-2
     slice-reshare-prefix-build
@@ -122,7 +148,11 @@ work-spec =
     same-length-4
     same-length-5
     same-length-6
+    returns-2
     same-length-7
     same-length-8
     same-length-9
-    returns-2)
+    same-length-10
+    same-length-11
+    same-length-12
+    returns-3)

@@ -6,10 +6,10 @@ use native.Mathlib.Omega.{arith}
 use lib.ListN.{length, getD}
 use borrow.Author.Needs.{needs}
 use borrow.Author.Tests.{ltb-true, ltb-false}
 use Rattle.text.proofs.Tests.{lt-or-ge}
-use Rattle.table.proofs.Ascii.{Low, low-all}
-use Rattle.table.proofs.inner.checks.is_ascii.Statement.{statement}
-use Rattle.table.proofs.inner.checks.is_ascii.Tie as tie
+use Rattle.text.proofs.Ascii.{Low, low-all}
+use Rattle.text.proofs.inner.utf8.is_ascii.Statement.{statement}
+use Rattle.text.proofs.inner.utf8.is_ascii.Tie as tie
 
 abbrev Inv-loop : tie.InvT-loop
 Inv-loop s x₀ i₀ x i = ((k : ℕ) → k < i → getD s k 0 ≤ x) × (Low s → x < 128) × (i ≤ length s)

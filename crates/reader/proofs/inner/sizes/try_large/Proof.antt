@@ -1,0 +1,43 @@
+use borrow.Author.Needs.{needs}
+use Rattle.reader.proofs.inner.sizes.try_large.Statement.{statement}
+use Rattle.reader.proofs.inner.sizes.try_large.Tie as tie
+use Rattle.reader.proofs.inner.sizes.try_large.Reads as reads
+use Rattle.reader.proofs.inner.sizes.try_large.Lts as lts
+use Rattle.reader.proofs.inner.answers.work.Reads as work-reads
+
+slice-aggregate-work : tie.Need-slice-aggregate-work
+slice-aggregate-work c = search needs
+
+slice-aggregate-work-2 : tie.Need-slice-aggregate-work-2
+slice-aggregate-work-2 c = search needs
+
+slice-aggregate-work-3 : tie.Need-slice-aggregate-work-3
+slice-aggregate-work-3 c = search needs
+
+work-requires : tie.Need-work-requires
+work-requires c κs = (search needs, record { short = search needs; starts = search needs; ends = search needs })
+
+same-length : tie.Need-same-length
+same-length c = search needs
+
+same-length-2 : tie.Need-same-length-2
+same-length-2 c = search needs
+
+same-length-3 : tie.Need-same-length-3
+same-length-3 c = search needs
+
+returns : tie.Need-returns
+returns c = search needs
+
+pub try-large-spec : {M : Type 1} → statement M
+try-large-spec =
+    tie.close
+    (tie.spec
+    slice-aggregate-work
+    slice-aggregate-work-2
+    slice-aggregate-work-3
+    work-requires
+    same-length
+    same-length-2
+    same-length-3
+    returns)
