@@ -1,6 +1,7 @@
 //! Measures, in one run: reading by pest 2.5.2, by the given files of 2.9.5, by the second program
 //! and (feature `product`) by the product; and printing by `Display`, by the second program and by
-//! the product. `--seed N`; `--ms N`, milliseconds for each line (default 300). `--instructions`
+//! the product. `--seed N`; `--ms N`, milliseconds for each line (default 1,000); `--sample N`,
+//! microseconds that a work runs before the next takes its turn (default 5,000). `--instructions`
 //! counts instructions in the place of time, by callgrind.
 
 use std::hint::black_box;
@@ -64,7 +65,7 @@ fn own_time() -> Duration {
 
 struct Measured {
     name: String,
-    /// Runs in one sample, so that a sample is no shorter than 200 µs.
+    /// Runs in one sample.
     runs: u32,
     samples: Vec<Duration>,
     /// Of one run, where the machine counts them.
@@ -118,13 +119,15 @@ fn measure(budget: Duration, bytes: usize, mut works: Vec<Work<'_>>) {
     }
 }
 
-/// Runs all works by turns, for about `budget` each. Samples come sorted.
+/// Runs all works by turns, for about `budget` each. A sample is long, so that all but its first runs
+/// find caches and branches as the work itself leaves them. Samples come sorted.
 fn times(budget: Duration, mut works: Vec<Work<'_>>) -> Vec<Measured> {
+    let least = Duration::from_micros(argument("--sample", 5_000));
     let mut measured: Vec<Measured> = Vec::new();
     for (name, work) in &mut works {
         let start = own_time();
         let mut runs = 0;
-        while own_time() - start < Duration::from_micros(200) {
+        while own_time() - start < least {
             work();
             runs += 1;
         }
@@ -175,7 +178,7 @@ fn main() {
         return;
     }
     let seed = argument("--seed", 1);
-    let budget = Duration::from_millis(argument("--ms", 300));
+    let budget = Duration::from_millis(argument("--ms", 1_000));
     println!("{}", heading(seed));
     on_stack(1 << 30, || {
         let mut random = Random(seed);
