@@ -16,7 +16,7 @@ use Rattle.table.specs.declared.Node.the-variants.{Tip}
 use Rattle.table.specs.declared.First.the-variants.{At, Nowhere}
 use Rattle.table.specs.Record.{nodeSize, part, nodeOf, nodeAt}
 use Rattle.table.specs.Check.{isGood, isUtf8, fineText, inside, goodLeaf, verdict}
-use Rattle.table.proofs.Texts.{text-in, text-out}
+use Rattle.table.proofs.Texts.{text-in}
 use Rattle.table.proofs.Verdicts.{verdict-tip, verdict-tip-out}
 
 take-low : (n : ℕ) (xs : List ℕ) → Low xs → Low (take n xs)
@@ -82,6 +82,3 @@ module _ (ns st : List ℕ) (i : ℕ) where
     string-good h g =
         let s = string-of in
         verdict-tip ns st i string-at (text-in st (s .sort) p q g ∙ s .fine (part st p q) ∙ low-utf8 _ (take-low q _ (drop-low p st h)))
-
-    pub string-out : inside st p q ≡ false → verdict ns st i ≡ Nowhere
-    string-out g = verdict-tip-out ns st i string-at (text-out st (string-of .sort) p q g)

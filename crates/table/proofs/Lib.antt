@@ -5,8 +5,8 @@ pub mod Records
 pub mod Nodes
 pub mod Texts
 pub mod Verdicts
-pub mod Forks
 pub mod Ascii
+pub mod Kids
 pub mod Heads
 pub mod Lowest
 pub mod Held

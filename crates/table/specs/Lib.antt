@@ -4,3 +4,4 @@ pub mod Regroup
 pub mod Record
 pub mod Flat
 pub mod Check
+pub mod Kids

@@ -8,6 +8,8 @@ pub mod trees;
 
 #[cfg(feature = "product")]
 pub mod product;
+#[cfg(feature = "product")]
+pub mod random_trees;
 
 /// Numbers that look random and come again for the same seed (SplitMix64).
 #[derive(Clone)]

@@ -8,6 +8,8 @@ use crate::Form;
 use crate::Place;
 use crate::Printed;
 use table::Node;
+use table::Op;
+use table::Unary;
 use table::inner::records::RULE_SIZE;
 use table::inner::records::head_at;
 use table::inner::records::node_at;
@@ -55,7 +57,8 @@ pub fn measure(nodes: &[u32], store: &[u8], i: usize, place: Place, left: usize)
     }
 }
 
-// Writes node i's text.
+// Writes node i's text. Each kind over one child has an arm of its own, so that nothing is looked up again
+// behind the child.
 pub fn write(
     t: &[u8; 16],
     nodes: &[u32],
@@ -78,15 +81,63 @@ pub fn write(
             let a2 = leaves::put_leaf(t, store, leaf, out, a1);
             forms::put_close(on, out, a2)
         }
-        Node::One(op, c) => {
-            let form = forms::op_form(op);
-            let on = forms::brackets(place, form);
-            let a1 = forms::put_open(on, out, at);
-            let a2 = unary::put_before(store, op, out, a1);
-            let a3 = write(t, nodes, store, c, forms::under(form), out, a2);
-            let a4 = unary::put_after(op, out, a3);
-            forms::put_close(on, out, a4)
-        }
+        Node::One(op, c) => match op {
+            Op::Plain(unary) => match unary {
+                Unary::PosPred => {
+                    let on = forms::brackets(place, Form::Prefix);
+                    let a1 = forms::put_open(on, out, at);
+                    let a2 = put_byte(b'&', out, a1);
+                    let a3 = write(t, nodes, store, c, Place::Prefixed, out, a2);
+                    forms::put_close(on, out, a3)
+                }
+                Unary::NegPred => {
+                    let on = forms::brackets(place, Form::Prefix);
+                    let a1 = forms::put_open(on, out, at);
+                    let a2 = put_byte(b'!', out, a1);
+                    let a3 = write(t, nodes, store, c, Place::Prefixed, out, a2);
+                    forms::put_close(on, out, a3)
+                }
+                Unary::Opt => {
+                    let a1 = write(t, nodes, store, c, Place::Operand, out, at);
+                    put_byte(b'?', out, a1)
+                }
+                Unary::Rep => {
+                    let a1 = write(t, nodes, store, c, Place::Operand, out, at);
+                    put_byte(b'*', out, a1)
+                }
+                Unary::RepOnce => {
+                    let a1 = write(t, nodes, store, c, Place::Operand, out, at);
+                    put_byte(b'+', out, a1)
+                }
+                Unary::RepExact(n) => {
+                    let a1 = write(t, nodes, store, c, Place::Operand, out, at);
+                    unary::put_exact(n, out, a1)
+                }
+                Unary::RepMin(n) => {
+                    let a1 = write(t, nodes, store, c, Place::Operand, out, at);
+                    unary::put_min(n, out, a1)
+                }
+                Unary::RepMax(n) => {
+                    let a1 = write(t, nodes, store, c, Place::Operand, out, at);
+                    unary::put_max(n, out, a1)
+                }
+                Unary::RepMinMax(n, m) => {
+                    let a1 = write(t, nodes, store, c, Place::Operand, out, at);
+                    unary::put_counts(n, m, out, a1)
+                }
+                Unary::Push => {
+                    let a1 = unary::put_push(out, at);
+                    let a2 = write(t, nodes, store, c, Place::Alone, out, a1);
+                    put_byte(b')', out, a2)
+                }
+            },
+            Op::NodeTag(p, n) => {
+                let a1 = put_byte(b'(', out, at);
+                let a2 = unary::put_tag(store, p, n, out, a1);
+                let a3 = write(t, nodes, store, c, Place::Prefixed, out, a2);
+                put_byte(b')', out, a3)
+            }
+        },
         Node::Two(join, a, b) => {
             let on = forms::brackets(place, Form::Joined(join));
             let a1 = forms::put_open(on, out, at);

@@ -10,16 +10,16 @@ use text::Check;
 use text::Word;
 ghost use mathlib.Core.Path.{_≡_};
 ghost use Prim.Native.Nat.{ℕ, _+_, _*_, _≤_, _<_};
-ghost use mathlib.Core.List.{List};
 ghost use mathlib.Core.Bool.{true, false};
-ghost use lib.Dec.{leb, eqb};
 ghost use lib.ListN.{length, getD};
-ghost use Rattle.text.specs.Choice.{choose, and, or};
+ghost use Rattle.text.specs.Choice.{choose};
 ghost use Rattle.text.specs.Classes.{classes};
 ghost use Rattle.text.specs.declared.Check.the-variants.{Good};
 ghost use Rattle.table.specs.declared.Leaf.the-variants.{Text, Range};
 ghost use Rattle.table.specs.declared.Op.the-variants.{NodeTag};
 ghost use Rattle.table.specs.Record.{nodeSize, ruleSize, nodesIn, rulesIn};
+ghost use Rattle.table.specs.Kids as Kids;
+ghost use Rattle.table.specs.Kids.{Told, Limits};
 ghost use Rattle.table.specs.Check.{maxNodes, shaped, inside, isUtf8, isName, isLabel, fineText, goodLeaf, goodOp, goodAt, beginAt, goodRoot, goodRule, lowest, verdict, Firsts};
 
 // Whole records, no more than the limits.
@@ -195,56 +195,86 @@ fn first_of(t: &[u8; 256], nodes: &[u32], store: &[u8], firsts: &[u16; 4096], i:
     }
 }
 
-// Kinds 6 to 17 have children and no text.
-fn is_inner(kind: u32) -> bool
-    ensures { λ r. ⌜ r ≡ and (leb 6 kind) (leb kind 17) ⌝ }
-{
-    if kind < 6 {
-        return false;
-    }
-    kind <= 17
-}
-
 fn pick(on: bool, x: usize, y: usize) -> usize
     ensures { λ r. ⌜ r ≡ choose on (λ u. x) (λ u. y) ⌝ }
 {
     if on { x } else { y }
 }
 
-// The same for a node of children alone, by its numbers: kinds 8 and 9 have two. Random kinds make no
-// branch here that a processor has to guess.
-fn first_inner(nodes: &[u32], firsts: &[u16; 4096], i: usize) -> First
+const ONES: [u8; 20] = [0, 0, 0, 0, 0, 0, 1, 1, 1, 1, 1, 1, 1, 1, 1, 1, 1, 1, 0, 0];
+
+const TWOS: [u8; 20] = [0, 0, 0, 0, 0, 0, 0, 0, 1, 1, 0, 0, 0, 0, 0, 0, 0, 0, 0, 0];
+
+// By kind, 1 where there is a child and no text.
+fn ones() -> [u8; 20]
+    ensures { λ r. ⌜ r ≡ Kids.ones ⌝ }
+{
+    ONES
+}
+
+// By kind, 1 where there are two children.
+fn twos() -> [u8; 20]
+    ensures { λ r. ⌜ r ≡ Kids.twos ⌝ }
+{
+    TWOS
+}
+
+// By kind, what p + q is below where p, q and the children alone tell whether a node is false. In a
+// store of ASCII any part is UTF-8, so that a string has only to end in time.
+fn limits(string: usize) -> [usize; 20]
+    ensures { λ r. ⌜ r ≡ Kids.limits string ⌝ }
+{
+    [
+        0,
+        string,
+        string,
+        0xd800,
+        0,
+        0,
+        0x2_0000_0000,
+        0x2_0000_0000,
+        0x2_0000_0000,
+        0x2_0000_0000,
+        0x2_0000_0000,
+        0x2_0000_0000,
+        0x2_0000_0000,
+        0x2_0000_0000,
+        0x2_0000_0000,
+        0x2_0000_0000,
+        0x2_0000_0000,
+        0x2_0000_0000,
+        string,
+        0,
+    ]
+}
+
+// The same for a node whose children alone can make it false. The numbers of `ones` and `twos` stand in
+// for branches: random kinds would make ones that a processor has to guess.
+fn first_flat(
+    one: usize,
+    two: usize,
+    nodes: &[u32],
+    store: &[u8],
+    firsts: &[u16; 4096],
+    i: usize,
+) -> First
     requires { ⌜ nodeSize * (i + 1) ≤ length (now nodes) ⌝ }
     requires { ⌜ i ≤ maxNodes ⌝ }
     requires { ⌜ Firsts (now nodes) (now firsts) i ⌝ }
-    requires { ⌜ 6 ≤ getD (now nodes) (nodeSize * i) 0 ⌝ }
-    requires { ⌜ getD (now nodes) (nodeSize * i) 0 ≤ 17 ⌝ }
-    ensures { λ r. ⌜ ((store : List ℕ) → r ≡ verdict (now (nodes .entry)) store i) ⌝ }
+    requires { ⌜ Told (now nodes) (now store) i one two ⌝ }
+    ensures { λ r. ⌜ r ≡ verdict (now (nodes .entry)) (now (store .entry)) i ⌝ }
 {
     let b = NODE_SIZE * i;
     let p = nodes[b + 3] as usize;
     let q = nodes[b + 4] as usize;
-    let join = nodes[b] / 2 == 4;
-    let last = pick(join, q, p);
-    if last + 1 != i {
+    let last = pick(two == 1, q, p);
+    if (last + 1) * one != i * one {
         return First::Nowhere;
     }
-    let next = pick(join, wide(firsts[last]), p + 1);
-    if p + 1 != next {
+    if (p + 1) * two != wide(firsts[q * two]) * two {
         return First::Nowhere;
     }
-    First::At(wide(firsts[p]))
-}
-
-fn is_string(kind: u32) -> bool
-    ensures { λ r. ⌜ r ≡ or (eqb kind 1) (or (eqb kind 2) (eqb kind 18)) ⌝ }
-{
-    match kind {
-        1 => true,
-        2 => true,
-        18 => true,
-        _ => false,
-    }
+    First::At(wide(firsts[p * one]) * one + i * (1 - one))
 }
 
 // The same for a name.
@@ -267,48 +297,50 @@ fn first_name(t: &[u8; 256], nodes: &[u32], store: &[u8], i: usize) -> First
     First::Nowhere
 }
 
-// The same for a string in a store of ASCII, any part of which is UTF-8.
-fn first_string(nodes: &[u32], store: &[u8], i: usize) -> First
-    requires { ⌜ nodeSize * (i + 1) ≤ length (now nodes) ⌝ }
-    requires { ⌜ or (eqb (getD (now nodes) (nodeSize * i) 0) 1) (or (eqb (getD (now nodes) (nodeSize * i) 0) 2) (eqb (getD (now nodes) (nodeSize * i) 0) 18)) ≡ true ⌝ }
-    requires { ⌜ ((k : ℕ) → getD (now store) k 0 < 128) ⌝ }
-    ensures { λ r. ⌜ r ≡ verdict (now (nodes .entry)) (now (store .entry)) i ⌝ }
+fn wide_byte(x: u8) -> usize
+    ensures { λ r. ⌜ r ≡ x ⌝ }
 {
-    let b = NODE_SIZE * i;
-    if is_inside(store, nodes[b + 3] as usize, nodes[b + 4] as usize) {
-        return First::At(i);
-    }
-    First::Nowhere
+    x as usize
 }
 
 // The same for any node: the shorter way where it may be taken.
 fn first_at(
     t: &[u8; 256],
+    one: &[u8; 20],
+    two: &[u8; 20],
+    limit: &[usize; 20],
     nodes: &[u32],
     store: &[u8],
-    ascii: bool,
     firsts: &[u16; 4096],
     i: usize,
 ) -> First
     requires { ⌜ now t ≡ classes ⌝ }
+    requires { ⌜ now one ≡ Kids.ones ⌝ }
+    requires { ⌜ now two ≡ Kids.twos ⌝ }
+    requires { ⌜ Limits (now store) (now limit) ⌝ }
     requires { ⌜ nodeSize * (i + 1) ≤ length (now nodes) ⌝ }
     requires { ⌜ i ≤ maxNodes ⌝ }
     requires { ⌜ Firsts (now nodes) (now firsts) i ⌝ }
-    requires { ⌜ (ascii ≡ true → (k : ℕ) → getD (now store) k 0 < 128) ⌝ }
     ensures { λ r. ⌜ r ≡ verdict (now (nodes .entry)) (now (store .entry)) i ⌝ }
 {
     let b = NODE_SIZE * i;
     let kind = nodes[b];
-    if is_inner(kind) {
-        return first_inner(nodes, firsts, i);
+    if kind < 20 {
+        let k = kind as usize;
+        let sum = nodes[b + 3] as usize + nodes[b + 4] as usize;
+        if sum < limit[k] {
+            return first_flat(
+                wide_byte(one[k]),
+                wide_byte(two[k]),
+                nodes,
+                store,
+                firsts,
+                i,
+            );
+        }
     }
     if kind == 4 {
         return first_name(t, nodes, store, i);
-    }
-    if ascii {
-        if is_string(kind) {
-            return first_string(nodes, store, i);
-        }
     }
     first_of(t, nodes, store, firsts, i)
 }
@@ -327,10 +359,12 @@ pub(crate) fn lowest_node(
     ensures { λ r. ⌜ (r ≡ Good → Firsts (now (nodes .entry)) (now (firsts .exit)) (nodesIn (now (nodes .entry)))) ⌝ }
 {
     let n = nodes.len() / NODE_SIZE;
-    let ascii = text::inner::utf8::is_ascii(store);
+    let one = ones();
+    let two = twos();
+    let limit = limits(pick(text::inner::utf8::is_ascii(store), store.len(), 0));
     let mut i = 0;
     while i < n {
-        let f = first_at(t, nodes, store, ascii, firsts, i);
+        let f = first_at(t, &one, &two, &limit, nodes, store, firsts, i);
         let First::At(x) = f else {
             return Check::Bad(i);
         };

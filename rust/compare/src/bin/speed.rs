@@ -186,6 +186,8 @@ fn main() {
             let text = grammar(&mut random, bytes);
             one(&text, budget);
         }
+        #[cfg(feature = "product")]
+        compare::random_trees::measure(seed);
     });
 }
 
