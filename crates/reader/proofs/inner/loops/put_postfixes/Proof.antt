@@ -1,4 +1,5 @@
 use borrow.Author.Needs.{needs}
+use denote.Ref.{now}
 use lib.ListN.{length}
 use Prim.Native.Nat.{_-_}
 use native.Mathlib.Omega.{arith}
@@ -30,7 +31,7 @@ sub-end-at c =
     let at-suffix-at = at-suffix .before .before in
     let at-loop = at-suffix-at .before in
     let start = at-loop .before .before .before .before .before .before in
-    let p = post-past _ _ _ _ _ _ (start .pre .0 .short) (start .pre .1) _ _ _ _ (at-loop .loop .inv) _ (at-suffix-at .suffix-at .ensures) _ _ (at-suffix .suffix .given .1) in
+    let p = post-past (now (start .args .text)) (now (start .args .nodes)) (start .args .at) (start .args .used) (start .args .from) (start .args .to) (start .pre .0 .short) (start .pre .1) (at-loop .loop .nodes) (at-loop .loop .i) (at-loop .loop .u) (at-loop .loop .z) (at-loop .loop .inv) _ (at-suffix-at .suffix-at .ensures) _ _ (at-suffix .suffix .given .1) in
     omega arith
 
 end-at-requires : tie.Need-end-at-requires Inv-loop μ-loop
@@ -45,7 +46,7 @@ put-unary-requires c κs =
     let at-suffix-at = at-suffix .before .before in
     let at-loop = at-suffix-at .before in
     let start = at-loop .before .before .before .before .before .before in
-    post-over _ _ _ _ _ _ (start .pre .0 .short) (start .pre .1) _ _ _ _ (at-loop .loop .inv) _ (at-suffix-at .suffix-at .ensures) _ _ (at-suffix .suffix .given .1) _ (at-end-at .end-at .ensures)
+    post-over (now (start .args .text)) (now (start .args .nodes)) (start .args .at) (start .args .used) (start .args .from) (start .args .to) (start .pre .0 .short) (start .pre .1) (at-loop .loop .nodes) (at-loop .loop .i) (at-loop .loop .u) (at-loop .loop .z) (at-loop .loop .inv) _ (at-suffix-at .suffix-at .ensures) _ _ (at-suffix .suffix .given .1) _ (at-end-at .end-at .ensures)
 
 add-u : tie.Need-add-u Inv-loop μ-loop
 add-u c =
@@ -54,7 +55,7 @@ add-u c =
     let at-suffix-at = at-suffix .before .before in
     let at-loop = at-suffix-at .before in
     let start = at-loop .before .before .before .before .before .before in
-    let o = post-over _ _ _ _ _ _ (start .pre .0 .short) (start .pre .1) _ _ _ _ (at-loop .loop .inv) _ (at-suffix-at .suffix-at .ensures) _ _ (at-suffix .suffix .given .1) _ (at-end-at .end-at .ensures) in
+    let o = post-over (now (start .args .text)) (now (start .args .nodes)) (start .args .at) (start .args .used) (start .args .from) (start .args .to) (start .pre .0 .short) (start .pre .1) (at-loop .loop .nodes) (at-loop .loop .i) (at-loop .loop .u) (at-loop .loop .z) (at-loop .loop .inv) _ (at-suffix-at .suffix-at .ensures) _ _ (at-suffix .suffix .given .1) _ (at-end-at .end-at .ensures) in
     let f = o .few in
     omega arith
 
@@ -64,7 +65,7 @@ loop-less c =
     let at-suffix-at = at-suffix .before .before in
     let at-loop = at-suffix-at .before in
     let start = at-loop .before .before .before .before .before .before in
-    let p = post-past _ _ _ _ _ _ (start .pre .0 .short) (start .pre .1) _ _ _ _ (at-loop .loop .inv) _ (at-suffix-at .suffix-at .ensures) _ _ (at-suffix .suffix .given .1) in
+    let p = post-past (now (start .args .text)) (now (start .args .nodes)) (start .args .at) (start .args .used) (start .args .from) (start .args .to) (start .pre .0 .short) (start .pre .1) (at-loop .loop .nodes) (at-loop .loop .i) (at-loop .loop .u) (at-loop .loop .z) (at-loop .loop .inv) _ (at-suffix-at .suffix-at .ensures) _ _ (at-suffix .suffix .given .1) in
     omega arith
 
 loop-again : tie.Need-loop-again Inv-loop μ-loop
@@ -75,7 +76,7 @@ loop-again c =
     let at-suffix-at = at-suffix .before .before in
     let at-loop = at-suffix-at .before in
     let start = at-loop .before .before .before .before .before .before in
-    posts-more _ _ _ _ _ _ (start .pre .0 .short) (start .pre .1) _ _ _ _ (at-loop .loop .inv) _ (at-suffix-at .suffix-at .ensures) _ _ (at-suffix .suffix .given .1) _ _ (at-end-at .end-at .ensures) (at-put-unary .put-unary .ensures)
+    posts-more (now (start .args .text)) (now (start .args .nodes)) (start .args .at) (start .args .used) (start .args .from) (start .args .to) (start .pre .0 .short) (start .pre .1) (at-loop .loop .nodes) (at-loop .loop .i) (at-loop .loop .u) (at-loop .loop .z) (at-loop .loop .inv) _ (at-suffix-at .suffix-at .ensures) _ _ (at-suffix .suffix .given .1) _ _ (at-end-at .end-at .ensures) (at-put-unary .put-unary .ensures)
 
 enum-told : tie.Need-enum-told Inv-loop μ-loop
 enum-told c = search needs
@@ -88,7 +89,7 @@ returns c =
     let at-suffix-at = c .before .before in
     let at-loop = at-suffix-at .before in
     let start = at-loop .before .before .before .before .before .before in
-    posts-done _ _ _ _ _ _ (start .pre .0 .short) (start .pre .1) _ _ _ _ (at-loop .loop .inv) _ (at-suffix-at .suffix-at .ensures) (c .enum-told .given .1)
+    posts-done (now (start .args .text)) (now (start .args .nodes)) (start .args .at) (start .args .used) (start .args .from) (start .args .to) (start .pre .0 .short) (start .pre .1) (at-loop .loop .nodes) (at-loop .loop .i) (at-loop .loop .u) (at-loop .loop .z) (at-loop .loop .inv) _ (at-suffix-at .suffix-at .ensures) (c .enum-told .given .1)
 
 pub put-postfixes-spec : {M : Type 1} → statement M
 put-postfixes-spec =

@@ -1,4 +1,5 @@
 use Prim.Native.Nat.{_-_}
+use denote.Ref.{now}
 use native.Mathlib.Omega.{arith}
 use Rattle.reader.proofs.Loops.{SignsInv, signs-start, signs-over, signs-more, signs-done}
 use Rattle.reader.proofs.inner.loops.put_signs.Statement.{statement}
@@ -28,7 +29,7 @@ put-unary-requires c κs =
     let at-loop-test = at-start-at .before in
     let at-loop = at-loop-test .before in
     let start = at-loop .before .before .before .before .before .before in
-    signs-over _ _ _ _ _ _ (start .pre .0 .short) (start .pre .1) _ _ _ (at-loop .loop .inv) (at-loop-test .loop-test .taken) _ (at-start-at .start-at .ensures)
+    signs-over (now (start .args .text)) (now (start .args .nodes)) (start .args .at) (start .args .last) (start .args .z) (start .args .used) (start .pre .0 .short) (start .pre .1) (at-loop .loop .nodes) (at-loop .loop .i) (at-loop .loop .u) (at-loop .loop .inv) (at-loop-test .loop-test .taken) _ (at-start-at .start-at .ensures)
 
 add-u : tie.Need-add-u Inv-loop μ-loop
 add-u c =
@@ -36,7 +37,7 @@ add-u c =
     let at-loop-test = at-start-at .before in
     let at-loop = at-loop-test .before in
     let start = at-loop .before .before .before .before .before .before in
-    let o = signs-over _ _ _ _ _ _ (start .pre .0 .short) (start .pre .1) _ _ _ (at-loop .loop .inv) (at-loop-test .loop-test .taken) _ (at-start-at .start-at .ensures) in
+    let o = signs-over (now (start .args .text)) (now (start .args .nodes)) (start .args .at) (start .args .last) (start .args .z) (start .args .used) (start .pre .0 .short) (start .pre .1) (at-loop .loop .nodes) (at-loop .loop .i) (at-loop .loop .u) (at-loop .loop .inv) (at-loop-test .loop-test .taken) _ (at-start-at .start-at .ensures) in
     let f = o .few in
     omega arith
 
@@ -51,7 +52,7 @@ loop-again c =
     let at-loop-test = at-start-at .before in
     let at-loop = at-loop-test .before in
     let start = at-loop .before .before .before .before .before .before in
-    signs-more _ _ _ _ _ _ (start .pre .0 .short) (start .pre .1) _ _ _ (at-loop .loop .inv) (at-loop-test .loop-test .taken) _ _ _ (at-start-at .start-at .ensures) (at-sign-at .sign-at .ensures) (at-put-unary .put-unary .ensures)
+    signs-more (now (start .args .text)) (now (start .args .nodes)) (start .args .at) (start .args .last) (start .args .z) (start .args .used) (start .pre .0 .short) (start .pre .1) (at-loop .loop .nodes) (at-loop .loop .i) (at-loop .loop .u) (at-loop .loop .inv) (at-loop-test .loop-test .taken) _ _ _ (at-start-at .start-at .ensures) (at-sign-at .sign-at .ensures) (at-put-unary .put-unary .ensures)
 
 same-length : tie.Need-same-length Inv-loop μ-loop
 same-length c = (c .before .loop .inv) .3 .long
