@@ -11,38 +11,48 @@ use compare::instructions::{self, Counter};
 use compare::{argument, asked, on_stack, Random};
 use oracle::{Answer, Printable, Tables};
 
-/// A grammar of about so many bytes, such as people write: it passes 2.5.2's validator, since
-/// every rule begins with a string and names later rules only.
+/// A grammar of so many bytes, such as people write: it passes 2.5.2's validator, since every rule
+/// begins with a string and names later rules only.
 fn grammar(random: &mut Random, bytes: usize) -> String {
     let mut text = String::new();
     let mut number = 0;
     while text.len() < bytes - 150 {
-        text.push_str("// A field of the line, as the camera sends it: the key first, then\n");
-        text.push_str("// what belongs to it /* and a remark */\n");
-        let mark = random.of(&["", "", "", "_", "@", "$"]);
-        text.push_str(&format!("field_number_{number} = {mark}{{\n    \"key{number}\""));
-        for _ in 0..1 + random.below(4) {
-            // What can't fail may not stand before `|`.
-            let bar = random.one_in(3);
-            text.push_str(if bar { "\n  | " } else { " ~ " });
-            let later = number + 1 + random.below(20);
-            text.push_str(&match random.below(if bar { 6 } else { 8 }) {
-                0 => format!("field_number_{later}"),
-                1 => "'0'..'9'+".to_string(),
-                2 => "!\"end of line\"".to_string(),
-                3 => "('a'..'z' | 'A'..'Z' | \"_\"){2, 8}".to_string(),
-                4 => "\"\\u{41}m \\\"quoted\\\"\"".to_string(),
-                5 => format!("&(field_number_{later} ~ \":\")"),
-                6 => "^\"Unit\"?".to_string(),
-                _ => format!("(\"value\" ~ field_number_{later} | \"none\")*"),
-            });
+        let next = rule(random, number);
+        if bytes < text.len() + next.len() {
+            break;
         }
-        text.push_str("\n}\n");
+        text.push_str(&next);
         number += 1;
     }
     while text.len() < bytes {
         text.push('\n');
     }
+    text
+}
+
+fn rule(random: &mut Random, number: usize) -> String {
+    let mut text = String::new();
+    text.push_str("// A field of the line, as the camera sends it: the key first, then\n");
+    text.push_str("// what belongs to it /* and a remark */\n");
+    let mark = random.of(&["", "", "", "_", "@", "$"]);
+    text.push_str(&format!("field_number_{number} = {mark}{{\n    \"key{number}\""));
+    for _ in 0..1 + random.below(4) {
+        // What can't fail may not stand before `|`.
+        let bar = random.one_in(3);
+        text.push_str(if bar { "\n  | " } else { " ~ " });
+        let later = number + 1 + random.below(20);
+        text.push_str(&match random.below(if bar { 6 } else { 8 }) {
+            0 => format!("field_number_{later}"),
+            1 => "'0'..'9'+".to_string(),
+            2 => "!\"end of line\"".to_string(),
+            3 => "('a'..'z' | 'A'..'Z' | \"_\"){2, 8}".to_string(),
+            4 => "\"\\u{41}m \\\"quoted\\\"\"".to_string(),
+            5 => format!("&(field_number_{later} ~ \":\")"),
+            6 => "^\"Unit\"?".to_string(),
+            _ => format!("(\"value\" ~ field_number_{later} | \"none\")*"),
+        });
+    }
+    text.push_str("\n}\n");
     text
 }
 
@@ -187,7 +197,9 @@ fn main() {
             one(&text, budget);
         }
         #[cfg(feature = "product")]
-        compare::random_trees::measure(seed);
+        if !asked("--callgrind") {
+            compare::random_trees::measure(seed);
+        }
     });
 }
 
