@@ -130,6 +130,7 @@ fn run_fill(bytes: &[u8]) {
             vectors::write_number(n);
         }
         Filled::NoToken(place) => write_refused(3, place),
+        Filled::Full => vectors::write(b" full"),
     }
     write_held(&kinds, &starts, &ends);
 }
