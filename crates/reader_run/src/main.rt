@@ -5,8 +5,6 @@
 // there before, then what was used of each (of the longer ones a sum).
 use reader::Reading;
 use structure::Level;
-ghost use Prim.Native.Nat.{_≤_};
-ghost use Rattle.io.specs.Counts.{Counts};
 
 fn write_numbers(s: &[u32]) {
     if 300 < s.len() {
@@ -112,29 +110,6 @@ fn run_read(
     }
 }
 
-// A line's pieces from a place on, at most nine.
-fn pieces(line: &[u8], from: usize, out: &mut [u8]) -> usize
-    ensures { λ r. ⌜ Counts r (now (out .exit)) ⌝ }
-{
-    let mut piece = [0u8; 4096];
-    let mut at = from;
-    let mut k = 0;
-    let mut turns: usize = 0;
-    while turns < 9 {
-        let times = vectors::field(line, at);
-        let hex = vectors::field(line, times.end);
-        let a = times.start;
-        let b = times.end;
-        let c = hex.start;
-        let d = hex.end;
-        let n = vectors::unhex(&line[c..d], &mut piece);
-        k = vectors::repeat(&piece[..n], vectors::number(&line[a..b]) as usize, out, k);
-        at = d;
-        turns += 1;
-    }
-    k
-}
-
 fn level_of(b: u8) -> Level {
     if b == b'p' {
         Level::Plain
@@ -166,7 +141,7 @@ fn run_line(line: &[u8]) {
     if line.len() <= at {
         return;
     }
-    let long = pieces(line, f, &mut text);
+    let long = vectors::pieces(line, f, &mut text);
     run_read(
         &text[..long],
         level_of(line[at]),

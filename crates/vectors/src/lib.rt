@@ -173,6 +173,29 @@ pub fn repeat(piece: &[u8], times: usize, out: &mut [u8], from: usize) -> usize
     k
 }
 
+// A text in pieces, at most nine: how many times, and what in hex, from a place of the line on.
+pub fn pieces(line: &[u8], from: usize, out: &mut [u8]) -> usize
+    ensures { λ r. ⌜ Counts r (now (out .exit)) ⌝ }
+{
+    let mut piece = [0u8; 4096];
+    let mut at = from;
+    let mut k = 0;
+    let mut turns: usize = 0;
+    while turns < 9 {
+        let times = field(line, at);
+        let hex = field(line, times.end);
+        let a = times.start;
+        let b = times.end;
+        let c = hex.start;
+        let d = hex.end;
+        let n = unhex(&line[c..d], &mut piece);
+        k = repeat(&piece[..n], number(&line[a..b]) as usize, out, k);
+        at = d;
+        turns += 1;
+    }
+    k
+}
+
 // How many numbers stand at 2,863,311,530 from a place on.
 pub fn numbers_alone(s: &[u32], from: usize) -> usize {
     let mut n = 0;

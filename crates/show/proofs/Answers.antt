@@ -1,33 +1,55 @@
--- What the desk shows after a reading, and after a printing of what was read.
+-- What the desk's answer is after a reading, and after a printing of what was read: the numbers decide the case, and
+-- the fronts of the buffers are the tables of the text's rules.
 use Prim.Native.Nat.{ℕ, _*_, _≤_, _/_, min}
-use mathlib.Core.Path.{_≡_, refl, sym, ap, subst, _∙_}
-use mathlib.Core.Bool.{Bool, true, false}
+use mathlib.Core.Path.{_≡_, refl, sym, ap, _∙_}
 use mathlib.Core.List.{List, [], _∷_}
 use native.Mathlib.Omega.{arith}
-use lib.Dec.{leb, eqb}
 use lib.ListN.{length, take, drop, getD, replicate, length-append, length-replicate}
 use lib.Seq.{take-at}
-use borrow.Author.Tests.{eq-eqb, ne-eqb, leb-true}
-use Rattle.text.specs.Choice.{choose}
+use borrow.Author.Tests.{eq-eqb, ne-eqb}
 use Rattle.text.specs.Splice.{fronted}
 use Rattle.table.specs.Tree.{Span, Rule, counts, rulesStored}
-use Rattle.table.specs.declared.TableCheck.{TableCheck}
-use Rattle.table.specs.declared.TableCheck.the-variants as Table
 use Rattle.table.specs.Flat.{nodesOf, recordsOf}
-use Rattle.table.specs.Check.{tables}
 use Rattle.table.proofs.Rules.{length-nodes, length-records}
 use Rattle.structure.specs.declared.Level.the-variants.{Tagged}
 use Rattle.reader.specs.declared.Reading.{Reading}
 use Rattle.reader.specs.Read as Read
 use Rattle.reader.specs.Read.{roomForNodes, roomForRules, rulesOf, readOf, leftIn, Leaves}
-use Rattle.printer.specs.Answers as Answers
+use Rattle.printer.specs.declared.Printed.{Printed}
+use Rattle.printer.specs.declared.Printed.the-variants as Printed
+use Rattle.printer.specs.Answers as Printer
+use Rattle.printer.proofs.Answers.{print-reported}
 use Rattle.exports.specs.Numbers.{levelOf, readNumbers, printNumbers}
-use Rattle.desk.specs.declared.Input.{Input}
-use Rattle.desk.specs.declared.Input.the-variants.{Bytes}
-use Rattle.desk.specs.declared.Shown.{Shown}
-use Rattle.desk.specs.declared.Shown.the-variants.{Text, Refused}
-use Rattle.desk.specs.Desk.{Within, Fits, reading, printing, printedIn, printed, shownOf, shownIn}
-use Rattle.desk.proofs.Readings.{Counted, counted}
+use Rattle.show.specs.declared.Answer.{Answer}
+use Rattle.show.specs.declared.Answer.the-variants as Answer
+use Rattle.show.specs.Desk.{reading, printing, textOf, printed, answerOf, answerIn}
+use Rattle.show.proofs.Readings.{Counted, counted}
+
+-- what the answer is where the numbers ns refuse, with o′ left in the output
+abbrev pub Refuses : List ℕ → List ℕ → List ℕ → List ℕ → Type 0
+Refuses ns s o o′ =
+    (Answer.Refused (getD ns 0 0) (getD ns 1 0) ≡ answerOf s (length o)) × (o′ ≡ answerIn s o (Answer.Refused (getD ns 0 0) (getD ns 1 0)))
+
+-- the printer's answer for the rules of a text
+unfoldable printerOf : List ℕ → ℕ → Printed
+printerOf s m = Printer.printOf (nodesOf (rulesOf Tagged s)) (recordsOf (rulesOf Tagged s)) (rulesStored (rulesOf Tagged s)) m
+
+-- the printer writes where its number is 0, and only there
+in-done : (ns rs st o : List ℕ) (x : Printed) → Printer.numbered x .number ≡ 0 → Printer.printIn ns rs st o x ≡ fronted (Printer.tableText ns rs st) o
+unfolding Printer.numbered Printer.printIn
+in-done ns rs st o (Printed.Used n) e = refl
+in-done ns rs st o Printed.Shape e = absurd (omega arith)
+in-done ns rs st o (Printed.Node i) e = absurd (omega arith)
+in-done ns rs st o (Printed.Rule k) e = absurd (omega arith)
+in-done ns rs st o Printed.NoRoom e = absurd (omega arith)
+
+in-refused : (ns rs st o : List ℕ) (x : Printed) → (Printer.numbered x .number ≡ 0 → ⊥) → Printer.printIn ns rs st o x ≡ o
+unfolding Printer.numbered Printer.printIn
+in-refused ns rs st o (Printed.Used n) h = absurd (h refl)
+in-refused ns rs st o Printed.Shape h = refl
+in-refused ns rs st o (Printed.Node i) h = refl
+in-refused ns rs st o (Printed.Rule k) h = refl
+in-refused ns rs st o Printed.NoRoom h = refl
 
 -- the front of a buffer
 taken : (x o o′ : List ℕ) (k : ℕ) → o′ ≡ fronted x o → k ≡ length x → (k ≤ length o′) × (take k o′ ≡ x)
@@ -58,11 +80,11 @@ module _ (s ns rs st ns′ rs′ st′ rd : List ℕ) (h₁ : length ns ≡ 1228
   number-is : getD rd 0 0 ≡ reading s .number
   number-is = ap (λ (xs : List ℕ). getD xs 0 0) numbers
 
-  pub read-refused : (getD rd 0 0 ≡ 0 → ⊥) → (o : List ℕ) → (Refused (getD rd 0 0) (getD rd 1 0) ≡ shownOf s (length o)) × (o ≡ shownIn s o)
-  unfolding shownOf shownIn
+  pub read-refused : (getD rd 0 0 ≡ 0 → ⊥) → (o : List ℕ) → Refuses rd s o o
+  unfolding answerOf answerIn
   read-refused z o =
       let q = ne-eqb (reading s .number) 0 (λ w. z (number-is ∙ w)) in
-      (ap (λ (xs : List ℕ). Refused (getD xs 0 0) (getD xs 1 0)) numbers ∙ rw q, rw q)
+      (ap (λ (xs : List ℕ). Answer.Refused (getD xs 0 0) (getD xs 1 0)) numbers ∙ rw q, refl)
 
   module _ (l : Leaves (levelOf 1) s (readOf (levelOf 1) s (roomForNodes ns) (roomForRules rs) (length st)) ns rs st ns′ rs′ st′) (z : getD rd 0 0 ≡ 0) where
     told : Counted Tagged s 2048 1024 65536
@@ -94,7 +116,7 @@ module _ (s ns rs st ns′ rs′ st′ rd : List ℕ) (h₁ : length ns ≡ 1228
 -- the buffers that the desk lends are zeros
 module _ (s rd : List ℕ)
     (e : rd ≡ readNumbers (Read.reported (levelOf 1) s (roomForNodes (replicate 12288 0)) (roomForRules (replicate 6144 0)) (length (replicate {A = ℕ} 65536 0)))) where
-  pub desk-refused : (getD rd 0 0 ≡ 0 → ⊥) → (o : List ℕ) → (Refused (getD rd 0 0) (getD rd 1 0) ≡ shownOf s (length o)) × (o ≡ shownIn s o)
+  pub desk-refused : (getD rd 0 0 ≡ 0 → ⊥) → (o : List ℕ) → Refuses rd s o o
   desk-refused =
       read-refused s (replicate 12288 0) (replicate 6144 0) (replicate 65536 0) [] [] [] rd
       (length-replicate {A = ℕ} 12288 0) (length-replicate {A = ℕ} 6144 0) (length-replicate {A = ℕ} 65536 0) e
@@ -109,67 +131,41 @@ module _ (s rd : List ℕ)
 
 -- and after the printing of those fronts: its numbers pr, and the output o′
 module _ (s ns rs st rd : List ℕ) (t : Tables s ns rs st rd) (o o′ pr : List ℕ)
-    (f : pr ≡ printNumbers (Answers.reported (take (6 * getD rd 2 0) ns) (take (6 * getD rd 3 0) rs) (take (getD rd 4 0) st) (length o)))
-    (g : o′ ≡ Answers.printIn (take (6 * getD rd 2 0) ns) (take (6 * getD rd 3 0) rs) (take (getD rd 4 0) st) o
-    (Answers.printOf (take (6 * getD rd 2 0) ns) (take (6 * getD rd 3 0) rs) (take (getD rd 4 0) st) (length o))) where
+    (f : pr ≡ printNumbers (Printer.reported (take (6 * getD rd 2 0) ns) (take (6 * getD rd 3 0) rs) (take (getD rd 4 0) st) (length o)))
+    (g : o′ ≡ Printer.printIn (take (6 * getD rd 2 0) ns) (take (6 * getD rd 3 0) rs) (take (getD rd 4 0) st) o
+    (Printer.printOf (take (6 * getD rd 2 0) ns) (take (6 * getD rd 3 0) rs) (take (getD rd 4 0) st) (length o))) where
   figures : pr ≡ printNumbers (printing (rulesOf Tagged s) (length o))
   unfolding printing
   figures = f ∙ rw (t .nodes .1, t .rules .1, t .store .1)
 
-  out-is : o′ ≡ shownIn s o
-  unfolding shownIn printedIn
-  out-is = g ∙ rw (t .nodes .1, t .rules .1, t .store .1, eq-eqb (reading s .number) 0 (t .good))
+  number-printed : getD pr 0 0 ≡ printing (rulesOf Tagged s) (length o) .number
+  number-printed = ap (λ (xs : List ℕ). getD xs 0 0) figures
 
-  shows : shownOf s (length o) ≡ printed (printing (rulesOf Tagged s) (length o))
-  unfolding shownOf
-  shows = rw (eq-eqb (reading s .number) 0 (t .good))
+  -- what the printer answered has that number
+  printer-is : Printer.numbered (printerOf s (length o)) .number ≡ getD pr 0 0
+  unfolding printing printerOf
+  printer-is = ap (λ (x : Printer.Numbered). x .number) (print-reported _ _ _ (length o)) ∙ sym number-printed
 
-  pub print-refused : (getD pr 0 0 ≡ 0 → ⊥) → (Refused (getD pr 0 0) (getD pr 1 0) ≡ shownOf s (length o)) × (o′ ≡ shownIn s o)
-  unfolding printed
+  out-is : o′ ≡ Printer.printIn (nodesOf (rulesOf Tagged s)) (recordsOf (rulesOf Tagged s)) (rulesStored (rulesOf Tagged s)) o (printerOf s (length o))
+  unfolding printerOf
+  out-is = g ∙ rw (t .nodes .1, t .rules .1, t .store .1)
+
+  answer-is : answerOf s (length o) ≡ printed (printing (rulesOf Tagged s) (length o))
+  unfolding answerOf
+  answer-is = rw (eq-eqb (reading s .number) 0 (t .good))
+
+  pub print-refused : (getD pr 0 0 ≡ 0 → ⊥) → Refuses pr s o o′
+  unfolding printed answerIn
   print-refused y =
-      let q = ne-eqb (printing (rulesOf Tagged s) (length o) .number) 0 (λ k. y (ap (λ (xs : List ℕ). getD xs 0 0) figures ∙ k)) in
-      (ap (λ (xs : List ℕ). Refused (getD xs 0 0) (getD xs 1 0)) figures ∙ sym (shows ∙ rw q), out-is)
+      let q = ne-eqb (printing (rulesOf Tagged s) (length o) .number) 0 (λ k. y (number-printed ∙ k)) in (
+        ap (λ (xs : List ℕ). Answer.Refused (getD xs 0 0) (getD xs 1 0)) figures ∙ sym (answer-is ∙ rw q),
+        out-is ∙ in-refused _ _ _ o (printerOf s (length o)) (λ k. y (sym printer-is ∙ k)),
+      )
 
-  pub print-done : getD pr 0 0 ≡ 0 → (Text (getD pr 2 0) ≡ shownOf s (length o)) × (o′ ≡ shownIn s o)
-  unfolding printed
+  pub print-done : getD pr 0 0 ≡ 0 → (Answer.Printed (getD pr 2 0) ≡ answerOf s (length o)) × (o′ ≡ answerIn s o (Answer.Printed (getD pr 2 0)))
+  unfolding printed answerIn textOf
   print-done y =
-      let q = eq-eqb (printing (rulesOf Tagged s) (length o) .number) 0 (ap (λ (xs : List ℕ). getD xs 0 0) (sym figures) ∙ y) in
-      (ap (λ (xs : List ℕ). Text (getD xs 2 0)) figures ∙ sym (shows ∙ rw q), out-is)
-
--- ---- what is shown lies in the output
-
-pub bytes-within : {x : Input} {n k : ℕ} → x ≡ Bytes n → Within x k → n ≤ k
-bytes-within {k = k} e h = subst (λ (y : Input). Within y k) e h
-
-pub text-fits : {x : Shown} {n k : ℕ} → x ≡ Text n → Fits x k → n ≤ k
-text-fits {k = k} e h = subst (λ (y : Shown). Fits y k) e h
-
-by-tables : (x : TableCheck) (f : Unit {0} → Answers.Numbered) (n : ℕ) → f tt .used ≤ n → Answers.reportBy x f .used ≤ n
-by-tables Table.Good f n h = h
-by-tables Table.Shape f n h = omega arith
-by-tables (Table.Node i) f n h = omega arith
-by-tables (Table.Rule i) f n h = omega arith
-
-room-fits : (b : Bool) (k n : ℕ) → (b ≡ true → k ≤ n) → choose {A = Answers.Numbered} b (λ u. record { number = 0; place = 0; used = k }) (λ u. record { number = 23; place = 0; used = 0 }) .used ≤ n
-room-fits true k n h = h refl
-room-fits false k n h = omega arith
-
-used-fits : (us : List (Rule Span)) (n : ℕ) → printing us n .used ≤ n
-unfolding printing Answers.reported
-used-fits us n =
-    by-tables (tables (nodesOf us) (recordsOf us) (rulesStored us)) _ n
-    (room-fits (leb (length (Answers.tableText (nodesOf us) (recordsOf us) (rulesStored us))) n) _ n (leb-true _ n))
-
-fits-either : (b : Bool) (x y : Unit {0} → Shown) (n : ℕ) → Fits (x tt) n → Fits (y tt) n → Fits (choose b x y) n
-fits-either true x y n h g = h
-fits-either false x y n h g = g
-
-pub shown-fits : (s : List ℕ) (n : ℕ) → Fits (shownOf s n) n
-unfolding shownOf printed
-shown-fits s n =
-    let us = rulesOf Tagged s in
-    fits-either (eqb (reading s .number) 0) _ _ n (fits-either (eqb (printing us n .number) 0) _ _ n (used-fits us n) tt) tt
-
--- and still does after the call
-pub fits-after : (s : List ℕ) {x : Shown} (k : ℕ) (o : List ℕ) → x ≡ shownOf s k → length o ≡ k → Fits x (length o)
-fits-after s k o e h = rw (e, h) (shown-fits s k)
+      let q = eq-eqb (printing (rulesOf Tagged s) (length o) .number) 0 (sym number-printed ∙ y) in (
+        ap (λ (xs : List ℕ). Answer.Printed (getD xs 2 0)) figures ∙ sym (answer-is ∙ rw q),
+        out-is ∙ in-done _ _ _ o (printerOf s (length o)) (printer-is ∙ y),
+      )

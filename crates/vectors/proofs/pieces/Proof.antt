@@ -1,11 +1,12 @@
+-- The buffers keep their lengths, and what was put lies in the output.
 use borrow.Author.Needs.{needs}
 use lib.ListN.{length}
 use lib.Seq.{length-take-le}
 use native.Mathlib.Omega.{arith}
 use mathlib.Core.Path.{_≡_, sym}
 use Prim.Native.Nat.{_≤_, _-_}
-use Rattle.reader_run.proofs.pieces.Statement.{statement}
-use Rattle.reader_run.proofs.pieces.Tie as tie
+use Rattle.vectors.proofs.pieces.Statement.{statement}
+use Rattle.vectors.proofs.pieces.Tie as tie
 
 abbrev Inv-loop : tie.InvT-loop
 Inv-loop line from out₀ piece₀ at₀ k₀ turns₀ out piece at k turns = (k ≤ length out) × (length out ≡ length out₀) × (length piece ≡ 4096) × (turns ≤ 9)

@@ -1,9 +1,11 @@
-use Rattle.desk.proofs.Shows.{desk-refused, desk-tables, print-refused, print-done}
-use Rattle.io.proofs.Counting.{front}
+-- The numbers of the reading and of the printing say which law of Answers each return is.
+use Rattle.show.proofs.Answers.{desk-refused, desk-tables, print-refused, print-done}
+use mathlib.Core.Path.{sym}
+use lib.Seq.{length-take-le}
 use native.Mathlib.Omega.{arith}
 use borrow.Author.Needs.{needs}
-use Rattle.desk.proofs.answer.Statement.{statement}
-use Rattle.desk.proofs.answer.Tie as tie
+use Rattle.show.proofs.print_back.Statement.{statement}
+use Rattle.show.proofs.print_back.Tie as tie
 
 slice-aggregate-flascjuvan-read : tie.Need-slice-aggregate-flascjuvan-read
 slice-aggregate-flascjuvan-read c = search needs
@@ -60,7 +62,7 @@ array-share-prefix-nodes c =
 slice-aggregate-flascjuvan-print : tie.Need-slice-aggregate-flascjuvan-print
 slice-aggregate-flascjuvan-print c =
     let read = c .before .before .before .before .before .flascjuvan-read in
-    front _ _ (desk-tables _ _ (read .ensures .0) _ _ _ (read .ensures .1) (c .before .if1 .left) .nodes .0)
+    sym (length-take-le _ _ (desk-tables _ _ (read .ensures .0) _ _ _ (read .ensures .1) (c .before .if1 .left) .nodes .0))
 
 array-share-prefix-rules : tie.Need-array-share-prefix-rules
 array-share-prefix-rules c =
@@ -70,7 +72,7 @@ array-share-prefix-rules c =
 slice-aggregate-flascjuvan-print-2 : tie.Need-slice-aggregate-flascjuvan-print-2
 slice-aggregate-flascjuvan-print-2 c =
     let read = c .before .before .before .before .before .before .flascjuvan-read in
-    front _ _ (desk-tables _ _ (read .ensures .0) _ _ _ (read .ensures .1) (c .before .before .if1 .left) .rules .0)
+    sym (length-take-le _ _ (desk-tables _ _ (read .ensures .0) _ _ _ (read .ensures .1) (c .before .before .if1 .left) .rules .0))
 
 array-share-prefix-store : tie.Need-array-share-prefix-store
 array-share-prefix-store c =
@@ -80,7 +82,7 @@ array-share-prefix-store c =
 slice-aggregate-flascjuvan-print-3 : tie.Need-slice-aggregate-flascjuvan-print-3
 slice-aggregate-flascjuvan-print-3 c =
     let read = c .before .before .before .before .before .before .before .flascjuvan-read in
-    front _ _ (desk-tables _ _ (read .ensures .0) _ _ _ (read .ensures .1) (c .before .before .before .if1 .left) .store .0)
+    sym (length-take-le _ _ (desk-tables _ _ (read .ensures .0) _ _ _ (read .ensures .1) (c .before .before .before .if1 .left) .store .0))
 
 flascjuvan-print-requires : tie.Need-flascjuvan-print-requires
 flascjuvan-print-requires c κs = search needs
@@ -119,8 +121,8 @@ returns-3 c =
     let print = at-print .flascjuvan-print in
     print-done _ _ _ _ _ (desk-tables _ _ (read .ensures .0) _ _ _ (read .ensures .1) (at-if1 .if1 .left)) _ _ _ (print .ensures .0) (print .ensures .1) (c .if2 .left)
 
-pub answer-spec : {M : Type 1} → statement M
-answer-spec =
+pub print-back-spec : {M : Type 1} → statement M
+print-back-spec =
     tie.close
     (tie.spec
     slice-aggregate-flascjuvan-read

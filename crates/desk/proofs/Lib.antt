@@ -1,3 +1,0 @@
--- The desk's program: what its proofs cite.
-pub mod Readings
-pub mod Shows

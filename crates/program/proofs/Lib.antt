@@ -1,0 +1,2 @@
+-- Programs: the laws that their proofs cite.
+pub mod Inputs

@@ -1,0 +1,2 @@
+-- Programs: the definitions that the contracts cite.
+pub mod Input

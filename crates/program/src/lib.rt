@@ -1,0 +1,70 @@
+// What a program that reads a text on standard input and writes what is shown of it has in common with others
+// of its kind. `name` is the program's, for its complaints.
+//
+// A program in Rattle has no exit status. One that was started with an argument, whatever it says, tells its
+// launcher how it ended by one byte on descriptor 3: `0` a text was written, `1` a refusal's line was, `2`
+// input or output failed. Without an argument it leaves descriptor 3 alone.
+pub mod inner;
+
+ghost use lib.ListN.{length};
+ghost use Rattle.program.specs.Input.{Within};
+
+// The bytes that were read, up to the input's end or the buffer's; or reading failed.
+pub enum Input {
+    Bytes(usize),
+    Failed,
+}
+
+// Tells the launcher.
+fn tell(verdict: u8) {
+    if os::arg_count() != 1 {
+        io::write_all(3, &[verdict]);
+    }
+}
+
+fn fail(name: &[u8], what: &[u8]) {
+    io::write_all(2, name);
+    io::write_all(2, what);
+    tell(b'2');
+}
+
+// Standard input, however it arrives.
+fn read_all(buf: &mut [u8]) -> Input
+    ensures { λ r. ⌜ Within r (length (now (buf .exit))) ⌝ }
+{
+    let mut done = 0;
+    while done < buf.len() {
+        let got = libc::read(0, &mut buf[done..]);
+        if got < 0 {
+            return Input::Failed;
+        }
+        let n = io::count(got, &buf[done..]);
+        if n == 0 {
+            return Input::Bytes(done);
+        }
+        done += n;
+    }
+    Input::Bytes(done)
+}
+
+// Standard input. A failure is told, and the program is to end.
+pub fn read_input(name: &[u8], buf: &mut [u8]) -> Input
+    ensures { λ r. ⌜ Within r (length (now (buf .exit))) ⌝ }
+{
+    let input = read_all(buf);
+    match input {
+        Input::Bytes(n) => Input::Bytes(n),
+        Input::Failed => {
+            fail(name, b": standard input could not be read\n");
+            Input::Failed
+        }
+    }
+}
+
+fn write_output(name: &[u8], out: &[u8], verdict: u8) {
+    if io::write_all(1, out) {
+        tell(verdict);
+        return;
+    }
+    fail(name, b": standard output could not be written\n");
+}

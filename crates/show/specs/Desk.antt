@@ -1,0 +1,60 @@
+-- What the desk's program writes of a text.
+use Prim.Native.Nat.{ℕ}
+use mathlib.Core.List.{List}
+use lib.Dec.{eqb}
+use lib.ListN.{length}
+use Rattle.text.specs.Choice.{choose}
+use Rattle.text.specs.Splice.{fronted}
+use Rattle.table.specs.Tree.{Span, Rule, rulesStored}
+use Rattle.table.specs.Flat.{nodesOf, recordsOf}
+use Rattle.structure.specs.declared.Level.the-variants.{Tagged}
+use Rattle.reader.specs.Read as Read
+use Rattle.printer.specs.Answers as Answers
+use Rattle.show.specs.declared.Answer.{Answer}
+use Rattle.show.specs.declared.Answer.the-variants as Answer
+use Rattle.show.specs.declared.Shown.{Shown}
+use Rattle.show.specs.declared.Shown.the-variants.{Text}
+use Rattle.show.specs.Line.{refusalPut, refusalIn}
+use Rattle.show.specs.Shown.{refusedBy}
+
+-- the reading at the tagged level, with room for 2,048 nodes, 1,024 rules and 65,536 store bytes
+unfoldable pub reading : List ℕ → Read.Numbered
+reading s = Read.reported Tagged s 2048 1024 65536
+
+-- the printing of rules, to an output of m bytes
+unfoldable pub printing : List (Rule Span) → ℕ → Answers.Numbered
+printing us m = Answers.reported (nodesOf us) (recordsOf us) (rulesStored us) m
+
+-- the text of rules
+unfoldable pub textOf : List (Rule Span) → List ℕ
+textOf us = Answers.tableText (nodesOf us) (recordsOf us) (rulesStored us)
+
+-- bytes printed, or a refusal
+unfoldable pub printed : Answers.Numbered → Answer
+printed p = choose (eqb (p .number) 0) (λ u. Answer.Printed (p .used)) (λ u. Answer.Refused (p .number) (p .place))
+
+-- the refusal of the reading; else what the printing of its rules gives
+unfoldable pub answerOf : List ℕ → ℕ → Answer
+answerOf s m =
+    choose (eqb (reading s .number) 0) (λ u. printed (printing (Read.rulesOf Tagged s) m)) (λ u. Answer.Refused (reading s .number) (reading s .place))
+
+-- what the printing leaves in the output: a refused text leaves it alone
+unfoldable pub answerIn : List ℕ → List ℕ → Answer → List ℕ
+answerIn s o (Answer.Printed n) = fronted (textOf (Read.rulesOf Tagged s)) o
+answerIn s o (Answer.Refused n p) = o
+
+-- what the desk answers for an output of m bytes: the text's bytes, or those of the refusal's line
+unfoldable pub shownBy : Answer → ℕ → Shown
+shownBy (Answer.Printed n) m = Text n
+shownBy (Answer.Refused n p) m = refusedBy (refusalPut n p m)
+
+unfoldable pub deskOf : List ℕ → ℕ → Shown
+deskOf s m = shownBy (answerOf s m) m
+
+-- what it leaves in the output: the text, or the refusal's line, at its front
+unfoldable pub leftBy : List ℕ → List ℕ → Answer → List ℕ
+leftBy s o (Answer.Printed n) = fronted (textOf (Read.rulesOf Tagged s)) o
+leftBy s o (Answer.Refused n p) = refusalIn n p o (refusalPut n p (length o))
+
+unfoldable pub deskIn : List ℕ → List ℕ → List ℕ
+deskIn s o = leftBy s o (answerOf s (length o))

@@ -1,0 +1,4 @@
+-- What programs write: the definitions that the contracts cite.
+pub mod Line
+pub mod Shown
+pub mod Desk
