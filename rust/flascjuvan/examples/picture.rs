@@ -23,7 +23,7 @@ fn main() -> ExitCode {
         return ExitCode::from(2);
     }
     let (shown, status) = match read(&text, level) {
-        Ok(grammar) => (grammar.to_string(), ExitCode::SUCCESS),
+        Ok(grammar) => (grammar.picture().to_string(), ExitCode::SUCCESS),
         Err(refusal) => (format!("{refusal}: {}\n", refusal.meaning()), ExitCode::from(1)),
     };
     match io::stdout().write_all(shown.as_bytes()) {

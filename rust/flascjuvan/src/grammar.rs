@@ -1,39 +1,55 @@
 //! Tables and trees, both ways. Children stand before their nodes, so both ways are one walk and no recursion.
 
-use crate::{Expr, Rule, RuleType};
+use std::fmt;
+use std::str::FromStr;
+
+use crate::picture::{self, Picture};
+use crate::shape::{fold, Shape};
+use crate::{print, read, Expr, Level, ParserExpr, ParserNode, ParserRule, Refusal, Rule, RuleType, Span};
+
+/// The numbers of a record.
+pub(crate) const RECORD: usize = 6;
 
 /// A grammar: the tables that reading makes and printing takes.
 ///
-/// It comes from [`read`](crate::read) or from rules. As text ([`Display`](std::fmt::Display)) it is a picture: a line
-/// for each rule and node, children set in below what they belong to, with the bytes of the text that each spans.
-#[derive(Clone, Debug, Eq, PartialEq)]
+/// It comes from [`read`], from [`parse`](str::parse) (which reads tagged) or from rules. Looked at, it is
+///
+/// - its text by [`Display`](fmt::Display), as [`print`](fn@print) gives it. One that can't be printed, which only
+///   rules made by hand can be, shows why in the form `<refused 21 at 0: ...>`, which nothing reads as a grammar;
+/// - a picture of what belongs to what by [`picture`](Grammar::picture) and `{:#?}`;
+/// - all rules by name on one line, spans included, by `{:?}`.
+///
+/// `==` compares spans too, [`same`](Grammar::same) doesn't.
+///
+/// What was printed is read back as the [`same`](Grammar::same) rules, but that a chain to the right comes back grouped
+/// to the left: `a ~ (b ~ c)` prints as `(a ~ b ~ c)`, which reads as `(a ~ b) ~ c`. Not read back are a text of over
+/// 65,536 bytes or with over 1,024 brackets open at once, the empty text of a grammar without rules, and counts of 0
+/// that were put in by hand.
+///
+/// ```
+/// use flascjuvan::Grammar;
+///
+/// let grammar: Grammar = "a = { b ~ c | \"x\"* }".parse()?;
+/// assert_eq!(grammar.to_string(), "a = { ((b ~ c) | \"x\"*) }\n");
+/// assert_eq!(grammar.rules()[0].to_string(), "a = { ((b ~ c) | \"x\"*) }");
+/// # Ok::<(), flascjuvan::Refusal>(())
+/// ```
+#[derive(Clone, Default, Eq, Hash, PartialEq)]
 pub struct Grammar {
     nodes: Vec<u32>,
     rules: Vec<u32>,
     store: Vec<u8>,
 }
 
-/// A node as its record has it, with the indexes of its children and the texts that it names.
-pub(crate) enum Row<'a> {
-    Str(&'a str),
-    Insens(&'a str),
-    Range(char, char),
-    Ident(&'a str),
-    PeekSlice(i32, Option<i32>),
-    PosPred(usize),
-    NegPred(usize),
-    Seq(usize, usize),
-    Choice(usize, usize),
-    Opt(usize),
-    Rep(usize),
-    RepOnce(usize),
-    RepExact(usize, u32),
-    RepMin(usize, u32),
-    RepMax(usize, u32),
-    RepMinMax(usize, u32, u32),
-    Push(usize),
-    PushLiteral(&'a str),
-    NodeTag(usize, &'a str),
+/// A part of the store: offset and length.
+type Part = (u32, u32);
+
+/// A rule as its record has it.
+pub(crate) struct RuleRow<'a> {
+    pub(crate) name: &'a str,
+    pub(crate) ty: RuleType,
+    pub(crate) root: usize,
+    pub(crate) span: Span,
 }
 
 impl Grammar {
@@ -41,206 +57,296 @@ impl Grammar {
         Grammar { nodes, rules, store }
     }
 
-    /// The tables: node records, rule records, store.
+    /// The one rule `r = { expr }`.
+    pub(crate) fn of_body(expr: &Expr) -> Grammar {
+        let mut grammar = Grammar::default();
+        grammar.push_rule("r", RuleType::Normal, expr);
+        grammar
+    }
+
+    /// The tables as the C interface has them: node records and rule records of six numbers each, and the store, which
+    /// holds names, tags and strings. The project's README.md says what the numbers are.
+    ///
+    /// ```
+    /// use flascjuvan::Grammar;
+    ///
+    /// let grammar: Grammar = "r = { (a)* }".parse()?;
+    /// let (nodes, rules, store) = grammar.tables();
+    /// // kind, span start, span end, p, q, r: the word, then its repetition
+    /// assert_eq!(nodes, [4, 7, 9, 1, 1, 0, 11, 6, 10, 0, 0, 0]);
+    /// // name offset, name length, mark, root, span start, span end
+    /// assert_eq!(rules, [0, 1, 0, 1, 0, 1]);
+    /// assert_eq!(store, b"ra");
+    /// # Ok::<(), flascjuvan::Refusal>(())
+    /// ```
     pub fn tables(&self) -> (&[u32], &[u32], &[u8]) {
         (&self.nodes, &self.rules, &self.store)
     }
 
     /// The rules as trees, without spans.
+    ///
+    /// ```
+    /// use flascjuvan::{Expr, Grammar};
+    ///
+    /// let grammar: Grammar = "a = { !b* }".parse()?;
+    /// let rep = Expr::Rep(Box::new(Expr::Ident("b".into())));
+    /// assert_eq!(grammar.rules()[0].expr, Expr::NegPred(Box::new(rep)));
+    /// # Ok::<(), flascjuvan::Refusal>(())
+    /// ```
     pub fn rules(&self) -> Vec<Rule> {
-        let mut made: Vec<Expr> = Vec::new();
+        let rule = |rule: RuleRow<'_>, expr| Rule { name: rule.name.to_owned(), ty: rule.ty, expr };
+        self.trees(|_, shape| Expr::of(shape), rule)
+    }
+
+    /// The rules as trees with spans: [`ParserRule`] shows an example.
+    pub fn parser_rules(&self) -> Vec<ParserRule> {
+        let node = |index, shape| ParserNode { expr: ParserExpr::of(shape), span: self.span(index) };
+        let rule =
+            |rule: RuleRow<'_>, node| ParserRule { name: rule.name.to_owned(), span: rule.span, ty: rule.ty, node };
+        self.trees(node, rule)
+    }
+
+    /// A picture of what belongs to what, with the bytes of the text that each rule's name and each node spans.
+    ///
+    /// ```
+    /// use flascjuvan::Grammar;
+    ///
+    /// let grammar: Grammar = "a = { b ~ \"\\x01\"* }".parse()?;
+    /// assert_eq!(
+    ///     grammar.picture().to_string(),
+    ///     "\
+    /// a  0..1
+    /// └─ Seq  6..17
+    ///    ├─ Ident b  6..7
+    ///    └─ Rep  10..17
+    ///       └─ Str \"\\u{01}\"  10..16
+    /// "
+    /// );
+    /// # Ok::<(), flascjuvan::Refusal>(())
+    /// ```
+    pub fn picture(&self) -> Picture<'_> {
+        Picture { grammar: self, text: None }
+    }
+
+    /// The picture of a grammar that was read from this text, with the line and column of each start as well.
+    ///
+    /// ```
+    /// use flascjuvan::Grammar;
+    ///
+    /// let text = "a = {\n  b*\n}\n";
+    /// let grammar: Grammar = text.parse()?;
+    /// let picture = grammar.picture_of(text.as_bytes()).to_string();
+    /// assert_eq!(picture, "a  0..1  1:1\n└─ Rep  8..10  2:3\n   └─ Ident b  8..9  2:3\n");
+    /// # Ok::<(), flascjuvan::Refusal>(())
+    /// ```
+    pub fn picture_of<'a>(&'a self, text: &'a [u8]) -> Picture<'a> {
+        Picture { grammar: self, text: Some(text) }
+    }
+
+    /// Makes a tree of each rule's nodes, and something of the rule with its tree.
+    fn trees<'a, T, R>(
+        &'a self,
+        node: impl Fn(usize, Shape<&'a str, T>) -> T,
+        of_rule: impl Fn(RuleRow<'a>, T) -> R,
+    ) -> Vec<R> {
+        let mut made: Vec<T> = Vec::new();
         let mut next = 0;
         let mut rules = Vec::new();
-        for rule in self.rules.chunks_exact(6) {
-            while next <= rule[3] as usize {
-                let expr = self.expr(next, &mut made);
-                made.push(expr);
-                next += 1;
+        for rule in self.rule_rows() {
+            for index in next..=rule.root {
+                let shape = self.shape(index).over(&mut made);
+                made.push(node(index, shape));
             }
-            let expr = made.pop().expect("a rule's root is a node");
-            rules.push(Rule { name: self.text(rule[0], rule[1]).to_owned(), ty: rule_type(rule[2]), expr });
+            next = rule.root + 1;
+            let tree = made.pop().expect("a rule's root is a node");
+            rules.push(of_rule(rule, tree));
         }
         rules
     }
 
-    /// A node's tree. Those of its children are the last ones made.
-    fn expr(&self, index: usize, made: &mut Vec<Expr>) -> Expr {
-        let mut child = || Box::new(made.pop().expect("a node's children stand before it"));
-        match self.node(index) {
-            Row::Str(s) => Expr::Str(s.to_owned()),
-            Row::Insens(s) => Expr::Insens(s.to_owned()),
-            Row::Range(a, b) => Expr::Range(a, b),
-            Row::Ident(s) => Expr::Ident(s.to_owned()),
-            Row::PeekSlice(a, b) => Expr::PeekSlice(a, b),
-            Row::PosPred(_) => Expr::PosPred(child()),
-            Row::NegPred(_) => Expr::NegPred(child()),
-            Row::Seq(..) => {
-                let right = child();
-                Expr::Seq(child(), right)
-            }
-            Row::Choice(..) => {
-                let right = child();
-                Expr::Choice(child(), right)
-            }
-            Row::Opt(_) => Expr::Opt(child()),
-            Row::Rep(_) => Expr::Rep(child()),
-            Row::RepOnce(_) => Expr::RepOnce(child()),
-            Row::RepExact(_, n) => Expr::RepExact(child(), n),
-            Row::RepMin(_, n) => Expr::RepMin(child(), n),
-            Row::RepMax(_, n) => Expr::RepMax(child(), n),
-            Row::RepMinMax(_, n, m) => Expr::RepMinMax(child(), n, m),
-            Row::Push(_) => Expr::Push(child()),
-            Row::PushLiteral(s) => Expr::PushLiteral(s.to_owned()),
-            Row::NodeTag(_, s) => Expr::NodeTag(child(), s.to_owned()),
-        }
+    pub(crate) fn rule_rows(&self) -> impl Iterator<Item = RuleRow<'_>> {
+        self.rules.chunks_exact(RECORD).map(|record| RuleRow {
+            name: self.text((record[0], record[1])),
+            ty: rule_type(record[2]),
+            root: record[3] as usize,
+            span: span(record[4], record[5]),
+        })
     }
 
-    pub(crate) fn record(&self, index: usize) -> &[u32] {
-        &self.nodes[6 * index..6 * index + 6]
+    fn record(&self, index: usize) -> &[u32] {
+        &self.nodes[RECORD * index..RECORD * (index + 1)]
     }
 
-    pub(crate) fn rule_records(&self) -> impl Iterator<Item = &[u32]> {
-        self.rules.chunks_exact(6)
+    /// The bytes that a node spans.
+    pub(crate) fn span(&self, index: usize) -> Span {
+        let record = self.record(index);
+        span(record[1], record[2])
+    }
+
+    /// A node, with the indexes of its children.
+    pub(crate) fn shape(&self, index: usize) -> Shape<&str, usize> {
+        unpacked(self.record(index)).map(|part| self.text(part), |child| child as usize)
     }
 
     /// A part of the store. Those that tables name are UTF-8.
-    pub(crate) fn text(&self, offset: u32, length: u32) -> &str {
+    fn text(&self, (offset, length): Part) -> &str {
         let part = &self.store[offset as usize..offset as usize + length as usize];
         std::str::from_utf8(part).expect("a text in the store is UTF-8")
     }
 
-    pub(crate) fn node(&self, index: usize) -> Row<'_> {
-        let &[kind, _, _, p, q, r] = self.record(index) else { unreachable!("a record has six numbers") };
-        let child = p as usize;
-        let character = |n| char::from_u32(n).expect("a range's ends are characters");
-        match kind {
-            1 => Row::Str(self.text(p, q)),
-            2 => Row::Insens(self.text(p, q)),
-            3 => Row::Range(character(p), character(q)),
-            4 => Row::Ident(self.text(p, q)),
-            5 => Row::PeekSlice(p as i32, (q == 1).then_some(r as i32)),
-            6 => Row::PosPred(child),
-            7 => Row::NegPred(child),
-            8 => Row::Seq(child, q as usize),
-            9 => Row::Choice(child, q as usize),
-            10 => Row::Opt(child),
-            11 => Row::Rep(child),
-            12 => Row::RepOnce(child),
-            13 => Row::RepExact(child, q),
-            14 => Row::RepMin(child, q),
-            15 => Row::RepMax(child, q),
-            16 => Row::RepMinMax(child, q, r),
-            17 => Row::Push(child),
-            18 => Row::PushLiteral(self.text(p, q)),
-            19 => Row::NodeTag(child, self.text(q, r)),
-            _ => unreachable!("kinds are 1 to 19"),
-        }
+    /// Appends a rule's records and texts, as reading it would. Spans are 0: there is no text.
+    fn push_rule(&mut self, name: &str, ty: RuleType, expr: &Expr) {
+        let Grammar { nodes, rules, store } = self;
+        let (offset, length) = push_text(store, name);
+        // on the way down texts, so that a tag's stands before those below it; on the way up nodes
+        let root = fold(
+            expr,
+            |expr| ((), expr.shape().map(|s| push_text(store, s), |child| child)),
+            |(), shape| push_node(nodes, shape),
+        );
+        rules.extend_from_slice(&[offset, length, ty as u32, root, 0, 0]);
     }
+}
 
-    fn push_text(&mut self, text: &str) -> (u32, u32) {
-        let offset = small(self.store.len());
-        self.store.extend_from_slice(text.as_bytes());
-        (offset, small(text.len()))
+impl FromStr for Grammar {
+    type Err = Refusal;
+
+    /// Reads a text at [`Level::Tagged`], as [`read`] does.
+    fn from_str(text: &str) -> Result<Grammar, Refusal> {
+        read(text, Level::Tagged)
     }
+}
 
-    fn push_leaf(&mut self, kind: u32, text: &str) {
-        let (p, q) = self.push_text(text);
-        self.push_node(kind, p, q, 0);
+impl Extend<Rule> for Grammar {
+    /// Appends rules, as reading them would but without spans.
+    ///
+    /// # Panics
+    ///
+    /// If names and strings come to over 4 GiB, which the tables can't number.
+    fn extend<I: IntoIterator<Item = Rule>>(&mut self, rules: I) {
+        rules.into_iter().for_each(|rule| self.push_rule(&rule.name, rule.ty, &rule.expr));
     }
+}
 
-    fn push_node(&mut self, kind: u32, p: u32, q: u32, r: u32) {
-        self.nodes.extend_from_slice(&[kind, 0, 0, p, q, r]);
+impl FromIterator<Rule> for Grammar {
+    /// The grammar of rules that were made or edited by hand: its tables are as reading makes them, but without spans.
+    ///
+    /// ```
+    /// use flascjuvan::Grammar;
+    ///
+    /// let grammar: Grammar = "a = { b } c = { d } e = { f }".parse()?;
+    /// let without_c: Grammar = grammar.rules().into_iter().filter(|rule| rule.name != "c").collect();
+    /// assert_eq!(without_c.to_string(), "a = { b }\ne = { f }\n");
+    /// # Ok::<(), flascjuvan::Refusal>(())
+    /// ```
+    ///
+    /// # Panics
+    ///
+    /// If names and strings come to over 4 GiB, which the tables can't number.
+    fn from_iter<I: IntoIterator<Item = Rule>>(rules: I) -> Grammar {
+        let mut grammar = Grammar::default();
+        grammar.extend(rules);
+        grammar
     }
+}
 
-    /// The index of the node that was pushed last.
-    fn last(&self) -> u32 {
-        small(self.nodes.len() / 6 - 1)
-    }
-
-    /// Appends a tree's records, children first. Spans are 0: there is no text.
-    fn push_expr(&mut self, expr: &Expr) {
-        /// What is still to do, the next one last.
-        enum Step<'a> {
-            Tree(&'a Expr),
-            /// a node over the last one: kind, q, r
-            Over(u32, u32, u32),
-            /// the left child is the last node: kind, and the right child
-            Right(u32, &'a Expr),
-            /// the right child is the last node: kind, and the left child
-            Join(u32, u32),
-        }
-        let mut steps = vec![Step::Tree(expr)];
-        while let Some(step) = steps.pop() {
-            let over = match step {
-                Step::Over(kind, q, r) => {
-                    self.push_node(kind, self.last(), q, r);
-                    continue;
-                }
-                Step::Right(kind, right) => {
-                    steps.extend([Step::Join(kind, self.last()), Step::Tree(right)]);
-                    continue;
-                }
-                Step::Join(kind, left) => {
-                    self.push_node(kind, left, self.last(), 0);
-                    continue;
-                }
-                Step::Tree(Expr::Str(s)) => {
-                    self.push_leaf(1, s);
-                    continue;
-                }
-                Step::Tree(Expr::Insens(s)) => {
-                    self.push_leaf(2, s);
-                    continue;
-                }
-                Step::Tree(Expr::Range(a, b)) => {
-                    self.push_node(3, *a as u32, *b as u32, 0);
-                    continue;
-                }
-                Step::Tree(Expr::Ident(s)) => {
-                    self.push_leaf(4, s);
-                    continue;
-                }
-                Step::Tree(Expr::PeekSlice(a, b)) => {
-                    self.push_node(5, *a as u32, b.is_some().into(), b.unwrap_or(0) as u32);
-                    continue;
-                }
-                Step::Tree(Expr::PushLiteral(s)) => {
-                    self.push_leaf(18, s);
-                    continue;
-                }
-                Step::Tree(Expr::Seq(a, b)) => [Step::Right(8, b), Step::Tree(a)],
-                Step::Tree(Expr::Choice(a, b)) => [Step::Right(9, b), Step::Tree(a)],
-                Step::Tree(Expr::PosPred(a)) => [Step::Over(6, 0, 0), Step::Tree(a)],
-                Step::Tree(Expr::NegPred(a)) => [Step::Over(7, 0, 0), Step::Tree(a)],
-                Step::Tree(Expr::Opt(a)) => [Step::Over(10, 0, 0), Step::Tree(a)],
-                Step::Tree(Expr::Rep(a)) => [Step::Over(11, 0, 0), Step::Tree(a)],
-                Step::Tree(Expr::RepOnce(a)) => [Step::Over(12, 0, 0), Step::Tree(a)],
-                Step::Tree(Expr::RepExact(a, n)) => [Step::Over(13, *n, 0), Step::Tree(a)],
-                Step::Tree(Expr::RepMin(a, n)) => [Step::Over(14, *n, 0), Step::Tree(a)],
-                Step::Tree(Expr::RepMax(a, n)) => [Step::Over(15, *n, 0), Step::Tree(a)],
-                Step::Tree(Expr::RepMinMax(a, n, m)) => [Step::Over(16, *n, *m), Step::Tree(a)],
-                Step::Tree(Expr::Push(a)) => [Step::Over(17, 0, 0), Step::Tree(a)],
-                Step::Tree(Expr::NodeTag(a, tag)) => {
-                    let (q, r) = self.push_text(tag);
-                    [Step::Over(19, q, r), Step::Tree(a)]
-                }
-            };
-            steps.extend(over);
-        }
+impl From<Vec<Rule>> for Grammar {
+    /// As [`from_iter`](Grammar::from_iter).
+    fn from(rules: Vec<Rule>) -> Grammar {
+        rules.into_iter().collect()
     }
 }
 
 impl From<&[Rule]> for Grammar {
-    /// The tables of rules that were made or edited by hand, as reading them would make them but without spans.
+    /// As [`from_iter`](Grammar::from_iter); the rules are only looked at.
     fn from(rules: &[Rule]) -> Grammar {
-        let mut grammar = Grammar::of(Vec::new(), Vec::new(), Vec::new());
-        for rule in rules {
-            let (offset, length) = grammar.push_text(&rule.name);
-            grammar.push_expr(&rule.expr);
-            let root = grammar.last();
-            grammar.rules.extend_from_slice(&[offset, length, rule.ty as u32, root, 0, 0]);
-        }
+        let mut grammar = Grammar::default();
+        rules.iter().for_each(|rule| grammar.push_rule(&rule.name, rule.ty, &rule.expr));
         grammar
+    }
+}
+
+impl fmt::Display for Grammar {
+    fn fmt(&self, f: &mut fmt::Formatter<'_>) -> fmt::Result {
+        f.pad(&print(self).unwrap_or_else(picture::refused))
+    }
+}
+
+impl fmt::Debug for Grammar {
+    fn fmt(&self, f: &mut fmt::Formatter<'_>) -> fmt::Result {
+        if f.alternate() {
+            return f.write_str(self.picture().to_string().trim_end_matches('\n'));
+        }
+        f.debug_tuple("Grammar").field(&self.parser_rules()).finish()
+    }
+}
+
+fn push_text(store: &mut Vec<u8>, text: &str) -> Part {
+    let offset = narrow(store.len());
+    store.extend_from_slice(text.as_bytes());
+    (offset, narrow(text.len()))
+}
+
+/// Appends a node, and gives its index.
+fn push_node(nodes: &mut Vec<u32>, shape: Shape<Part, u32>) -> u32 {
+    let index = narrow(nodes.len() / RECORD);
+    let [kind, p, q, r] = packed(shape);
+    nodes.extend_from_slice(&[kind, 0, 0, p, q, r]);
+    index
+}
+
+/// A node's kind, p, q and r.
+fn packed(shape: Shape<Part, u32>) -> [u32; 4] {
+    match shape {
+        Shape::Str((offset, length)) => [1, offset, length, 0],
+        Shape::Insens((offset, length)) => [2, offset, length, 0],
+        Shape::Range(a, b) => [3, a.into(), b.into(), 0],
+        Shape::Ident((offset, length)) => [4, offset, length, 0],
+        // two's complement
+        Shape::PeekSlice(a, None) => [5, a as u32, 0, 0],
+        Shape::PeekSlice(a, Some(b)) => [5, a as u32, 1, b as u32],
+        Shape::PosPred(child) => [6, child, 0, 0],
+        Shape::NegPred(child) => [7, child, 0, 0],
+        Shape::Seq(left, right) => [8, left, right, 0],
+        Shape::Choice(left, right) => [9, left, right, 0],
+        Shape::Opt(child) => [10, child, 0, 0],
+        Shape::Rep(child) => [11, child, 0, 0],
+        Shape::RepOnce(child) => [12, child, 0, 0],
+        Shape::RepExact(child, n) => [13, child, n, 0],
+        Shape::RepMin(child, n) => [14, child, n, 0],
+        Shape::RepMax(child, n) => [15, child, n, 0],
+        Shape::RepMinMax(child, n, m) => [16, child, n, m],
+        Shape::Push(child) => [17, child, 0, 0],
+        Shape::PushLiteral((offset, length)) => [18, offset, length, 0],
+        Shape::NodeTag(child, (offset, length)) => [19, child, offset, length],
+    }
+}
+
+/// The node of a record. Those of a grammar were made by the reader or by [`packed`], so they are good ones.
+fn unpacked(record: &[u32]) -> Shape<Part, u32> {
+    let (kind, p, q, r) = (record[0], record[3], record[4], record[5]);
+    let character = |n| char::from_u32(n).expect("a range's ends are characters");
+    match kind {
+        1 => Shape::Str((p, q)),
+        2 => Shape::Insens((p, q)),
+        3 => Shape::Range(character(p), character(q)),
+        4 => Shape::Ident((p, q)),
+        5 => Shape::PeekSlice(p as i32, (q == 1).then_some(r as i32)),
+        6 => Shape::PosPred(p),
+        7 => Shape::NegPred(p),
+        8 => Shape::Seq(p, q),
+        9 => Shape::Choice(p, q),
+        10 => Shape::Opt(p),
+        11 => Shape::Rep(p),
+        12 => Shape::RepOnce(p),
+        13 => Shape::RepExact(p, q),
+        14 => Shape::RepMin(p, q),
+        15 => Shape::RepMax(p, q),
+        16 => Shape::RepMinMax(p, q, r),
+        17 => Shape::Push(p),
+        18 => Shape::PushLiteral((p, q)),
+        19 => Shape::NodeTag(p, (q, r)),
+        _ => unreachable!("kinds are 1 to 19"),
     }
 }
 
@@ -255,7 +361,11 @@ fn rule_type(mark: u32) -> RuleType {
     }
 }
 
-/// A count as a table has it. One that 32 bits don't hold belongs to a table that is refused by 20 for its size.
-fn small(n: usize) -> u32 {
-    n.try_into().unwrap_or(u32::MAX)
+fn span(start: u32, end: u32) -> Span {
+    Span { start: start as usize, end: end as usize }
+}
+
+/// A count as a table has it.
+fn narrow(n: usize) -> u32 {
+    n.try_into().expect("a grammar's tables number with 32 bits")
 }

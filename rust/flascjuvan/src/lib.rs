@@ -2,43 +2,100 @@
 //!
 //! The work is done by a library in Rattle, a language in which every function is proved to meet its contract. This
 //! crate is its safe face: [`read`] a text into a [`Grammar`], look at its [`Rule`]s as trees under pest's names, edit
-//! them, [`print`] them back. A `Grammar` shows itself as an indented picture of what belongs to what.
+//! them, [`print`](fn@print) them back.
 //!
 //! ```
-//! use flascjuvan::{print, read, Expr, Grammar, Level};
+//! use flascjuvan::{Expr, Grammar, Reason};
 //!
-//! let grammar = read("size = @{ digit{3} }", Level::Tagged)?;
+//! let grammar: Grammar = "size = @{ digit{3} }".parse()?;
 //! let mut rules = grammar.rules();
-//! let Expr::RepExact(_, count) = &mut rules[0].expr else { unreachable!() };
-//! *count = 4;
-//! assert_eq!(print(&Grammar::from(&rules[..]))?, "size = @{ digit{4} }\n");
+//! if let Expr::RepExact(_, count) = &mut rules[0].expr {
+//!     *count = 4;
+//! }
+//! assert_eq!(Grammar::from(rules).to_string(), "size = @{ digit{4} }\n");
 //!
-//! let refusal = read("size = @{ digit{0} }", Level::Tagged).unwrap_err();
-//! assert_eq!((refusal.number, refusal.place), (6, 16));
+//! let refusal = "size = @{ digit{0} }".parse::<Grammar>().unwrap_err();
+//! assert_eq!((refusal.reason, refusal.place), (Reason::Zero, 16));
 //! # Ok::<(), flascjuvan::Refusal>(())
 //! ```
+//!
+//! # Stack
+//!
+//! [`read`], [`print`](fn@print) and [`tokens`] run on the caller's stack, and so does whatever shows a grammar or a
+//! tree, since the printer writes it. Have 2 MB of stack free. Threads of these sizes were seen to be enough on 64-bit
+//! ARM:
+//!
+//! | for | stack |
+//! |---|---|
+//! | reading up to 2,048 bytes and 100 brackets inside one another; tokens of any text | 128 KB |
+//! | reading 65,536 bytes and 16,384 tokens | 160 KB |
+//! | reading more tokens than that | 590 KB |
+//! | reading 1,024 brackets inside one another | 1,000 KB |
+//! | both | 1,430 KB |
+//! | printing 4,096 nodes inside one another | 1,430 KB |
+//!
+//! So a thread as Rust makes them, of 2 MiB, is enough if little of it is in use. Where too little is free, the process
+//! is ended as by any other overflow of a stack in Rust: the library touches each page of a frame in order, so it meets
+//! the guard page below the stack and overwrites nothing. Nothing is moved to another thread behind the caller's back;
+//! whoever has small threads calls from a larger one:
+//!
+//! ```
+//! use flascjuvan::{read, Level};
+//!
+//! let text = String::from("a = { b }");
+//! let thread = std::thread::Builder::new().stack_size(4 << 20).spawn(move || read(text, Level::Tagged));
+//! let grammar = thread?.join().expect("reading doesn't panic")?;
+//! assert_eq!(grammar.rules().len(), 1);
+//! # Ok::<(), Box<dyn std::error::Error>>(())
+//! ```
+//!
+//! # Linking
+//!
+//! The build links `libflascjuvan.a`: that of the folder which the environment variable `FLASCJUVAN_LIB_DIR` names. If
+//! that is not set, it is the one that `scripts/native-lib` makes in the project's own repository, and elsewhere that
+//! of the folder which pkg-config knows for `flascjuvan`. A number that this crate doesn't know, as the library of
+//! another version might answer, is a panic that says so.
 
-#![warn(missing_docs)]
+#![warn(missing_debug_implementations, missing_docs)]
+
+#[cfg(doctest)]
+#[doc = include_str!("../README.md")]
+struct Readme;
 
 mod ast;
 mod grammar;
+mod literal;
+mod parser;
 mod picture;
+mod place;
 pub mod raw;
+mod refusal;
+mod same;
+mod shape;
+mod token;
 
-pub use ast::{Expr, Rule, RuleType};
+pub use ast::{Expr, ExprTopDownIterator, Rule, RuleType};
 pub use grammar::Grammar;
+pub use parser::{ParserExpr, ParserNode, ParserNodeTopDownIterator, ParserRule, Span};
+pub use picture::Picture;
+pub use place::{line_column, LineColumn};
+pub use refusal::{Reason, Refusal};
+pub use same::{Difference, Found};
+pub use token::{Token, TokenKind};
 
-use std::fmt;
+use grammar::RECORD;
+use refusal::judged;
+use token::WINDOW;
 
 /// The most nodes of a grammar.
 pub const MAX_NODES: usize = 4096;
 /// The most rules of a grammar.
 pub const MAX_RULES: usize = 1024;
-/// The most bytes of a text, and of the names and strings of tables that are printed.
+/// The most bytes of a text, and of the names and strings of a grammar that is printed.
 pub const MAX_TEXT: usize = 65536;
 
 /// Whether tags are kept.
-#[derive(Clone, Copy, Debug, Eq, PartialEq)]
+#[derive(Clone, Copy, Debug, Eq, Hash, PartialEq)]
 pub enum Level {
     /// Tags are kept, and PUSH_LITERAL is read: pest's feature grammar-extras.
     Tagged,
@@ -46,121 +103,78 @@ pub enum Level {
     Plain,
 }
 
-/// Why nothing was read or printed, by number, and where.
-///
-/// The place is a byte of the text, or the index of a record of a printed table; 0 where there is none to name.
-#[derive(Clone, Copy, Debug, Eq, PartialEq)]
-pub struct Refusal {
-    /// 1 to 13 from reading, 1 to 3 from tokens, 20 to 23 from printing.
-    pub number: u64,
-    /// Where it is.
-    pub place: usize,
-}
-
-impl Refusal {
-    /// What the number says, in words.
-    pub fn meaning(&self) -> &'static str {
-        match self.number {
-            1 => "the text has over 65,536 bytes",
-            2 => "the text is not UTF-8",
-            3 => "no token can be made of what stands here",
-            4 => "this token isn't allowed here, or the text ends too early",
-            5 => "a repeat number over 4,294,967,295",
-            6 => "a repeat of exactly 0, or of at most 0",
-            7 => "a PEEK number that 32 signed bits can't hold",
-            8 => "an escape of a surrogate, or above U+10FFFF",
-            9 => "a ( that would make 1,025 open at once",
-            10 => "more than 4,096 nodes",
-            11 => "no room for names and strings",
-            12 => "more than 1,024 rules",
-            13 => "PUSH_LITERAL, which plain reading has not",
-            20 => "tables that are too large to print",
-            21 => "a node that can't be printed: a name or a tag that is no word",
-            22 => "a rule that can't be printed: a name that is no word, or begins with PUSH",
-            23 => "the printed text is longer than its room",
-            _ => "a number that is never given",
-        }
-    }
-}
-
-impl fmt::Display for Refusal {
-    fn fmt(&self, f: &mut fmt::Formatter<'_>) -> fmt::Result {
-        write!(f, "refused {} at {}", self.number, self.place)
-    }
-}
-
-impl std::error::Error for Refusal {}
-
-/// The answer's number and place, as an error unless it is 0.
-fn judged(number: u64, place: u64) -> Result<(), Refusal> {
-    match number {
-        0 => Ok(()),
-        _ => Err(Refusal { number, place: place as usize }),
-    }
-}
-
 /// Reads a text.
 ///
 /// The room lent is always enough: a node takes a byte of the text at least, and unescaping makes nothing longer. So 11
 /// is never given here, and 10 and 12 only over [`MAX_NODES`] and [`MAX_RULES`].
+///
+/// It wants [2 MB of stack](crate#stack).
+///
+/// ```
+/// use flascjuvan::{read, Level};
+///
+/// let text = "note = { #size = digit{3} }";
+/// assert_eq!(read(text, Level::Tagged)?.to_string(), "note = { (#size = digit{3}) }\n");
+/// assert_eq!(read(text, Level::Plain)?.to_string(), "note = { digit{3} }\n");
+/// assert_eq!(read(b"note = \xff", Level::Tagged).unwrap_err().to_string(), "refused 2 at 7");
+/// # Ok::<(), flascjuvan::Refusal>(())
+/// ```
 pub fn read(text: impl AsRef<[u8]>, level: Level) -> Result<Grammar, Refusal> {
     let text = text.as_ref();
-    let mut nodes = vec![0; 6 * text.len().min(MAX_NODES)];
-    let mut rules = vec![0; 6 * text.len().min(MAX_RULES)];
+    let mut nodes = vec![0; RECORD * text.len().min(MAX_NODES)];
+    let mut rules = vec![0; RECORD * text.len().min(MAX_RULES)];
     let mut store = vec![0; text.len().min(MAX_TEXT)];
-    let answer = raw::read(text, level == Level::Tagged, &mut nodes, &mut rules, &mut store);
-    judged(answer[0], answer[1])?;
-    nodes.truncate(6 * answer[2] as usize);
-    rules.truncate(6 * answer[3] as usize);
-    store.truncate(answer[4] as usize);
+    let [number, place, node_count, rule_count, stored] =
+        raw::read(text, level == Level::Tagged, &mut nodes, &mut rules, &mut store);
+    judged(number, place)?;
+    nodes.truncate(RECORD * node_count as usize);
+    rules.truncate(RECORD * rule_count as usize);
+    store.truncate(stored as usize);
     Ok(Grammar::of(nodes, rules, store))
 }
 
 /// Prints a grammar, a rule to a line.
 ///
 /// What was read always prints. A grammar of rules that were made by hand may be refused: by 20 if it is too large, by
-/// 21 or 22 if a name or a tag in it is no word.
+/// 21 or 22 if a name or a tag in it is no word, or a name begins with PUSH.
+///
+/// It wants [2 MB of stack](crate#stack).
+///
+/// ```
+/// use flascjuvan::{print, Expr, Grammar, Reason, Rule, RuleType};
+///
+/// let rule = |name: &str| Rule { name: name.into(), ty: RuleType::Normal, expr: Expr::Str("x".into()) };
+/// assert_eq!(print(&Grammar::from(vec![rule("a")])).unwrap(), "a = { \"x\" }\n");
+/// let refusal = print(&Grammar::from(vec![rule("a"), rule("no word")])).unwrap_err();
+/// assert_eq!((refusal.reason, refusal.place), (Reason::Rule, 1));
+/// ```
 pub fn print(grammar: &Grammar) -> Result<String, Refusal> {
     let (nodes, rules, store) = grammar.tables();
     let mut out = vec![0; 64 + 2 * store.len() + nodes.len() + 2 * rules.len()];
     loop {
-        let answer = raw::print(nodes, rules, store, &mut out);
-        if answer[0] == 23 {
+        let [number, place, printed] = raw::print(nodes, rules, store, &mut out);
+        if number == Reason::OutputRoom.number() {
             out = vec![0; 2 * out.len()];
             continue;
         }
-        judged(answer[0], answer[1])?;
-        out.truncate(answer[2] as usize);
-        // a printed text is ASCII
-        return Ok(String::from_utf8_lossy(&out).into_owned());
-    }
-}
-
-/// A token of a text: its kind by number, and its bytes from `start` to `end`.
-#[derive(Clone, Copy, Debug, Eq, PartialEq)]
-pub struct Token {
-    /// 1 to 17 `= { } [ ] ( ) & ! ~ | ? * + , @ $`, 18 word, 19 tag, 20 number, 21 negative number, 22 `..`, 23 string,
-    /// 24 `^` string, 25 character literal, 26 `//!` doc, 27 `///` doc.
-    pub kind: u8,
-    /// Its first byte.
-    pub start: usize,
-    /// The byte after its last.
-    pub end: usize,
-}
-
-/// All tokens of a text, blanks and comments left out. Each is asked for by a call of its own, and each call first looks
-/// at the whole text for 1 and 2: this is for looking at texts, not for speed.
-pub fn tokens(text: impl AsRef<[u8]>) -> Result<Vec<Token>, Refusal> {
-    let text = text.as_ref();
-    let mut tokens = Vec::new();
-    let mut at = 0;
-    loop {
-        let [number, place, kind, start, end] = raw::next_token(text, at);
         judged(number, place)?;
-        if kind == 0 {
-            return Ok(tokens);
-        }
-        at = end as usize;
-        tokens.push(Token { kind: kind as u8, start: start as usize, end: at });
+        out.truncate(printed as usize);
+        return Ok(String::from_utf8(out).expect("a printed text is ASCII"));
     }
+}
+
+/// All tokens of a text, blanks and comments left out.
+///
+/// ```
+/// use flascjuvan::{tokens, Reason, TokenKind};
+///
+/// let found = tokens("a = { -1 } // end")?;
+/// assert_eq!((found[3].kind, found[3].start, found[3].end), (TokenKind::NegativeNumber, 6, 8));
+/// let kinds: Vec<_> = found.iter().map(|token| token.kind.to_string()).collect();
+/// assert_eq!(kinds, ["word", "`=`", "`{`", "negative number", "`}`"]);
+/// assert_eq!(tokens("a %").unwrap_err().reason, Reason::NoToken);
+/// # Ok::<(), flascjuvan::Refusal>(())
+/// ```
+pub fn tokens(text: impl AsRef<[u8]>) -> Result<Vec<Token>, Refusal> {
+    token::listed(text.as_ref(), WINDOW)
 }

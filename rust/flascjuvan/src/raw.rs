@@ -1,9 +1,10 @@
-//! The C interface as it is, made safe: lent slices in, the answer's numbers out.
+//! The C interface as it is, made safe: lent slices in, the answer's numbers out, which [`Reason`](crate::Reason) and
+//! [`TokenKind`](crate::TokenKind) name.
 //!
 //! The functions on the other side are proved to answer every input, and ask only for memory that is as their types
-//! say. Rust's slices are that: aligned, never null, as long as they claim, and a `&mut` overlaps nothing. So nothing is
-//! left to test here but that enough stack is free, which no library can. An answer starts out as numbers that none
-//! has, so that one which was not written would show.
+//! say. Rust's slices are that: aligned, never null, as long as they claim, and a `&mut` overlaps nothing. So nothing
+//! is left to test here but that [enough stack](crate#stack) is free, which no library can. An answer starts out as
+//! numbers that none has, so that one which was not written would show.
 
 extern "C" {
     fn flascjuvan_read(
@@ -33,6 +34,13 @@ extern "C" {
 }
 
 /// Reads a text into the fronts of the lent buffers. Number, place, nodes, rules, store bytes.
+///
+/// ```
+/// let (mut nodes, mut rules, mut store) = ([0; 12], [0; 6], [0; 2]);
+/// let answer = flascjuvan::raw::read(b"r = { (a)* }", true, &mut nodes, &mut rules, &mut store);
+/// assert_eq!(answer, [0, 0, 2, 1, 2]);
+/// assert_eq!(flascjuvan::raw::read(b"r = { (a)* }", true, &mut nodes[..6], &mut rules, &mut store), [10, 0, 0, 0, 0]);
+/// ```
 pub fn read(text: &[u8], tagged: bool, nodes: &mut [u32], rules: &mut [u32], store: &mut [u8]) -> [u64; 5] {
     let mut answer = [u64::MAX; 5];
     // SAFETY: each pointer and length is a live slice's, the mutable ones overlap nothing, the answer has five numbers.
@@ -54,6 +62,12 @@ pub fn read(text: &[u8], tagged: bool, nodes: &mut [u32], rules: &mut [u32], sto
 }
 
 /// Prints tables to the front of the lent output. Number, place, bytes.
+///
+/// ```
+/// let mut out = [0; 16];
+/// assert_eq!(flascjuvan::raw::print(&[4, 0, 0, 1, 1, 0], &[0, 1, 0, 0, 0, 0], b"ra", &mut out), [0, 0, 10]);
+/// assert_eq!(&out[..10], b"r = { a }\n");
+/// ```
 pub fn print(nodes: &[u32], rules: &[u32], store: &[u8], out: &mut [u8]) -> [u64; 3] {
     let mut answer = [u64::MAX; 3];
     // SAFETY: as in `read`; the answer has three numbers.
@@ -74,6 +88,11 @@ pub fn print(nodes: &[u32], rules: &[u32], store: &[u8], out: &mut [u8]) -> [u64
 }
 
 /// The next token from a place on. Number, place, kind, start, end.
+///
+/// ```
+/// assert_eq!(flascjuvan::raw::next_token(b"a = ", 1), [0, 0, 1, 2, 3]);
+/// assert_eq!(flascjuvan::raw::next_token(b"a = ", 3), [0, 0, 0, 4, 4]);
+/// ```
 pub fn next_token(text: &[u8], at: usize) -> [u64; 5] {
     let mut answer = [u64::MAX; 5];
     // SAFETY: as in `read`.
