@@ -1,0 +1,9 @@
+//! The subcommands, a file each: their arguments, and what they do.
+
+pub mod check;
+pub mod dropped;
+pub mod explain;
+pub mod print;
+pub mod same;
+pub mod tokens;
+pub mod tree;

@@ -1,0 +1,31 @@
+//! `tree`: what belongs to what.
+
+use std::io;
+
+use flascjuvan::read;
+
+use crate::console::{Answer, Console, Status};
+use crate::input::{Files, Plain};
+use crate::STATUSES;
+
+/// Draw what belongs to what, with spans and lines
+///
+/// A line for each rule and node, children set in below what they belong to. The first two
+/// numbers are the bytes of the text that it spans, counted from 0; then come the line and
+/// the column of its start, counted from 1.
+#[derive(clap::Args)]
+#[command(after_help = STATUSES, verbatim_doc_comment)]
+pub struct Args {
+    #[command(flatten)]
+    plain: Plain,
+    #[command(flatten)]
+    files: Files,
+}
+
+pub fn run(args: &Args, console: &mut Console) -> io::Result<Status> {
+    args.files.each(console, |text, _| {
+        let grammar = read(&text.bytes, args.plain.level())?;
+        let picture = grammar.picture_of(&text.bytes).to_string();
+        Ok(Answer(args.files.titled(text, picture), Status::Good))
+    })
+}

@@ -1,0 +1,67 @@
+use crate::{err, out, Folder};
+
+// that each example answers its number and place is tested beside the examples
+
+#[test]
+fn all_numbers() {
+    let ran = Folder::new().run("explain");
+    assert_eq!((ran.status, &ran.err[..]), (0, ""));
+    let numbers: Vec<&str> = ran.out.lines().map(|line| line[..2].trim()).collect();
+    assert_eq!(numbers.join(" "), "1 2 3 4 5 6 7 8 9 10 11 12 13 20 21 22 23");
+    assert!(ran.out.starts_with(" 1  the text has over 65,536 bytes\n 2  the text is not UTF-8\n"));
+}
+
+#[test]
+fn a_refusal_in_words() {
+    let said = "\
+refused 5: a repeat number over 4,294,967,295
+
+What it means
+A repeat's number is at most 4,294,967,295. Leading zeros don't count.
+
+Place
+The number's first byte.
+
+Order
+After 1, 2, 3, 4 and 9, so in a text whose tokens are all good and well placed. 5, 6,
+7, 8 and 13 are looked for together, from the left.
+
+Example
+  |
+1 | a={b{4294967296}}
+  |      ^
+refused 5 at 5
+
+How people get it, and what to do
+A digit too many, or a number meant as `any`. Without an upper bound write {n,}.
+
+A large number for `any more`:
+    a = { b{1, 9999999999} }    refused 5 at 11
+    a = { b{1,} }               is read
+";
+    assert_eq!(Folder::new().run("explain 5"), out(0, said));
+}
+
+#[test]
+fn every_number_has_words() {
+    for number in (1..=13).chain(20..=23) {
+        let ran = Folder::new().run(&format!("explain {number}"));
+        assert_eq!((ran.status, &ran.err[..]), (0, ""));
+        assert!(ran.out.starts_with(&format!("refused {number}: ")));
+        assert!(
+            ran.out.contains(&format!(": refused {number} at "))
+                || ran.out.contains(&format!("\nrefused {number} at "))
+        );
+    }
+}
+
+#[test]
+fn other_numbers_are_wrong_usage() {
+    for number in ["0", "14", "19", "24", "18446744073709551615"] {
+        let said =
+            format!("flascjuvan: there is no refusal {number}; `flascjuvan explain` lists them\n");
+        assert_eq!(Folder::new().run(&format!("explain {number}")), err(2, &said));
+    }
+    assert_eq!(Folder::new().run("explain four").status, 2);
+    assert_eq!(Folder::new().run("explain 4 5").status, 2);
+}
