@@ -12,35 +12,13 @@
  *   - 2 MB of stack are free (the most that was seen to be needed: 1,400 KB to read rules of 1,024 brackets inside one
  *     another, 1,440 KB to print tables 4,096 nodes deep).
  *
- * Every function writes all of `answer`. answer[0] is a number of this table, answer[1] its place:
+ * Every function writes all of `answer`. answer[0] is a number of enum flascjuvan_refusal, answer[1] its place. A place
+ * counts bytes of the text from 0; an index counts records. After any number but 0 every lent buffer but `answer` is as
+ * it was, and every count in `answer` is 0. After 0 only what is reported as used has changed. If several faults are
+ * there, the reader gives the first of this order: 1; 2; 3; 4 and 9, the leftmost; 5, 6, 7, 8 and 13, the leftmost; 12;
+ * 10; 11. The printer gives the first of 20, 21, 22, 23.
  *
- *     0  done                                                           place 0
- *   from flascjuvan_read and flascjuvan_next_token
- *     1  the text has over 65,536 bytes                                 place 0
- *     2  the text is not UTF-8                                          where the first bad sequence starts
- *     3  no token can be made of what stands here                       its first byte
- *   from flascjuvan_read alone
- *     4  a token that isn't allowed here, or the text ends too early    the token, or the text's length
- *     5  a repeat number over 4,294,967,295                             the number
- *     6  a repeat of exactly 0, or of at most 0                         the number
- *     7  a PEEK number that 32 signed bits can't hold                   the number
- *     8  an escape of a surrogate, or above U+10FFFF                    its backslash
- *     9  a ( that would make 1,025 open at once                         the (
- *    10  more nodes than 4,096, or than whole records lent              place 0
- *    11  more store bytes than lent                                     place 0
- *    12  more rules than 1,024, or than whole records lent              place 0
- *    13  plain reading only: PUSH_LITERAL                               the word
- *   from flascjuvan_print alone
- *    20  a table that isn't whole records or has too many (4,096 nodes, 1,024 rules), or a store over 65,536 bytes
- *                                                                       place 0
- *    21  a node record that is false                                    its index
- *    22  a rule record that is false, or nodes left over                its index, or the number of rules
- *    23  the printed text is longer than the lent output                place 0
- *
- * 14 to 19, and numbers above 23, are never given. A place counts bytes of the text from 0; an index counts records.
- * After any number but 0 every lent buffer but `answer` is as it was, and every count in `answer` is 0. After 0 only
- * what is reported as used has changed. If several faults are there, the reader gives the first of this order: 1; 2; 3;
- * 4 and 9, the leftmost; 5, 6, 7, 8 and 13, the leftmost; 12; 10; 11. The printer gives the first of 20, 21, 22, 23.
+ * examples/c has a program that uses all of it.
  */
 #ifndef FLASCJUVAN_H
 #define FLASCJUVAN_H
@@ -52,21 +30,170 @@
 extern "C" {
 #endif
 
+/* answer[0]. The numbers between 13 and 20, and those above 23, are never given. */
+enum flascjuvan_refusal {
+    FLASCJUVAN_DONE = 0, /* nothing is refused; place 0 */
+
+    /* from flascjuvan_read and flascjuvan_next_token */
+    FLASCJUVAN_REFUSED_TOO_LONG = 1, /* the text has over 65,536 bytes; place 0 */
+    FLASCJUVAN_REFUSED_NOT_UTF8 = 2, /* the text is not UTF-8; where the first bad sequence starts */
+    FLASCJUVAN_REFUSED_NO_TOKEN = 3, /* no token can be made of what stands here; its first byte */
+
+    /* from flascjuvan_read alone */
+    FLASCJUVAN_REFUSED_NOT_ALLOWED = 4, /* a token that isn't allowed here, or the text ends too early; the token, or
+                                           the text's length */
+    FLASCJUVAN_REFUSED_OVER = 5,        /* a repeat number over 4,294,967,295; the number */
+    FLASCJUVAN_REFUSED_ZERO = 6,        /* a repeat of exactly 0, or of at most 0; the number */
+    FLASCJUVAN_REFUSED_PEEK_RANGE = 7,  /* a PEEK number that 32 signed bits can't hold; the number */
+    FLASCJUVAN_REFUSED_NOT_SCALAR = 8,  /* an escape of a surrogate, or above U+10FFFF; its backslash */
+    FLASCJUVAN_REFUSED_TOO_DEEP = 9,    /* a ( that would make 1,025 open at once; the ( */
+    FLASCJUVAN_REFUSED_NODES_ROOM = 10, /* more nodes than 4,096, or than whole records lent; place 0 */
+    FLASCJUVAN_REFUSED_STORE_ROOM = 11, /* more store bytes than lent; place 0 */
+    FLASCJUVAN_REFUSED_RULES_ROOM = 12, /* more rules than 1,024, or than whole records lent; place 0 */
+    FLASCJUVAN_REFUSED_NOT_PLAIN = 13,  /* plain reading only: PUSH_LITERAL; the word */
+
+    /* from flascjuvan_print alone */
+    FLASCJUVAN_REFUSED_SHAPE = 20,      /* a table that isn't whole records or has too many (4,096 nodes, 1,024 rules),
+                                           or a store over 65,536 bytes; place 0 */
+    FLASCJUVAN_REFUSED_NODE = 21,       /* a node record that is false; its index */
+    FLASCJUVAN_REFUSED_RULE = 22,       /* a rule record that is false; its index. Or nodes left over; the number of
+                                           rules */
+    FLASCJUVAN_REFUSED_OUTPUT_ROOM = 23 /* the printed text is longer than the lent output; place 0 */
+};
+
+/* Where the numbers of an answer stand. */
+enum flascjuvan_answer {
+    FLASCJUVAN_ANSWER_NUMBER = 0, /* of every function */
+    FLASCJUVAN_ANSWER_PLACE = 1,
+    FLASCJUVAN_READ_NODES = 2, /* of flascjuvan_read: records */
+    FLASCJUVAN_READ_RULES = 3, /* records */
+    FLASCJUVAN_READ_STORE = 4, /* bytes */
+    FLASCJUVAN_PRINT_USED = 2, /* of flascjuvan_print: bytes */
+    FLASCJUVAN_NEXT_KIND = 2,  /* of flascjuvan_next_token: a number of enum flascjuvan_token */
+    FLASCJUVAN_NEXT_START = 3,
+    FLASCJUVAN_NEXT_END = 4
+};
+
 /* Numbers in a node record and in a rule record. */
 #define FLASCJUVAN_RECORD 6
 
-/* The most that is ever used: numbers of nodes, numbers of rules, bytes of a text or a printed store. */
+/* The most that is ever used: numbers of nodes, numbers of rules, bytes of a text or a printed store. Buffers of these
+ * sizes are always enough to read into. A text of n bytes never uses more than n nodes, n rules and n store bytes. */
 #define FLASCJUVAN_NODES (4096 * FLASCJUVAN_RECORD)
 #define FLASCJUVAN_RULES (1024 * FLASCJUVAN_RECORD)
 #define FLASCJUVAN_TEXT 65536
+
+/* Where the numbers of a node record stand. Start and end are the bytes of the text that the node spans; the end is the
+ * byte after the last. */
+enum flascjuvan_node_field {
+    FLASCJUVAN_FIELD_KIND = 0, /* a number of enum flascjuvan_node */
+    FLASCJUVAN_FIELD_START = 1,
+    FLASCJUVAN_FIELD_END = 2,
+    FLASCJUVAN_FIELD_P = 3,
+    FLASCJUVAN_FIELD_Q = 4,
+    FLASCJUVAN_FIELD_R = 5
+};
+
+/* Kinds of nodes, with an example of each, and what p, q and r are; those that aren't named are 0.
+ *
+ * A child is the index of a node record. Children come first: left, right, then the node. So a lone child and a right
+ * child are the record just before the node's, and a loop over the records from the front meets each node after its
+ * children. An offset counts bytes of the store. Strings stand there with their escapes undone. */
+enum flascjuvan_node {
+    FLASCJUVAN_NODE_STR = 1,           /* "a"           p offset, q length */
+    FLASCJUVAN_NODE_INSENS = 2,        /* ^"a"          p offset, q length */
+    FLASCJUVAN_NODE_RANGE = 3,         /* 'a'..'z'      p first, q last character (a Unicode scalar value) */
+    FLASCJUVAN_NODE_IDENT = 4,         /* a             p offset, q length of the name */
+    FLASCJUVAN_NODE_PEEK_SLICE = 5,    /* PEEK[1..-2]   p start, q 1 if there is an end, r the end; start and end are
+                                                        in two's complement, and a start that isn't written is 0 */
+    FLASCJUVAN_NODE_POS_PRED = 6,      /* &a            p child */
+    FLASCJUVAN_NODE_NEG_PRED = 7,      /* !a            p child */
+    FLASCJUVAN_NODE_SEQ = 8,           /* a ~ b         p left, q right child */
+    FLASCJUVAN_NODE_CHOICE = 9,        /* a | b         p left, q right child */
+    FLASCJUVAN_NODE_OPT = 10,          /* a?            p child */
+    FLASCJUVAN_NODE_REP = 11,          /* a*            p child */
+    FLASCJUVAN_NODE_REP_ONCE = 12,     /* a+            p child */
+    FLASCJUVAN_NODE_REP_EXACT = 13,    /* a{2}          p child, q count */
+    FLASCJUVAN_NODE_REP_MIN = 14,      /* a{2,}         p child, q count */
+    FLASCJUVAN_NODE_REP_MAX = 15,      /* a{,2}         p child, q count */
+    FLASCJUVAN_NODE_REP_MIN_MAX = 16,  /* a{2, 3}       p child, q least, r most */
+    FLASCJUVAN_NODE_PUSH = 17,         /* PUSH(a)       p child */
+    FLASCJUVAN_NODE_PUSH_LITERAL = 18, /* PUSH_LITERAL("a")   p offset, q length; tagged reading only */
+    FLASCJUVAN_NODE_NODE_TAG = 19      /* #t = a        p child, q offset, r length of the tag without its #; tagged
+                                                        reading only */
+};
+
+/* Where the numbers of a rule record stand. Start and end are the bytes of the text that the name spans. The rule's
+ * nodes are those after the root of the rule before it, up to its own root. */
+enum flascjuvan_rule_field {
+    FLASCJUVAN_RULE_NAME = 0, /* offset in the store */
+    FLASCJUVAN_RULE_NAME_LENGTH = 1,
+    FLASCJUVAN_RULE_MARK = 2, /* a number of enum flascjuvan_mark */
+    FLASCJUVAN_RULE_ROOT = 3, /* the index of a node record */
+    FLASCJUVAN_RULE_START = 4,
+    FLASCJUVAN_RULE_END = 5
+};
+
+/* Marks of rules. */
+enum flascjuvan_mark {
+    FLASCJUVAN_MARK_NORMAL = 0,          /* a = { b } */
+    FLASCJUVAN_MARK_SILENT = 1,          /* a = _{ b } */
+    FLASCJUVAN_MARK_ATOMIC = 2,          /* a = @{ b } */
+    FLASCJUVAN_MARK_COMPOUND_ATOMIC = 3, /* a = ${ b } */
+    FLASCJUVAN_MARK_NON_ATOMIC = 4       /* a = !{ b } */
+};
+
+/* Kinds of tokens, with their looks. */
+enum flascjuvan_token {
+    FLASCJUVAN_TOKEN_NONE = 0,                /* no token is left */
+    FLASCJUVAN_TOKEN_EQUALS = 1,              /* = */
+    FLASCJUVAN_TOKEN_OPENING_BRACE = 2,       /* { */
+    FLASCJUVAN_TOKEN_CLOSING_BRACE = 3,       /* } */
+    FLASCJUVAN_TOKEN_OPENING_BRACK = 4,       /* [ */
+    FLASCJUVAN_TOKEN_CLOSING_BRACK = 5,       /* ] */
+    FLASCJUVAN_TOKEN_OPENING_PAREN = 6,       /* ( */
+    FLASCJUVAN_TOKEN_CLOSING_PAREN = 7,       /* ) */
+    FLASCJUVAN_TOKEN_AMPERSAND = 8,           /* & */
+    FLASCJUVAN_TOKEN_EXCLAMATION = 9,         /* ! */
+    FLASCJUVAN_TOKEN_TILDE = 10,              /* ~ */
+    FLASCJUVAN_TOKEN_BAR = 11,                /* | */
+    FLASCJUVAN_TOKEN_QUESTION = 12,           /* ? */
+    FLASCJUVAN_TOKEN_STAR = 13,               /* * */
+    FLASCJUVAN_TOKEN_PLUS = 14,               /* + */
+    FLASCJUVAN_TOKEN_COMMA = 15,              /* , */
+    FLASCJUVAN_TOKEN_AT = 16,                 /* @ */
+    FLASCJUVAN_TOKEN_DOLLAR = 17,             /* $ */
+    FLASCJUVAN_TOKEN_WORD = 18,               /* a, PUSH, _ */
+    FLASCJUVAN_TOKEN_TAG = 19,                /* #a */
+    FLASCJUVAN_TOKEN_NUMBER = 20,             /* 12 */
+    FLASCJUVAN_TOKEN_NEGATIVE_NUMBER = 21,    /* -12 */
+    FLASCJUVAN_TOKEN_DOTS = 22,               /* .. */
+    FLASCJUVAN_TOKEN_STRING = 23,             /* "a" */
+    FLASCJUVAN_TOKEN_INSENSITIVE_STRING = 24, /* ^"a" */
+    FLASCJUVAN_TOKEN_CHARACTER = 25,          /* 'a' */
+    FLASCJUVAN_TOKEN_GRAMMAR_DOC = 26,        /* //! up to the line's end */
+    FLASCJUVAN_TOKEN_LINE_DOC = 27            /* /// up to the line's end */
+};
+
+/* The library is of machines with 64-bit sizes, and a record has as many numbers as fields. */
+#if defined(__cplusplus) && __cplusplus >= 201103L
+#define FLASCJUVAN_ASSERT(what, words) static_assert(what, words)
+#elif !defined(__cplusplus) && defined(__STDC_VERSION__) && __STDC_VERSION__ >= 201112L
+#define FLASCJUVAN_ASSERT(what, words) _Static_assert(what, words)
+#endif
+#ifdef FLASCJUVAN_ASSERT
+FLASCJUVAN_ASSERT(sizeof(size_t) == sizeof(uint64_t), "flascjuvan needs a machine with 64-bit sizes");
+FLASCJUVAN_ASSERT(FLASCJUVAN_FIELD_R + 1 == FLASCJUVAN_RECORD, "a node record has six numbers");
+FLASCJUVAN_ASSERT(FLASCJUVAN_RULE_END + 1 == FLASCJUVAN_RECORD, "a rule record has six numbers");
+#undef FLASCJUVAN_ASSERT
+#endif
 
 /* Reads a text into tables.
  *
  * tagged: 0 reads plain (tags are dropped, PUSH_LITERAL is 13); every other value reads tagged (tags are kept).
  * answer: number, place, nodes, rules, store bytes. Nodes and rules are counted in records of six numbers.
  *
- * A node record is kind, span start, span end, p, q, r; a rule record is name offset, name length, mark, root, span
- * start, span end. README.md says what the numbers of each kind are. */
+ * The store holds names, tags and strings in the order of the text. */
 void flascjuvan_read(const uint8_t *text, size_t text_len, uint32_t tagged,
                      uint32_t *nodes, size_t nodes_len,
                      uint32_t *rules, size_t rules_len,
@@ -85,8 +212,8 @@ void flascjuvan_print(const uint32_t *nodes, size_t nodes_len,
 
 /* The next token of a text from the place `at` on, past blanks and comments. `at` may be any number.
  *
- * answer: number, place, kind (1 to 27), start, end. At or past the text's end, and where only blanks are left, number
- * and kind are 0, and start and end are the text's length. Ask for the token after this one at its end. */
+ * answer: number, place, kind, start, end. At or past the text's end, and where only blanks are left, number and kind are 0,
+ * and start and end are the text's length. Ask for the token after this one at its end. */
 void flascjuvan_next_token(const uint8_t *text, size_t text_len, size_t at, uint64_t answer[5]);
 
 #ifdef __cplusplus
