@@ -15,7 +15,9 @@ fn main() {
     for name in ["FLASCJUVAN_LIB_DIR", "PKG_CONFIG", "PKG_CONFIG_PATH", "PKG_CONFIG_LIBDIR"] {
         println!("cargo:rerun-if-env-changed={name}");
     }
-    let root = Path::new(env!("CARGO_MANIFEST_DIR")).join("../..");
+    // asked when it runs: a build script that was compiled for the package is run for the repository too
+    let here = env::var_os("CARGO_MANIFEST_DIR").unwrap_or_else(|| fail("cargo names no folder of the package"));
+    let root = Path::new(&here).join("../..");
     let dir = match env::var_os("FLASCJUVAN_LIB_DIR") {
         Some(dir) => named(dir),
         None if root.join("scripts/native-lib").is_file() => made(&root),
