@@ -7,8 +7,7 @@ ghost use Rattle.text.specs.Digits.{decimal};
 ghost use Rattle.text.specs.Splice.{Room, Wrote, spent};
 ghost use Rattle.show.specs.Line.{refusalLine};
 
-// What is left after a number in decimal. `text` has both functions for 32 bits, and divides by those alone
-// since the printer's time hangs on it; the laws are its own.
+// What is left after a number in decimal. `text` has this and the next one for 32 bits; the laws are its own.
 fn spend_number(left: usize, n: u64) -> usize
     ensures { λ r. ⌜ r ≡ spent left (decimal n) ⌝ }
 {
