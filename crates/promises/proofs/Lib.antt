@@ -23,3 +23,4 @@ pub mod Sample
 pub mod Twelve
 pub mod Unique
 pub mod Wrong
+pub mod Matches

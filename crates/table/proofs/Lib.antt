@@ -14,4 +14,6 @@ pub mod Flats
 pub mod Trees
 pub mod Rules
 pub mod Tables
+pub mod Names
+pub mod Characters
 pub mod Regroups

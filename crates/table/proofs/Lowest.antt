@@ -1,5 +1,5 @@
 -- Laws of the lowest index at which a test fails.
-use mathlib.Core.Path.{_≡_, refl, sym}
+use mathlib.Core.Path.{_≡_, refl, sym, _∙_}
 use mathlib.Core.Bool.{Bool, true, false}
 use mathlib.Core.Logic.{⊎-elim}
 use Prim.Native.Nat.{ℕ, zero, suc, _+_, _<_}
@@ -49,3 +49,14 @@ module _ (f : ℕ → Bool) where
       let b : lowest f n ≡ Good = lowest-all n (λ k l. h k (omega arith)) in
       let g : f n ≡ true = h n (omega arith) in
       rw (lowest, b, g)
+
+  -- the failure is one
+  pub lowest-fails : (n k : ℕ) → lowest f n ≡ Bad k → (k < n) × (f k ≡ false)
+  unfolding lowest
+  lowest-fails zero k e = let z : _≡_ {A = ℕ} 0 1 = cc in absurd (omega arith)
+  lowest-fails (suc n) k e = by (lowest f n) (f n) refl refl e (lowest-fails n k)
+    where
+      by : (c : Check) (g : Bool) → lowest f n ≡ c → f n ≡ g → lowestBy c g n ≡ Bad k → (lowest f n ≡ Bad k → (k < n) × (f k ≡ false)) → (k < suc n) × (f k ≡ false)
+      by (Bad j) g p q w ih = let r = ih (p ∙ w) in (omega (arith, r .0), r .1)
+      by Good true p q w ih = let z : _≡_ {A = ℕ} 0 1 = cc in absurd (omega arith)
+      by Good false p q w ih = let z : n ≡ k = cc in (omega arith, rw z at q)

@@ -5,3 +5,5 @@ pub mod Record
 pub mod Flat
 pub mod Check
 pub mod Kids
+pub mod Characters
+pub mod Names

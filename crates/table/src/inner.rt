@@ -1,3 +1,6 @@
-// What the crates above build on: records by their index, and the parts of the check.
+// What the crates above build on: records by their index, the parts of the check, the rule of a name,
+// and characters.
+pub mod characters;
 pub mod checks;
+pub mod names;
 pub mod records;

@@ -79,6 +79,24 @@ pub enum TableCheck {
     Rule(usize),
 }
 
+// The place of a fault, if there is one.
+pub enum Fault {
+    None,
+    At(usize),
+}
+
+// A character with the length of its sequence.
+pub enum Character {
+    Is(u32, usize),
+    Broken,
+}
+
+// The rule of a name, by its index.
+pub enum Named {
+    By(usize),
+    Nobody,
+}
+
 // A rule record but for its span: where the name lies, the mark, and the root.
 pub struct Head {
     pub offset: usize,
