@@ -1,6 +1,6 @@
-/* Flascjuvan: reading and printing of pest grammars, for C and whatever calls C.
+/* Flascjuvan: reading and printing of pest grammars, and running their rules over lines, for C and whatever calls C.
  *
- * Three functions over lent memory. None of them allocates, keeps anything between calls, reads or writes a file, or
+ * Six functions over lent memory. None of them allocates, keeps anything between calls, reads or writes a file, or
  * fails to return; any number of threads may call them at once. Each is proved to answer every input as the rules say
  * (crates/exports/src/lib.rt has the promises). What no proof can see is this side of the call, so see to it that
  *
@@ -10,15 +10,15 @@
  *   - what is written (not const) overlaps nothing else that is lent to the same call, and no other thread touches it
  *     until the call returns;
  *   - 2 MB of stack are free (the most that was seen to be needed: 1,400 KB to read rules of 1,024 brackets inside one
- *     another, 1,440 KB to print tables 4,096 nodes deep).
+ *     another, 1,440 KB to print tables 4,096 nodes deep, 326 KB to run a rule 1,024 visits deep).
  *
  * Every function writes all of `answer`. answer[0] is a number of enum flascjuvan_refusal, answer[1] its place. A place
  * counts bytes of the text from 0; an index counts records. After any number but 0 every lent buffer but `answer` is as
  * it was, and every count in `answer` is 0. After 0 only what is reported as used has changed. If several faults are
  * there, the reader gives the first of this order: 1; 2; 3; 4 and 9, the leftmost; 5, 6, 7, 8 and 13, the leftmost; 12;
- * 10; 11. The printer gives the first of 20, 21, 22, 23.
+ * 10; 11. The printer gives the first of 20, 21, 22, 23; the functions that run rules the first of 30, 31, 32, 33, 34.
  *
- * examples/c has a program that uses all of it.
+ * examples/c has programs that use all of it.
  */
 #ifndef FLASCJUVAN_H
 #define FLASCJUVAN_H
@@ -30,7 +30,7 @@
 extern "C" {
 #endif
 
-/* answer[0]. The numbers between 13 and 20, and those above 23, are never given. */
+/* answer[0]. The numbers between 13 and 20, those between 23 and 30, and those above 34 are never given. */
 enum flascjuvan_refusal {
     FLASCJUVAN_DONE = 0, /* nothing is refused; place 0 */
 
@@ -53,12 +53,24 @@ enum flascjuvan_refusal {
     FLASCJUVAN_REFUSED_NOT_PLAIN = 13,  /* plain reading only: PUSH_LITERAL; the word */
 
     /* from flascjuvan_print alone */
-    FLASCJUVAN_REFUSED_SHAPE = 20,      /* a table that isn't whole records or has too many (4,096 nodes, 1,024 rules),
-                                           or a store over 65,536 bytes; place 0 */
-    FLASCJUVAN_REFUSED_NODE = 21,       /* a node record that is false; its index */
-    FLASCJUVAN_REFUSED_RULE = 22,       /* a rule record that is false; its index. Or nodes left over; the number of
-                                           rules */
-    FLASCJUVAN_REFUSED_OUTPUT_ROOM = 23 /* the printed text is longer than the lent output; place 0 */
+    FLASCJUVAN_REFUSED_SHAPE = 20,       /* a table that isn't whole records or has too many (4,096 nodes, 1,024 rules),
+                                            or a store over 65,536 bytes; place 0 */
+    FLASCJUVAN_REFUSED_NODE = 21,        /* a node record that is false; its index */
+    FLASCJUVAN_REFUSED_RULE = 22,        /* a rule record that is false; its index. Or nodes left over; the number of
+                                            rules */
+    FLASCJUVAN_REFUSED_OUTPUT_ROOM = 23, /* the printed text is longer than the lent output; place 0 */
+
+    /* from flascjuvan_match and flascjuvan_match_lines; 30 and 32 from flascjuvan_rule_named too. 33 and 34 are those of
+       a line: flascjuvan_match_lines gives them in its record */
+    FLASCJUVAN_REFUSED_FALSE_TABLES = 30,  /* tables that the printer would refuse by 20, 21 or 22; place 0 */
+    FLASCJUVAN_REFUSED_UNFIT = 31,         /* a node that can't be run, reached or not: PEEK[..], PUSH, PUSH_LITERAL, a
+                                              tag, or a repeat whose least is above its most; the lowest such index */
+    FLASCJUVAN_REFUSED_NO_RULE = 32,       /* no rule at the start's index, a name that is neither ANY nor a rule's, a
+                                              rule called ANY, or two rules of one name; place 0. From
+                                              flascjuvan_rule_named: no rule of that name; place 0 */
+    FLASCJUVAN_REFUSED_LINE_NOT_UTF8 = 33, /* the line is not UTF-8; where its first bad sequence starts, from the line's
+                                              start */
+    FLASCJUVAN_REFUSED_OVERRUN = 34        /* over 1,024 visits inside one another, or more steps than allowed; place 0 */
 };
 
 /* Where the numbers of an answer stand. */
@@ -71,8 +83,17 @@ enum flascjuvan_answer {
     FLASCJUVAN_PRINT_USED = 2, /* of flascjuvan_print: bytes */
     FLASCJUVAN_NEXT_KIND = 2,  /* of flascjuvan_next_token: a number of enum flascjuvan_token */
     FLASCJUVAN_NEXT_START = 3,
-    FLASCJUVAN_NEXT_END = 4
+    FLASCJUVAN_NEXT_END = 4,
+    FLASCJUVAN_MATCH_MATCHED = 2, /* of flascjuvan_match, and of a record: 1 if the line matched, else 0 */
+    FLASCJUVAN_MATCH_LENGTH = 3,  /* bytes from the line's start */
+    FLASCJUVAN_MATCH_STEPS = 4,
+    FLASCJUVAN_LINES_RUN = 2,  /* of flascjuvan_match_lines: how many lines have a record */
+    FLASCJUVAN_LINES_NEXT = 3, /* the place where the next line begins */
+    FLASCJUVAN_NAMED_RULE = 2  /* of flascjuvan_rule_named: the index of a rule record */
 };
+
+/* Numbers in the record of a line. */
+#define FLASCJUVAN_LINE_RECORD 5
 
 /* Numbers in a node record and in a rule record. */
 #define FLASCJUVAN_RECORD 6
@@ -185,6 +206,7 @@ enum flascjuvan_token {
 FLASCJUVAN_ASSERT(sizeof(size_t) == sizeof(uint64_t), "flascjuvan needs a machine with 64-bit sizes");
 FLASCJUVAN_ASSERT(FLASCJUVAN_FIELD_R + 1 == FLASCJUVAN_RECORD, "a node record has six numbers");
 FLASCJUVAN_ASSERT(FLASCJUVAN_RULE_END + 1 == FLASCJUVAN_RECORD, "a rule record has six numbers");
+FLASCJUVAN_ASSERT(FLASCJUVAN_MATCH_STEPS + 1 == FLASCJUVAN_LINE_RECORD, "a line's record has five numbers");
 #undef FLASCJUVAN_ASSERT
 #endif
 
@@ -215,6 +237,54 @@ void flascjuvan_print(const uint32_t *nodes, size_t nodes_len,
  * answer: number, place, kind, start, end. At or past the text's end, and where only blanks are left, number and kind are 0,
  * and start and end are the text's length. Ask for the token after this one at its end. */
 void flascjuvan_next_token(const uint8_t *text, size_t text_len, size_t at, uint64_t answer[5]);
+
+/* Runs the rule at the index `start` over a line, from its first byte on. Lend exactly the tables, as for printing. The
+ * line may have any bytes, line ends too, and any length.
+ *
+ * Choice is ordered, a repeat takes all it can and gives nothing back, and nothing is implicit: no blanks, and marks of
+ * rules change nothing. ANY is one character; ^"a" ignores the case of ASCII letters alone. Each visit to a node is a
+ * step, failed and repeated ones too; allowance says how many there may be, and a run that needs exactly so many is not
+ * refused. A larger allowance never alters the length or the steps of a run that ended.
+ *
+ * answer: number, place, 1 if the line matched or 0, how many bytes matched, steps. A match may have 0 bytes. */
+void flascjuvan_match(const uint32_t *nodes, size_t nodes_len,
+                      const uint32_t *rules, size_t rules_len,
+                      const uint8_t *store, size_t store_len,
+                      size_t start,
+                      const uint8_t *line, size_t line_len,
+                      uint64_t allowance,
+                      uint64_t answer[5]);
+
+/* Runs a rule over each line of a text as flascjuvan_match does, each line with the whole allowance. The tables are
+ * checked and their names looked up once a call, not once a line.
+ *
+ * LF ends a line, and a CR right before it belongs to that end; any other CR is a byte of its line. The last line may
+ * lack its LF; behind a last LF there is no line. Each line's five numbers, those of flascjuvan_match, stand in the
+ * record of its index. 33 and 34 are the line's own, and stand there; the next lines are run nonetheless.
+ *
+ * Full records are no refusal. As many lines are run as there are whole records lent; the next begins at the place
+ * answer[3] of the text. It is the text's length if all were run. To go on, lend the text from there. A text that comes
+ * in pieces should be lent up to a line's end: what is lent is taken for whole lines.
+ *
+ * answer: number (0, 30, 31 or 32), place, lines run, the place where the next line begins. */
+void flascjuvan_match_lines(const uint32_t *nodes, size_t nodes_len,
+                            const uint32_t *rules, size_t rules_len,
+                            const uint8_t *store, size_t store_len,
+                            size_t start,
+                            const uint8_t *text, size_t text_len,
+                            uint64_t allowance,
+                            uint64_t *records, size_t records_len,
+                            uint64_t answer[4]);
+
+/* The index of the lowest rule of a name, compared by bytes. It looks at the tables alone (30), not at whether they can
+ * be run (31 and the other reasons for 32).
+ *
+ * answer: number (0, 30 or 32), place 0, the rule's index. */
+void flascjuvan_rule_named(const uint32_t *nodes, size_t nodes_len,
+                           const uint32_t *rules, size_t rules_len,
+                           const uint8_t *store, size_t store_len,
+                           const uint8_t *name, size_t name_len,
+                           uint64_t answer[3]);
 
 #ifdef __cplusplus
 }

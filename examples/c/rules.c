@@ -4,7 +4,7 @@
  *     ./rules layouts/pan.pest        or standard input, if no file is named
  *
  * Exit status: 0 printed; 1 refused, with one line on standard error; 2 anything else that went wrong.
- * It shows all three functions of flascjuvan.h, in C that is C++ too. */
+ * It shows the functions of flascjuvan.h that read, print and list tokens, in C that is C++ too. */
 #include <stdio.h>
 #include <stdlib.h>
 #include <string.h>

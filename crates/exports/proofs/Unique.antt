@@ -7,7 +7,10 @@ use Rattle.structure.specs.declared.Level.{Level}
 use Rattle.reader.specs.Read.{roomForNodes, roomForRules, readOf, reported, Leaves}
 use Rattle.printer.specs.Answers as Answers
 use Rattle.token.specs.Lister.{lister}
-use Rattle.exports.specs.Numbers.{levelOf, readNumbers, printNumbers, tokenNumbers}
+use Rattle.matcher.specs.Answers as Match
+use Rattle.matcher.specs.Lines.{fields, linesOf, recordsOf, tallied}
+use Rattle.matcher.specs.Sought.{foundOf, finding}
+use Rattle.exports.specs.Numbers.{levelOf, readNumbers, printNumbers, tokenNumbers, tallyNumbers, findingNumbers}
 
 -- flascjuvan_read: the answer, and what the three buffers hold
 pub record Read (s : List ℕ) (tagged : ℕ) (ns rs st answer ns′ rs′ st′ : List ℕ) : Type 0 where
@@ -30,3 +33,22 @@ print-unique v u = (v .answered ∙ sym (u .answered), v .written ∙ sym (u .wr
 -- flascjuvan_next_token: the answer
 pub token-unique : (s : List ℕ) (at : ℕ) {a b : List ℕ} → a ≡ tokenNumbers (lister s at) → b ≡ tokenNumbers (lister s at) → a ≡ b
 token-unique s at v u = v ∙ sym u
+
+-- flascjuvan_match: the answer
+pub match-unique : (ns rs st : List ℕ) (start : ℕ) (line : List ℕ) (allowance : ℕ) {a b : List ℕ} → a ≡ fields (Match.numbered (Match.matchOf ns rs st start line allowance))
+    → b ≡ fields (Match.numbered (Match.matchOf ns rs st start line allowance)) → a ≡ b
+match-unique ns rs st start line allowance v u = v ∙ sym u
+
+-- flascjuvan_match_lines: the answer, and what the records hold
+pub record Matched (ns rs st : List ℕ) (start : ℕ) (text : List ℕ) (allowance : ℕ) (o answer o′ : List ℕ) : Type 0 where
+  pub answered : answer ≡ tallyNumbers (tallied (linesOf ns rs st start text (length o)))
+  pub written : o′ ≡ recordsOf ns rs st start text allowance o
+
+pub match-lines-unique : {ns rs st : List ℕ} {start : ℕ} {text : List ℕ} {allowance : ℕ} {o a b x y : List ℕ} → Matched ns rs st start text allowance o a b
+    → Matched ns rs st start text allowance o x y → (a ≡ x) × (b ≡ y)
+match-lines-unique v u = (v .answered ∙ sym (u .answered), v .written ∙ sym (u .written))
+
+-- flascjuvan_rule_named: the answer
+pub rule-named-unique : (ns rs st name : List ℕ) {a b : List ℕ} → a ≡ findingNumbers (finding (foundOf ns rs st name))
+    → b ≡ findingNumbers (finding (foundOf ns rs st name)) → a ≡ b
+rule-named-unique ns rs st name v u = v ∙ sym u

@@ -1,7 +1,10 @@
-// The C interface: reading, printing and listing tokens, on numbers and slices.
+// The C interface: reading, printing, listing tokens and matching lines, on numbers and slices.
 //
 // Each function answers every input and asks nothing of its caller but memory that is as the types
 // say. include/flascjuvan.h declares them for C.
+use matcher::Finding;
+use matcher::Row;
+use matcher::Tally;
 use printer::Printed;
 use reader::Reading;
 use structure::Level;
@@ -13,7 +16,11 @@ ghost use Rattle.printer.specs.Answers.{printOf, printIn};
 ghost use Rattle.printer.specs.Answers.{numbered as printNumbered, reported as printReported};
 ghost use Rattle.reader.specs.Read.{roomForNodes, roomForRules, readOf, Leaves};
 ghost use Rattle.reader.specs.Read.{numbered as readNumbered, reported as readReported};
-ghost use Rattle.exports.specs.Numbers.{levelOf, readNumbers, printNumbers, tokenNumbers};
+ghost use Rattle.matcher.specs.Answers.{matchOf};
+ghost use Rattle.matcher.specs.Answers.{numbered as lineNumbered};
+ghost use Rattle.matcher.specs.Lines.{fields, linesOf, recordsOf, tallied};
+ghost use Rattle.matcher.specs.Sought.{foundOf, finding};
+ghost use Rattle.exports.specs.Numbers.{levelOf, readNumbers, printNumbers, tokenNumbers, tallyNumbers, findingNumbers};
 
 // The level that a number names: 0 is plain, every other is tagged.
 fn level_of(tagged: u32) -> Level
@@ -74,6 +81,27 @@ fn listed_numbers(at: usize, listed: Listed) -> [u64; 5]
     }
 }
 
+// What the matcher answers for a line, in numbers.
+fn row_numbers(row: Row) -> [u64; 5]
+    ensures { λ r. ⌜ r ≡ fields row ⌝ }
+{
+    [row.number, row.place, row.matched, row.length, row.steps]
+}
+
+// What the matcher answers for lines, in numbers.
+fn tally_numbers(tally: Tally) -> [u64; 4]
+    ensures { λ r. ⌜ r ≡ tallyNumbers tally ⌝ }
+{
+    [tally.number, tally.place, tally.lines, tally.next]
+}
+
+// What the search for a rule answers, in numbers.
+fn finding_numbers(finding: Finding) -> [u64; 3]
+    ensures { λ r. ⌜ r ≡ findingNumbers finding ⌝ }
+{
+    [finding.number, finding.place, finding.rule]
+}
+
 // Reads a text into the fronts of three buffers. The answer: number, place, nodes, rules, store bytes.
 #[no_mangle]
 pub extern "C" fn flascjuvan_read(
@@ -115,4 +143,56 @@ pub extern "C" fn flascjuvan_next_token(text: &[u8], at: usize, answer: &mut [u6
 {
     let listed = token::next_token(text, at);
     *answer = listed_numbers(at, listed);
+}
+
+// Runs the rule at an index over a line. The answer: number, place, 1 for a match, its length, steps.
+#[no_mangle]
+pub extern "C" fn flascjuvan_match(
+    nodes: &[u32],
+    rules: &[u32],
+    store: &[u8],
+    start: usize,
+    line: &[u8],
+    allowance: u64,
+    answer: &mut [u64; 5],
+)
+    ensures answered { λ _. ⌜ now (answer .exit) ≡ fields (lineNumbered (matchOf (now (nodes .entry)) (now (rules .entry)) (now (store .entry)) start (now (line .entry)) allowance)) ⌝ }
+{
+    let row = matcher::row_of(matcher::match_line(nodes, rules, store, start, line, allowance));
+    *answer = row_numbers(row);
+}
+
+// Runs the rule at an index over each line of a text, and writes the numbers of each line's answer to the
+// front of the records. The answer: number, place, lines, the place where the next one begins.
+#[no_mangle]
+pub extern "C" fn flascjuvan_match_lines(
+    nodes: &[u32],
+    rules: &[u32],
+    store: &[u8],
+    start: usize,
+    text: &[u8],
+    allowance: u64,
+    records: &mut [u64],
+    answer: &mut [u64; 4],
+)
+    ensures answered { λ _. ⌜ now (answer .exit) ≡ tallyNumbers (tallied (linesOf (now (nodes .entry)) (now (rules .entry)) (now (store .entry)) start (now (text .entry)) (length (now (records .entry))))) ⌝ }
+    ensures written { λ _. ⌜ now (records .exit) ≡ recordsOf (now (nodes .entry)) (now (rules .entry)) (now (store .entry)) start (now (text .entry)) allowance (now (records .entry)) ⌝ }
+{
+    let lines = matcher::match_lines(nodes, rules, store, start, text, allowance, records);
+    *answer = tally_numbers(matcher::tally_of(lines));
+}
+
+// The lowest rule of a name. The answer: number, place, the rule's index.
+#[no_mangle]
+pub extern "C" fn flascjuvan_rule_named(
+    nodes: &[u32],
+    rules: &[u32],
+    store: &[u8],
+    name: &[u8],
+    answer: &mut [u64; 3],
+)
+    ensures answered { λ _. ⌜ now (answer .exit) ≡ findingNumbers (finding (foundOf (now (nodes .entry)) (now (rules .entry)) (now (store .entry)) (now (name .entry)))) ⌝ }
+{
+    let found = matcher::rule_named(nodes, rules, store, name);
+    *answer = finding_numbers(matcher::finding_of(found));
 }

@@ -8,6 +8,10 @@
 // - x LEVEL COUNT:HEX,.. NODES RULES STORE: the same of a long text, made of pieces. A sum in place of each.
 // - k PLACE HEX, l PLACE COUNT:HEX,..: the lister. Number, place, kind, start, end.
 // - p ROOM NODES RULES STORE: tables are printed. Number, place, bytes used; the text.
+// - m ALLOWANCE START HEX NODES RULES STORE: a rule is run over a line. Number, place, 1 for a match, its
+//   length, steps.
+// - r ALLOWANCE START HEX NODES RULES STORE ROOM: a rule is run over the lines of a text; the room in
+//   numbers. Number, place, lines, where the next one begins; the records.
 //
 // The input is read in blocks of 65,536 bytes, and no line lies in two of them: empty lines fill a block up.
 use printer::Printed;
@@ -300,6 +304,138 @@ fn run_tables(line: &[u8], from: usize, room: usize) {
     run_print(&nodes[..n], &rules[..m], &store[..k], room, &mut out);
 }
 
+fn write_wide(v: u64) {
+    vectors::write(b" ");
+    io::print_decimal(1, v);
+}
+
+// A number of a record that was written; or whether one that wasn't has changed.
+fn write_or_look(v: u64, used: bool) -> bool {
+    if used {
+        io::print_decimal(1, v);
+        vectors::write(b",");
+        return false;
+    }
+    v != 2863311530
+}
+
+fn write_records(records: &[u64], used: usize) {
+    vectors::write(b" ");
+    if used == 0 {
+        vectors::write(b"-");
+    }
+    let mut changed = false;
+    let mut i = 0;
+    while i < records.len() {
+        if write_or_look(records[i], i < used) {
+            changed = true;
+        }
+        i += 1;
+    }
+    write_changed(changed);
+}
+
+fn run_match(
+    nodes: &[u32],
+    rules: &[u32],
+    store: &[u8],
+    start: usize,
+    text: &[u8],
+    allowance: u64,
+) {
+    let row = matcher::row_of(matcher::match_line(nodes, rules, store, start, text, allowance));
+    write_wide(row.number);
+    write_wide(row.place);
+    write_wide(row.matched);
+    write_wide(row.length);
+    write_wide(row.steps);
+}
+
+fn run_lines(
+    nodes: &[u32],
+    rules: &[u32],
+    store: &[u8],
+    start: usize,
+    text: &[u8],
+    allowance: u64,
+    room: usize,
+    records: &mut [u64],
+) {
+    if records.len() < room {
+        return;
+    }
+    let lines = matcher::match_lines(
+        nodes,
+        rules,
+        store,
+        start,
+        text,
+        allowance,
+        &mut records[..room],
+    );
+    let tally = matcher::tally_of(lines);
+    write_wide(tally.number);
+    write_wide(tally.place);
+    write_wide(tally.lines);
+    write_wide(tally.next);
+    if 1000 < tally.lines {
+        return;
+    }
+    write_records(records, 5 * tally.lines as usize);
+}
+
+fn run_rule(line: &[u8], from: usize, allowance: u64, many: bool) {
+    let mut nodes = [0u32; 600];
+    let mut rules = [0u32; 600];
+    let mut store = [0u8; 600];
+    let mut text = [0u8; 600];
+    let mut records = [2863311530u64; 120];
+    let zeroth = vectors::field(line, from);
+    let shown = vectors::field(line, zeroth.end);
+    let first = vectors::field(line, shown.end);
+    let second = vectors::field(line, first.end);
+    let third = vectors::field(line, second.end);
+    let fourth = vectors::field(line, third.end);
+    let a = zeroth.start;
+    let b = zeroth.end;
+    let c = shown.start;
+    let d = shown.end;
+    let e = first.start;
+    let f = first.end;
+    let g = second.start;
+    let h = second.end;
+    let i = third.start;
+    let j = third.end;
+    let o = fourth.start;
+    let p = fourth.end;
+    let start = vectors::number(&line[a..b]) as usize;
+    let t = vectors::unhex(&line[c..d], &mut text);
+    let n = vectors::numbers(&line[e..f], &mut nodes);
+    let m = vectors::numbers(&line[g..h], &mut rules);
+    let k = vectors::unhex(&line[i..j], &mut store);
+    if many {
+        run_lines(
+            &nodes[..n],
+            &rules[..m],
+            &store[..k],
+            start,
+            &text[..t],
+            allowance,
+            vectors::number(&line[o..p]) as usize,
+            &mut records,
+        );
+        return;
+    }
+    run_match(
+        &nodes[..n],
+        &rules[..m],
+        &store[..k],
+        start,
+        &text[..t],
+        allowance,
+    );
+}
+
 fn run_line(line: &[u8]) {
     let op = vectors::field(line, 0);
     let first = vectors::field(line, op.end);
@@ -318,6 +454,8 @@ fn run_line(line: &[u8]) {
         b'k' => run_lister(line, b, n as usize, false),
         b'l' => run_lister(line, b, n as usize, true),
         b'p' => run_tables(line, b, n as usize),
+        b'm' => run_rule(line, b, n, false),
+        b'r' => run_rule(line, b, n, true),
         _ => {}
     }
     vectors::write(b"\n");
