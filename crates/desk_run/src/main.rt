@@ -2,11 +2,26 @@
 // the output are lent, and
 //     d   a text in pieces: how many times, and what in hex; `show::desk` is run on it
 //     r   a number and a place; `show::refusal` is run on them
-// It is written again with what came of it: `text`, `refused` or `no room`, the bytes put, and how many bytes
-// of the whole output behind them still stand at what was there before; then of more than 300 bytes a sum,
-// and of others, on lines of their own, all.
+//     l   an answer's five numbers; `show::answer_line` is run on them
+//     w   a text in pieces; `show::whole_lines` is run on it
+//     b   the steps allowed, a rule's name, a layout in hex, and camera lines in pieces; `show::read_layout` and
+//         then `show::answer_block` are run on them
+// It is written again with what came of it: `text`, `line`, `refused` or `no room`; of a block `lines`, the
+// place of the next line and the refused lines; of a layout `no rule`, or `not read` with a number and a place.
+// Then the bytes put, and how many bytes of the whole output behind them still stand at what was there before;
+// then of more than 300 bytes a sum, and of others, on lines of their own, all.
+use matcher::Row;
+use show::Block;
+use show::Layout;
 use show::Shown;
 use text::Put;
+ghost use Prim.Native.Nat.{_≤_};
+ghost use lib.ListN.{length};
+
+struct Number {
+    value: u64,
+    end: usize,
+}
 
 fn answer(word: &[u8], n: usize, out: &[u8]) {
     vectors::write(word);
@@ -47,6 +62,133 @@ fn run_refusal(number: u64, place: u64, room: usize, out: &mut [u8]) {
     }
 }
 
+fn run_answer(row: Row, room: usize, out: &mut [u8]) {
+    if out.len() < room {
+        return;
+    }
+    let line = show::answer_line(row, &mut out[..room]);
+    match line {
+        Put::Wrote(n) => answer(b" line", n, out),
+        Put::NoRoom => answer(b" no room", 0, out),
+    }
+}
+
+fn answer_two(word: &[u8], a: u64, b: u64, n: usize, out: &[u8]) {
+    vectors::write(word);
+    vectors::write_number(a as usize);
+    vectors::write_number(b as usize);
+    answer(b"", n, out);
+}
+
+fn run_block(
+    nodes: &[u32],
+    rules: &[u32],
+    store: &[u8],
+    start: usize,
+    camera: &[u8],
+    steps: u64,
+    room: usize,
+    out: &mut [u8],
+) {
+    if out.len() < room {
+        return;
+    }
+    let block = show::answer_block(nodes, rules, store, start, camera, steps, &mut out[..room]);
+    match block {
+        Block::Lines {
+            size,
+            next,
+            refused,
+        } => answer_two(b" lines", next as u64, refused as u64, size, out),
+        Block::Refused { number, place } => answer_two(b" refused", number, place, 0, out),
+        Block::NoRoom => answer(b" no room", 0, out),
+    }
+}
+
+fn run_layout(text: &[u8], name: &[u8], camera: &[u8], steps: u64, room: usize, out: &mut [u8]) {
+    let mut nodes = [0u32; 600];
+    let mut rules = [0u32; 60];
+    let mut store = [0u8; 400];
+    let layout = show::read_layout(text, name, &mut nodes, &mut rules, &mut store);
+    match layout {
+        Layout::Tables {
+            nodes: a,
+            rules: b,
+            store: c,
+            start,
+        } => run_block(
+            &nodes[..a],
+            &rules[..b],
+            &store[..c],
+            start,
+            camera,
+            steps,
+            room,
+            out,
+        ),
+        Layout::Refused { number, place } => answer_two(b" not read", number, place, 0, out),
+        Layout::NoRule => answer(b" no rule", 0, out),
+    }
+}
+
+// A field that is a number, and where it ends.
+fn number_at(line: &[u8], at: usize) -> Number
+    ensures { λ r. ⌜ r .end ≤ length (now (line .entry)) ⌝ }
+{
+    let part = vectors::field(line, at);
+    let a = part.start;
+    let b = part.end;
+    Number {
+        value: vectors::number(&line[a..b]),
+        end: b,
+    }
+}
+
+fn run_row(line: &[u8], from: usize, room: usize, out: &mut [u8]) {
+    let number = number_at(line, from);
+    let place = number_at(line, number.end);
+    let matched = number_at(line, place.end);
+    let length = number_at(line, matched.end);
+    let steps = number_at(line, length.end);
+    let row = Row {
+        number: number.value,
+        place: place.value,
+        matched: matched.value,
+        length: length.value,
+        steps: steps.value,
+    };
+    run_answer(row, room, out);
+}
+
+fn run_whole(line: &[u8], from: usize) {
+    let mut text = [0u8; 65600];
+    let n = vectors::pieces(line, from, &mut text);
+    vectors::write_number(show::whole_lines(&text[..n]));
+    vectors::write(b"\n");
+}
+
+fn run_lines(line: &[u8], from: usize, room: usize, out: &mut [u8]) {
+    let mut text = [0u8; 4096];
+    let mut camera = [0u8; 65600];
+    let steps = number_at(line, from);
+    let name = vectors::field(line, steps.end);
+    let layout = vectors::field(line, name.end);
+    let a = name.start;
+    let b = name.end;
+    let c = layout.start;
+    let d = layout.end;
+    let n = vectors::unhex(&line[c..d], &mut text);
+    let m = vectors::pieces(line, d, &mut camera);
+    run_layout(
+        &text[..n],
+        &line[a..b],
+        &camera[..m],
+        steps.value,
+        room,
+        out,
+    );
+}
+
 fn run_text(line: &[u8], from: usize, room: usize, out: &mut [u8]) {
     let mut text = [0u8; 65600];
     let n = vectors::pieces(line, from, &mut text);
@@ -80,10 +222,12 @@ fn run_line(line: &[u8]) {
     if line.len() <= at {
         return;
     }
-    if line[at] == b'd' {
-        run_text(line, b, room, &mut out);
-    } else {
-        run_numbers(line, b, room, &mut out);
+    match line[at] {
+        b'd' => run_text(line, b, room, &mut out),
+        b'l' => run_row(line, b, room, &mut out),
+        b'w' => run_whole(line, b),
+        b'b' => run_lines(line, b, room, &mut out),
+        _ => run_numbers(line, b, room, &mut out),
     }
 }
 

@@ -1,9 +1,9 @@
-// What a program that reads a text on standard input and writes what is shown of it has in common with others
-// of its kind. `name` is the program's, for its complaints.
+// What programs that read texts and write what is shown of them have in common. `name` is the program's, for
+// its complaints.
 //
 // A program in Rattle has no exit status. One that was started with an argument, whatever it says, tells its
-// launcher how it ended by one byte on descriptor 3: `0` a text was written, `1` a refusal's line was, `2`
-// input or output failed. Without an argument it leaves descriptor 3 alone.
+// launcher how it ended by one byte on descriptor 3: `0` all was written and nothing refused, `1` something
+// was refused, `2` input or output failed. Without an argument it leaves descriptor 3 alone.
 pub mod inner;
 
 ghost use lib.ListN.{length};
@@ -16,25 +16,26 @@ pub enum Input {
 }
 
 // Tells the launcher.
-fn tell(verdict: u8) {
+pub fn tell(verdict: u8) {
     if os::arg_count() != 1 {
         io::write_all(3, &[verdict]);
     }
 }
 
-fn fail(name: &[u8], what: &[u8]) {
+// A failure, told in a line.
+pub fn fail(name: &[u8], what: &[u8]) {
     io::write_all(2, name);
     io::write_all(2, what);
     tell(b'2');
 }
 
-// Standard input, however it arrives.
-fn read_all(buf: &mut [u8]) -> Input
+// All that a descriptor has, however it arrives.
+pub fn read_all(fd: i32, buf: &mut [u8]) -> Input
     ensures { λ r. ⌜ Within r (length (now (buf .exit))) ⌝ }
 {
     let mut done = 0;
     while done < buf.len() {
-        let got = libc::read(0, &mut buf[done..]);
+        let got = libc::read(fd, &mut buf[done..]);
         if got < 0 {
             return Input::Failed;
         }
@@ -51,7 +52,7 @@ fn read_all(buf: &mut [u8]) -> Input
 pub fn read_input(name: &[u8], buf: &mut [u8]) -> Input
     ensures { λ r. ⌜ Within r (length (now (buf .exit))) ⌝ }
 {
-    let input = read_all(buf);
+    let input = read_all(0, buf);
     match input {
         Input::Bytes(n) => Input::Bytes(n),
         Input::Failed => {

@@ -52,7 +52,7 @@ in-refused ns rs st o (Printed.Rule k) h = refl
 in-refused ns rs st o Printed.NoRoom h = refl
 
 -- the front of a buffer
-taken : (x o o′ : List ℕ) (k : ℕ) → o′ ≡ fronted x o → k ≡ length x → (k ≤ length o′) × (take k o′ ≡ x)
+pub taken : (x o o′ : List ℕ) (k : ℕ) → o′ ≡ fronted x o → k ≡ length x → (k ≤ length o′) × (take k o′ ≡ x)
 unfolding fronted
 taken x o o′ k e h = let a = ap length e ∙ length-append x (drop (length x) o) in (omega arith, ap (take k) e ∙ take-at x (drop (length x) o) k (sym h))
 

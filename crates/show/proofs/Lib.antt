@@ -3,4 +3,7 @@ pub mod Readings
 pub mod Answers
 pub mod Lines
 pub mod Shows
+pub mod Records
+pub mod Layouts
+pub mod Blocks
 pub mod Unique

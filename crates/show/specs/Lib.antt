@@ -2,3 +2,6 @@
 pub mod Line
 pub mod Shown
 pub mod Desk
+pub mod Rows
+pub mod Block
+pub mod Layout

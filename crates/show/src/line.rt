@@ -8,7 +8,7 @@ ghost use Rattle.text.specs.Splice.{Room, Wrote, spent};
 ghost use Rattle.show.specs.Line.{refusalLine};
 
 // What is left after a number in decimal. `text` has this and the next one for 32 bits; the laws are its own.
-fn spend_number(left: usize, n: u64) -> usize
+pub fn spend_number(left: usize, n: u64) -> usize
     ensures { λ r. ⌜ r ≡ spent left (decimal n) ⌝ }
 {
     if n < 10 {
@@ -18,7 +18,7 @@ fn spend_number(left: usize, n: u64) -> usize
 }
 
 // Writes a number in decimal.
-fn put_number(n: u64, out: &mut [u8], at: usize) -> usize
+pub fn put_number(n: u64, out: &mut [u8], at: usize) -> usize
     requires { ⌜ Room (now out) at (decimal n) ⌝ }
     ensures { λ r. ⌜ Wrote (now (out .entry)) at (decimal n) (now (out .exit)) r ⌝ }
 {

@@ -7,10 +7,10 @@ use Rattle.program.proofs.read_all.Statement.{statement}
 use Rattle.program.proofs.read_all.Tie as tie
 
 abbrev Inv-loop : tie.InvT-loop
-Inv-loop buf₀ done₀ buf done = (length buf ≡ length buf₀) × (done ≤ length buf)
+Inv-loop fd buf₀ done₀ buf done = (length buf ≡ length buf₀) × (done ≤ length buf)
 
 abbrev μ-loop : tie.MeasureT-loop
-μ-loop buf₀ done₀ buf done = length buf - done
+μ-loop fd buf₀ done₀ buf done = length buf - done
 
 loop-holds : tie.Need-loop-holds Inv-loop μ-loop
 loop-holds c = search needs

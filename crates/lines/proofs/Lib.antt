@@ -1,0 +1,2 @@
+-- The program for camera lines: the law that its proofs cite.
+pub mod Turns

@@ -1,0 +1,2 @@
+-- The program for camera lines: the definitions that its contracts cite.
+pub mod Turns

@@ -1,0 +1,35 @@
+-- A layout as the program for camera lines takes it: its tables, and the rule of a name.
+use Prim.Native.Nat.{ℕ}
+use mathlib.Core.List.{List}
+use lib.Dec.{eqb}
+use lib.ListN.{length}
+use Rattle.text.specs.Choice.{choose}
+use Rattle.table.specs.Tree.{Span, Rule, rulesStored}
+use Rattle.table.specs.Flat.{nodesOf, recordsOf}
+use Rattle.structure.specs.declared.Level.the-variants.{Tagged}
+use Rattle.reader.specs.Read as Read
+use Rattle.matcher.specs.declared.Answer.the-variants as Answer
+use Rattle.matcher.specs.declared.Row.{Row}
+use Rattle.matcher.specs.declared.Found.{Found}
+use Rattle.matcher.specs.declared.Found.the-variants as Found
+use Rattle.matcher.specs.Answers.{numbered}
+use Rattle.matcher.specs.Sought.{foundOf}
+use Rattle.show.specs.declared.Layout.{Layout}
+use Rattle.show.specs.declared.Layout.the-variants.{Tables, Refused, NoRule}
+
+unfoldable pub refusedLayout : Row → Layout
+refusedLayout r = Refused (r .number) (r .place)
+
+-- the lengths of the tables and the rule's index
+unfoldable pub layoutBy : List (Rule Span) → Found → Layout
+layoutBy us (Found.Rule k) = Tables (length (nodesOf us)) (length (recordsOf us)) (length (rulesStored us)) k
+layoutBy us Found.FalseTables = refusedLayout (numbered Answer.FalseTables)
+layoutBy us Found.NoRule = NoRule
+
+-- the reading at the tagged level, with room for n nodes, r rules and b store bytes; then the lowest rule of the name
+unfoldable pub layoutOf : List ℕ → List ℕ → ℕ → ℕ → ℕ → Layout
+layoutOf s name n r b =
+    choose (eqb (Read.reported Tagged s n r b .number) 0)
+    (λ u. layoutBy (Read.rulesOf Tagged s)
+    (foundOf (nodesOf (Read.rulesOf Tagged s)) (recordsOf (Read.rulesOf Tagged s)) (rulesStored (Read.rulesOf Tagged s)) name))
+    (λ u. Refused (Read.reported Tagged s n r b .number) (Read.reported Tagged s n r b .place))
