@@ -57,7 +57,17 @@ impl Console {
 
     /// Shows a refusal where it isn't what was asked for.
     pub fn refuse(&self, text: &Text, refused: Refusal) {
-        err(&refusal::shown(text, refused, self.err_paint));
+        self.say(|paint| refusal::shown(text, refused, paint));
+    }
+
+    /// Writes to standard error, painted if that is.
+    pub fn say(&self, what: impl FnOnce(Paint) -> String) {
+        err(&what(self.err_paint));
+    }
+
+    /// Whether nobody reads any more.
+    pub fn is_closed(&self) -> bool {
+        self.closed
     }
 
     /// Writes a whole answer. If nobody reads any more, nothing is written from then on; the work

@@ -43,7 +43,13 @@ pub struct Text {
     pub bytes: Vec<u8>,
 }
 
-/// Reads files, standard input once.
+/// A file that is open, and its name for people.
+pub struct Source {
+    pub name: String,
+    pub from: Box<dyn Read>,
+}
+
+/// Opens files, standard input once.
 #[derive(Default)]
 pub struct Reader {
     stdin_read: bool,
@@ -79,26 +85,45 @@ impl Files {
 }
 
 impl Reader {
-    /// A file's text, or a complaint. No more is read than shows that a text is too long.
-    pub fn read(&mut self, path: &Path) -> Option<Text> {
+    /// A file that is open, or a complaint.
+    pub fn open(&mut self, path: &Path) -> Option<Source> {
         let stdin = path == Path::new("-");
         let name = if stdin { "<stdin>".to_owned() } else { shown(path) };
-        let bytes = match (stdin, self.stdin_read) {
+        let from = match (stdin, self.stdin_read) {
             (true, true) => Err("it is named twice, and can be read once".to_owned()),
             (true, false) => {
                 self.stdin_read = true;
-                stdin_is_open().and_then(|()| front(io::stdin().lock())).map_err(told)
+                stdin_is_open()
+                    .map(|()| Box::new(io::stdin().lock()) as Box<dyn Read>)
+                    .map_err(told)
             }
-            (false, _) => open(path).and_then(front).map_err(told),
+            (false, _) => open(path).map(|file| Box::new(file) as Box<dyn Read>).map_err(told),
         };
-        match bytes {
-            Ok(bytes) => Some(Text { name, bytes }),
+        match from {
+            Ok(from) => Some(Source { name, from }),
             Err(why) => {
                 complain(&format!("{name}: {why}"));
                 None
             }
         }
     }
+
+    /// A file's text, or a complaint. No more is read than shows that a text is too long.
+    pub fn read(&mut self, path: &Path) -> Option<Text> {
+        let Source { name, from } = self.open(path)?;
+        match front(from) {
+            Ok(bytes) => Some(Text { name, bytes }),
+            Err(why) => {
+                unreadable(&name, why);
+                None
+            }
+        }
+    }
+}
+
+/// Complains of a file that was open and can't be read.
+pub fn unreadable(name: &str, why: io::Error) {
+    complain(&format!("{name}: {}", told(why)));
 }
 
 fn shown(path: &Path) -> String {

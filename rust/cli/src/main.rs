@@ -1,4 +1,4 @@
-//! The command `flascjuvan`: pest grammars checked, shown, printed and compared by the proved
+//! The command `flascjuvan`: pest grammars checked, shown, printed, compared and run by the proved
 //! library.
 //!
 //! Each subcommand is a file of [`commands`]. What they share stands beside this one: arguments and
@@ -23,7 +23,7 @@ use std::thread;
 
 use clap::{Parser, Subcommand};
 
-use commands::{check, dropped, explain, print, same, tokens, tree};
+use commands::{check, dropped, explain, match_lines, print, same, tokens, tree};
 use console::{Console, Status};
 use paint::ColorChoice;
 
@@ -34,11 +34,11 @@ const STACK: usize = 16 << 20;
 const STATUSES: &str = "\
 Exit status:
   0  all is well
-  1  a text is refused, two differ, one would change or something would be dropped
+  1  a text or a line is refused, two texts differ, one would change or something would be dropped
   2  wrong usage, a file that can't be read, output that fails
 A reader of the output that goes away early is no failure.";
 
-/// Checks, shows, prints and compares pest grammars.
+/// Checks, shows, prints, compares and runs pest grammars.
 #[derive(Parser)]
 #[command(name = "flascjuvan", bin_name = "flascjuvan", version)]
 #[command(after_help = STATUSES, arg_required_else_help = true)]
@@ -65,6 +65,7 @@ enum Command {
     Tokens(tokens::Args),
     Dropped(dropped::Args),
     Same(same::Args),
+    Match(match_lines::Args),
     Explain(explain::Args),
 }
 
@@ -106,6 +107,7 @@ impl Command {
             Command::Tokens(args) => tokens::run(args, console),
             Command::Dropped(args) => dropped::run(args, console),
             Command::Same(args) => same::run(args, console),
+            Command::Match(args) => match_lines::run(args, console),
             Command::Explain(args) => explain::run(args, console),
         }
     }

@@ -50,6 +50,11 @@ impl Paint {
         self.with("1;31", what)
     }
 
+    /// What a rule takes of a line.
+    pub fn green(self, what: &str) -> String {
+        self.with("1;32", what)
+    }
+
     /// The rule beside a line that is quoted, and its number.
     pub fn blue(self, what: &str) -> String {
         self.with("1;34", what)

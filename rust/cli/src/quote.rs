@@ -1,5 +1,7 @@
 //! A line of a text with a caret under a place, as rustc shows one.
 
+use std::ops::Range;
+
 use flascjuvan::line_column;
 
 use crate::paint::Paint;
@@ -35,12 +37,17 @@ fn line_of(bytes: &[u8], place: usize) -> &[u8] {
     }
 }
 
+/// Which characters of a line are shown, if one of them or its end has to be.
+pub fn window(line: &[char], index: usize) -> Range<usize> {
+    let start = index.saturating_sub(WIDTH / 2).min(line.len().saturating_sub(WIDTH));
+    start..line.len().min(start + WIDTH)
+}
+
 /// What is shown of a line around one of its characters, and what stands below it in front of the
 /// caret.
 fn cut(line: &[char], index: usize) -> (String, String) {
     let index = index.min(line.len());
-    let start = index.saturating_sub(WIDTH / 2).min(line.len().saturating_sub(WIDTH));
-    let end = line.len().min(start + WIDTH);
+    let Range { start, end } = window(line, index);
     let before = if start > 0 { "…" } else { "" };
     let after = if end < line.len() { "…" } else { "" };
     let shown: String =

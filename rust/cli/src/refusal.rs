@@ -9,14 +9,29 @@ use crate::quote::quote;
 /// `FILE:LINE:COLUMN: refused N: MEANING`, then the line with a caret under the place. A refusal
 /// that is about the whole text has its start for a place, and no line is blamed.
 pub fn shown(text: &Text, refusal: Refusal, paint: Paint) -> String {
-    let at = flascjuvan::line_column(&text.bytes, refusal.place);
-    let place = paint.bold(&format!("{}:{at}:", text.name));
-    let number = paint.red(&format!("refused {}:", refusal.number()));
-    let head = format!("{place} {number} {}\n", meaning(&text.bytes, refusal));
+    let meaning = meaning(&text.bytes, refusal);
+    let head = head(text, refusal.place, refusal.reason, meaning, paint);
     if is_whole(refusal.reason) {
         return head;
     }
     head + &quote(&text.bytes, refusal.place, paint)
+}
+
+/// The same for a refusal whose own place is none of the text: by a place and in words that were
+/// found for it.
+pub fn shown_at(text: &Text, place: usize, reason: Reason, said: &str, paint: Paint) -> String {
+    head(text, place, reason, said, paint) + &quote(&text.bytes, place, paint)
+}
+
+fn head(text: &Text, place: usize, reason: Reason, said: &str, paint: Paint) -> String {
+    let at = flascjuvan::line_column(&text.bytes, place);
+    let place = paint.bold(&format!("{}:{at}:", text.name));
+    format!("{place} {} {said}\n", number(reason, paint))
+}
+
+/// `refused N:`
+pub fn number(reason: Reason, paint: Paint) -> String {
+    paint.red(&format!("refused {}:", reason.number()))
 }
 
 /// Whether the place, 0, says nothing: it is about the whole text.

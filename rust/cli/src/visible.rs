@@ -10,6 +10,8 @@ pub fn visible(c: char) -> char {
             char::from_u32('␀' as u32 + c as u32).unwrap_or(char::REPLACEMENT_CHARACTER)
         }
         '\x7f' => '␡',
+        // they print, and asking takes long
+        ' '..='~' => c,
         _ if prints(c) => c,
         _ => char::REPLACEMENT_CHARACTER,
     }
@@ -18,8 +20,7 @@ pub fn visible(c: char) -> char {
 /// Whether Rust's `{:?}` would leave the character as it is; after a letter, since marks that join
 /// one are left there.
 fn prints(c: char) -> bool {
-    matches!(c, '"' | '\'' | '\\')
-        || ['a', c].iter().collect::<String>().escape_debug().count() == 2
+    ['a', c].iter().collect::<String>().escape_debug().count() == 2
 }
 
 /// The characters of some bytes. A byte that belongs to none is `�`.

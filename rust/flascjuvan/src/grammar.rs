@@ -106,6 +106,24 @@ impl Grammar {
         self.trees(node, rule)
     }
 
+    /// The bytes that the node of this index spans, which is what 21 and 31 have for a place; None if there is no such
+    /// node. All are `0..0` in a grammar that was made of rules.
+    ///
+    /// ```
+    /// use flascjuvan::Grammar;
+    ///
+    /// let text = "r = { a ~ PUSH(b) }";
+    /// let grammar: Grammar = text.parse()?;
+    /// let refusal = grammar.match_line("r", "", 9).unwrap_err();
+    /// assert_eq!((refusal.number(), refusal.place), (31, 2));
+    /// assert_eq!(grammar.node_span(2).unwrap().as_str(text), Some("PUSH(b"));
+    /// assert_eq!(grammar.node_span(4), None);
+    /// # Ok::<(), flascjuvan::Refusal>(())
+    /// ```
+    pub fn node_span(&self, index: usize) -> Option<Span> {
+        (index < self.nodes.len() / RECORD).then(|| self.span(index))
+    }
+
     /// A picture of what belongs to what, with the bytes of the text that each rule's name and each node spans.
     ///
     /// ```

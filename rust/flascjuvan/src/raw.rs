@@ -31,6 +31,45 @@ extern "C" {
         answer: *mut u64,
     );
     fn flascjuvan_next_token(text: *const u8, text_len: usize, at: usize, answer: *mut u64);
+    fn flascjuvan_match(
+        nodes: *const u32,
+        nodes_len: usize,
+        rules: *const u32,
+        rules_len: usize,
+        store: *const u8,
+        store_len: usize,
+        start: usize,
+        line: *const u8,
+        line_len: usize,
+        allowance: u64,
+        answer: *mut u64,
+    );
+    fn flascjuvan_match_lines(
+        nodes: *const u32,
+        nodes_len: usize,
+        rules: *const u32,
+        rules_len: usize,
+        store: *const u8,
+        store_len: usize,
+        start: usize,
+        text: *const u8,
+        text_len: usize,
+        allowance: u64,
+        records: *mut u64,
+        records_len: usize,
+        answer: *mut u64,
+    );
+    fn flascjuvan_rule_named(
+        nodes: *const u32,
+        nodes_len: usize,
+        rules: *const u32,
+        rules_len: usize,
+        store: *const u8,
+        store_len: usize,
+        name: *const u8,
+        name_len: usize,
+        answer: *mut u64,
+    );
 }
 
 /// Reads a text into the fronts of the lent buffers. Number, place, nodes, rules, store bytes.
@@ -97,5 +136,105 @@ pub fn next_token(text: &[u8], at: usize) -> [u64; 5] {
     let mut answer = [u64::MAX; 5];
     // SAFETY: as in `read`.
     unsafe { flascjuvan_next_token(text.as_ptr(), text.len(), at, answer.as_mut_ptr()) };
+    answer
+}
+
+/// Runs the rule of an index over a line. Number, place, 1 if it matched and else 0, length, steps.
+///
+/// ```
+/// // r = { "a"* }
+/// let (nodes, rules) = ([1, 0, 0, 1, 1, 0, 11, 0, 0, 0, 0, 0], [0, 1, 0, 1, 0, 0]);
+/// assert_eq!(flascjuvan::raw::match_line(&nodes, &rules, b"ra", 0, b"aab", 99), [0, 0, 1, 2, 4]);
+/// assert_eq!(flascjuvan::raw::match_line(&nodes, &rules, b"ra", 0, b"aab", 3), [34, 0, 0, 0, 0]);
+/// assert_eq!(flascjuvan::raw::match_line(&nodes, &rules, b"ra", 1, b"aab", 99), [32, 0, 0, 0, 0]);
+/// ```
+pub fn match_line(nodes: &[u32], rules: &[u32], store: &[u8], start: usize, line: &[u8], allowance: u64) -> [u64; 5] {
+    let mut answer = [u64::MAX; 5];
+    // SAFETY: as in `read`.
+    unsafe {
+        flascjuvan_match(
+            nodes.as_ptr(),
+            nodes.len(),
+            rules.as_ptr(),
+            rules.len(),
+            store.as_ptr(),
+            store.len(),
+            start,
+            line.as_ptr(),
+            line.len(),
+            allowance,
+            answer.as_mut_ptr(),
+        );
+    }
+    answer
+}
+
+/// Runs the rule of an index over each line of a text, and writes five numbers for each to the front of the lent
+/// records: those that [`match_line`] answers. Number, place, lines, the place where the next line begins.
+///
+/// Full records are no refusal: as many lines are run as fit, and the next call goes on from the next line's place.
+///
+/// ```
+/// // r = { "a"* }
+/// let (nodes, rules) = ([1, 0, 0, 1, 1, 0, 11, 0, 0, 0, 0, 0], [0, 1, 0, 1, 0, 0]);
+/// let mut records = [0; 10];
+/// let answer = flascjuvan::raw::match_lines(&nodes, &rules, b"ra", 0, b"aab\r\n\xff\na", 99, &mut records);
+/// assert_eq!(answer, [0, 0, 2, 7]);
+/// assert_eq!(records, [0, 0, 1, 2, 4, 33, 0, 0, 0, 0]);
+/// ```
+pub fn match_lines(
+    nodes: &[u32],
+    rules: &[u32],
+    store: &[u8],
+    start: usize,
+    text: &[u8],
+    allowance: u64,
+    records: &mut [u64],
+) -> [u64; 4] {
+    let mut answer = [u64::MAX; 4];
+    // SAFETY: as in `read`; the answer has four numbers.
+    unsafe {
+        flascjuvan_match_lines(
+            nodes.as_ptr(),
+            nodes.len(),
+            rules.as_ptr(),
+            rules.len(),
+            store.as_ptr(),
+            store.len(),
+            start,
+            text.as_ptr(),
+            text.len(),
+            allowance,
+            records.as_mut_ptr(),
+            records.len(),
+            answer.as_mut_ptr(),
+        );
+    }
+    answer
+}
+
+/// Looks a rule up by its name. Number, place, the lowest index of a rule of that name.
+///
+/// ```
+/// let (nodes, rules) = ([4, 0, 0, 1, 1, 0], [0, 1, 0, 0, 0, 0]);
+/// assert_eq!(flascjuvan::raw::rule_named(&nodes, &rules, b"ra", b"r"), [0, 0, 0]);
+/// assert_eq!(flascjuvan::raw::rule_named(&nodes, &rules, b"ra", b"a"), [32, 0, 0]);
+/// ```
+pub fn rule_named(nodes: &[u32], rules: &[u32], store: &[u8], name: &[u8]) -> [u64; 3] {
+    let mut answer = [u64::MAX; 3];
+    // SAFETY: as in `read`; the answer has three numbers.
+    unsafe {
+        flascjuvan_rule_named(
+            nodes.as_ptr(),
+            nodes.len(),
+            rules.as_ptr(),
+            rules.len(),
+            store.as_ptr(),
+            store.len(),
+            name.as_ptr(),
+            name.len(),
+            answer.as_mut_ptr(),
+        );
+    }
     answer
 }

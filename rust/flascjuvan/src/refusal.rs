@@ -1,10 +1,10 @@
-//! Why nothing was read or printed.
+//! Why nothing was read, printed or matched.
 
 use std::fmt;
 
 use crate::{line_column, LineColumn};
 
-/// Why a text was not read, or tables were not printed. Its number is the C interface's.
+/// Why a text was not read, tables were not printed, or a line was not run. Its number is the C interface's.
 ///
 /// ```
 /// use flascjuvan::Reason;
@@ -58,6 +58,20 @@ pub enum Reason {
     /// The printed text is longer than the lent output: never from [`print`](crate::print), which lends enough. The
     /// place is 0.
     OutputRoom = 23,
+    /// Tables that printing refuses by 20, 21 or 22 can't be run either. The place is 0.
+    FalseTables = 30,
+    /// A node that can't be run on lines, reached or not: PEEK[..], PUSH, PUSH_LITERAL, a tag, or a repeat whose minimum
+    /// is above its maximum. The place is the index of the first such node:
+    /// [`node_span`](crate::Grammar::node_span) says where it stands.
+    Unfit = 31,
+    /// The rule to start with isn't there, a name anywhere is neither ANY nor a rule, a rule is called ANY, or two rules
+    /// have one name. The place is 0.
+    NoRule = 32,
+    /// The line is not UTF-8. The place is where its first bad sequence starts, counted from the line's start.
+    LineNotUtf8 = 33,
+    /// A run went past 1,024 visits inside one another, or past the steps allowed, as an endless repetition always does.
+    /// The place is 0.
+    Overrun = 34,
 }
 
 impl Reason {
@@ -80,9 +94,14 @@ impl Reason {
         Reason::Node,
         Reason::Rule,
         Reason::OutputRoom,
+        Reason::FalseTables,
+        Reason::Unfit,
+        Reason::NoRule,
+        Reason::LineNotUtf8,
+        Reason::Overrun,
     ];
 
-    /// Its number: 1 to 13 from reading (1 to 3 from listing tokens too), 20 to 23 from printing.
+    /// Its number: 1 to 13 from reading (1 to 3 from listing tokens too), 20 to 23 from printing, 30 to 34 from matching.
     pub fn number(self) -> u64 {
         self as u64
     }
@@ -114,12 +133,21 @@ impl Reason {
             }
             Reason::Rule => "a rule that can't be printed: a name that is no word, or begins with PUSH",
             Reason::OutputRoom => "the printed text is longer than its room",
+            Reason::FalseTables => "tables that can't be run, as they can't be printed",
+            Reason::Unfit => {
+                "a node that can't be run on lines: PEEK[..], PUSH, PUSH_LITERAL, a tag, or a minimum above its maximum"
+            }
+            Reason::NoRule => {
+                "no such rule to start with, a name that is neither ANY nor a rule, a rule called ANY, or a name used twice"
+            }
+            Reason::LineNotUtf8 => "the line is not UTF-8",
+            Reason::Overrun => "over 1,024 visits inside one another, or more steps than allowed",
         }
     }
 
-    /// Whether its place is a place of a text, and not the index of a record.
+    /// Whether its place is a place of a text or a line, and not the index of a record or nothing at all.
     fn is_about_a_text(self) -> bool {
-        self.number() < Reason::Shape.number()
+        self.number() < Reason::Shape.number() || self == Reason::LineNotUtf8
     }
 }
 
@@ -129,7 +157,7 @@ impl fmt::Display for Reason {
     }
 }
 
-/// Why nothing was read or printed, and where.
+/// Why nothing was read, printed or matched, and where.
 ///
 /// As text it is the desk's line, `refused N at P`; [`meaning`](Refusal::meaning) says it in words.
 ///
@@ -146,7 +174,7 @@ impl fmt::Display for Reason {
 pub struct Refusal {
     /// Why.
     pub reason: Reason,
-    /// Where: a byte of the text counted from 0, or the index of a record of a printed table; 0 where there is none to
+    /// Where: a byte of the text or line counted from 0, or the index of a record of a table; 0 where there is none to
     /// name. [`Reason`] says which.
     pub place: usize,
 }
@@ -162,10 +190,10 @@ impl Refusal {
         self.reason.meaning()
     }
 
-    /// The line and column of the place in the text that was refused.
+    /// The line and column of the place in the text that was refused; for 33, in the line that was.
     ///
-    /// None where the place is no place of a text: 20 to 23. Refusals of a whole text (1, 10, 11, 12) have the place 0,
-    /// and so its first line and column.
+    /// None where the place is no place of a text: 20 to 23, 30 to 32, 34. Refusals of a whole text (1, 10, 11, 12) have
+    /// the place 0, and so its first line and column.
     pub fn line_column(&self, text: impl AsRef<[u8]>) -> Option<LineColumn> {
         self.reason.is_about_a_text().then(|| line_column(text, self.place))
     }

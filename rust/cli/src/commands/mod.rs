@@ -3,6 +3,7 @@
 pub mod check;
 pub mod dropped;
 pub mod explain;
+pub mod match_lines;
 pub mod print;
 pub mod same;
 pub mod tokens;

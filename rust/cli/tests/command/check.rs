@@ -27,7 +27,9 @@ fn good_texts_are_passed_over_in_silence() {
 #[test]
 fn the_example_layouts_are_good() {
     let layouts = fs::read_dir("../../layouts").expect("the layouts are there");
-    let paths: Vec<_> = layouts.map(|entry| entry.expect("an entry").path()).collect();
+    let paths = layouts.map(|entry| entry.expect("an entry").path());
+    // camera lines stand beside them
+    let paths: Vec<_> = paths.filter(|path| path.extension() == Some("pest".as_ref())).collect();
     assert!(!paths.is_empty());
     let folder = Folder::new();
     for path in paths {

@@ -7,7 +7,7 @@ fn all_numbers() {
     let ran = Folder::new().run("explain");
     assert_eq!((ran.status, &ran.err[..]), (0, ""));
     let numbers: Vec<&str> = ran.out.lines().map(|line| line[..2].trim()).collect();
-    assert_eq!(numbers.join(" "), "1 2 3 4 5 6 7 8 9 10 11 12 13 20 21 22 23");
+    assert_eq!(numbers.join(" "), "1 2 3 4 5 6 7 8 9 10 11 12 13 20 21 22 23 30 31 32 33 34");
     assert!(ran.out.starts_with(" 1  the text has over 65,536 bytes\n 2  the text is not UTF-8\n"));
 }
 
@@ -43,8 +43,34 @@ A large number for `any more`:
 }
 
 #[test]
+fn a_refusal_of_the_matcher_in_words() {
+    let ran = Folder::new().run("explain 34");
+    let example = "
+Example
+r={\"\"*}
+run over \"a\" in at most 1000 steps: refused 34 at 0
+";
+    assert!(ran.out.contains(example), "{}", ran.out);
+    let slip = "
+What may be missing, any number of times:
+    a = { (\"3\"?)* }    refused 34 at 0
+    a = { \"3\"* }       is run
+";
+    assert!(ran.out.contains(slip), "{}", ran.out);
+    let line = "
+r={\"a\"}
+run over this line:
+  |
+1 | a�
+  |  ^
+refused 33 at 1
+";
+    assert!(Folder::new().run("explain 33").out.contains(line));
+}
+
+#[test]
 fn every_number_has_words() {
-    for number in (1..=13).chain(20..=23) {
+    for number in (1..=13).chain(20..=23).chain(30..=34) {
         let ran = Folder::new().run(&format!("explain {number}"));
         assert_eq!((ran.status, &ran.err[..]), (0, ""));
         assert!(ran.out.starts_with(&format!("refused {number}: ")));
@@ -57,7 +83,7 @@ fn every_number_has_words() {
 
 #[test]
 fn other_numbers_are_wrong_usage() {
-    for number in ["0", "14", "19", "24", "18446744073709551615"] {
+    for number in ["0", "14", "19", "24", "29", "35", "18446744073709551615"] {
         let said =
             format!("flascjuvan: there is no refusal {number}; `flascjuvan explain` lists them\n");
         assert_eq!(Folder::new().run(&format!("explain {number}")), err(2, &said));

@@ -132,23 +132,29 @@ fn deep_texts_take_no_more_stack_than_there_is() {
     for (index, text) in deep.iter().enumerate() {
         let folder = Folder::new().with("t", text);
         for args in ["check t", "tree t", "print t", "tokens t", "dropped t", "same t t"] {
-            let mut command = Command::new("sh");
-            command.args([
-                "-c",
-                "ulimit -s 128 && exec \"$@\"",
-                "sh",
-                env!("CARGO_BIN_EXE_flascjuvan"),
-            ]);
-            let ran = ran(command.args(args.split_whitespace()).current_dir(&folder.0));
+            let ran = on_little_stack(&folder, args);
             let status = if index == 4 && args == "dropped t" { 1 } else { 0 };
             assert_eq!((ran.status, &ran.err[..]), (status, ""), "{index}: {args}");
         }
     }
+    // 1,024 visits inside one another, and one more
+    for (count, status) in [(1023, 0), (1024, 1)] {
+        let text = format!("a = {{ {}\"a\" }}", "!".repeat(count));
+        let ran = on_little_stack(&Folder::new().with("t", text), "match t a t");
+        assert_eq!((ran.status, &ran.err[..]), (status, ""), "{count}");
+    }
+}
+
+/// Runs it where its first thread has 128 KB of stack.
+fn on_little_stack(folder: &Folder, args: &str) -> Ran {
+    let mut command = Command::new("sh");
+    command.args(["-c", "ulimit -s 128 && exec \"$@\"", "sh", env!("CARGO_BIN_EXE_flascjuvan")]);
+    ran(command.args(args.split_whitespace()).current_dir(&folder.0))
 }
 
 #[test]
 fn closed_descriptors_are_told() {
-    let folder = Folder::of(&[("t", "a={b}"), ("bad", "%")]);
+    let folder = Folder::of(&[("t", "a={\"b\"}"), ("bad", "%")]);
     let program = env!("CARGO_BIN_EXE_flascjuvan");
     let shell = |command: &str| {
         let mut sh = Command::new("sh");
@@ -156,9 +162,16 @@ fn closed_descriptors_are_told() {
         ran(&mut sh)
     };
     let lost = "flascjuvan: standard output can't be written: it is closed\n";
-    for command in
-        ["print t", "tree t", "tokens t", "check bad", "explain 4", "--help", "--version"]
-    {
+    for command in [
+        "print t",
+        "tree t",
+        "tokens t",
+        "check bad",
+        "match t a t",
+        "explain 4",
+        "--help",
+        "--version",
+    ] {
         assert_eq!(shell(&format!("{command} >&-")), err(2, lost), "{command}");
     }
     // nothing is lost where there is nothing to say
@@ -167,8 +180,9 @@ fn closed_descriptors_are_told() {
     for command in COMMANDS {
         assert_eq!(shell(&format!("{command} - <&-")), err(2, none), "{command}");
     }
+    assert_eq!(shell("match t a <&-"), err(2, none));
     assert_eq!(
         shell("print - < t"),
-        Ran { status: 0, out: "a = { b }\n".to_owned(), err: String::new() }
+        Ran { status: 0, out: "a = { \"b\" }\n".to_owned(), err: String::new() }
     );
 }

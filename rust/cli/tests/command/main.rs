@@ -4,6 +4,7 @@ mod check;
 mod dropped;
 mod explain;
 mod failures;
+mod match_lines;
 mod print;
 mod same;
 mod terminal;

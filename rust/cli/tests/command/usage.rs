@@ -1,11 +1,12 @@
 use crate::{out, Folder};
 
-const COMMANDS: [&str; 7] = ["check", "tree", "print", "tokens", "dropped", "same", "explain"];
+const COMMANDS: [&str; 8] =
+    ["check", "tree", "print", "tokens", "dropped", "same", "match", "explain"];
 
 const STATUSES: &str = "
 Exit status:
   0  all is well
-  1  a text is refused, two differ, one would change or something would be dropped
+  1  a text or a line is refused, two texts differ, one would change or something would be dropped
   2  wrong usage, a file that can't be read, output that fails
 A reader of the output that goes away early is no failure.
 ";

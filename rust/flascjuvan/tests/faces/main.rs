@@ -3,6 +3,7 @@
 mod differences;
 mod limits;
 mod literals;
+mod matching;
 mod pictures;
 mod printing;
 mod refusals;

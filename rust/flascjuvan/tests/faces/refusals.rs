@@ -54,7 +54,7 @@ fn too_little_room() {
 #[test]
 fn reasons_by_number() {
     let numbers: Vec<_> = Reason::ALL.iter().map(|reason| reason.number()).collect();
-    assert_eq!(numbers, (1..=13).chain(20..=23).collect::<Vec<_>>());
+    assert_eq!(numbers, (1..=13).chain(20..=23).chain(30..=34).collect::<Vec<_>>());
     for number in (0..100).chain([u64::MAX, 1 << 32 | 1]) {
         let reason = Reason::ALL.iter().copied().find(|reason| reason.number() == number);
         assert_eq!(Reason::from_number(number), reason);
@@ -89,7 +89,8 @@ fn lines_and_columns_of_refusals() {
 
     for &reason in Reason::ALL {
         let found = Refusal { reason, place: 3 }.line_column("a\nbc");
-        let expected = (reason.number() < 20).then_some(LineColumn { line: 2, column: 2 });
+        let has_a_place = reason.number() < 20 || reason.number() == 33;
+        let expected = has_a_place.then_some(LineColumn { line: 2, column: 2 });
         assert_eq!(found, expected, "{reason}");
     }
     let refusal = print(&Grammar::from(rule(Expr::Ident(String::new())))).expect_err("refused");

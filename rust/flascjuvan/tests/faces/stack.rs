@@ -4,7 +4,7 @@ use std::collections::hash_map::DefaultHasher;
 use std::hash::{Hash, Hasher};
 use std::thread;
 
-use flascjuvan::{print, read, Expr, Grammar, Level, ParserRule, Rule, MAX_NODES};
+use flascjuvan::{print, read, Expr, Grammar, Level, ParserRule, Reason, Rule, MAX_NODES};
 
 use crate::{choice, ident, rule, seq};
 
@@ -216,6 +216,31 @@ fn reading_and_printing_the_deepest_texts() {
     }
 }
 
+/// 1,024 visits inside one another, and the one more that is refused.
+#[test]
+fn matching_the_deepest_runs() {
+    for (deep, body, line) in [
+        ("predicates", format!("{}\"a\"", "!".repeat(1023)), "a".to_owned()),
+        ("more predicates", format!("{}\"a\"", "!".repeat(1024)), "a".to_owned()),
+        ("postfixes", format!("\"a\"{}", "?".repeat(1023)), "a".to_owned()),
+        ("more postfixes", format!("\"a\"{}", "?".repeat(1024)), "a".to_owned()),
+        ("left chain", vec!["\"a\""; 1024].join(" ~ "), "a".repeat(1024)),
+        ("right chain", format!("{}\"b\"{}", "\"a\" | (".repeat(1023), ")".repeat(1023)), "b".to_owned()),
+        ("rules", "\"a\" ~ r | \"b\"".to_owned(), "a".repeat(340) + "b"),
+        ("more rules", "\"a\" ~ r | \"b\"".to_owned(), "a".repeat(341) + "b"),
+        ("predicates and rules", "!\"b\" ~ &(ANY ~ r?)* ~ ANY".to_owned(), "a".repeat(400)),
+    ] {
+        on_a_thread_of(2_000_000, deep.to_owned(), move || {
+            let grammar = read(format!("r = {{ {body} }}"), Level::Tagged).expect("read");
+            let run = grammar.match_line("r", &line, 100_000);
+            let too_deep = deep.starts_with("more") || deep.ends_with("and rules");
+            assert_eq!(run.map_err(|refusal| refusal.reason).err(), too_deep.then_some(Reason::Overrun));
+            let lines = grammar.match_lines("r", &line, 100_000).expect("a good grammar");
+            assert_eq!(lines.map(|line| line.run).collect::<Vec<_>>(), [run]);
+        });
+    }
+}
+
 /// With too little stack the process is ended in Rust's own way. It is seen in a process that this test starts.
 #[cfg(target_os = "linux")]
 #[test]
@@ -225,12 +250,17 @@ fn too_little_stack_ends_the_process() {
     const SIGABRT: i32 = 6;
     let deep = |what: String| match &what[..] {
         "read" => drop(read(format!("a = {{ {}b{} }}", "(".repeat(1024), ")".repeat(1024)), Level::Tagged)),
+        "match" => {
+            let grammar = read(format!("a = {{ {}\"b\" }}", "!".repeat(1023)), Level::Tagged).expect("read");
+            let _ = grammar.match_line("a", "b", 10_000);
+        }
         _ => drop(print(&Grammar::from(rule(deepest().remove(0).1)))),
     };
     if let Ok(what) = std::env::var(INSIDE) {
-        return on_a_thread_of(400_000, what.clone(), move || deep(what));
+        let bytes = if what == "match" { 200_000 } else { 400_000 };
+        return on_a_thread_of(bytes, what.clone(), move || deep(what));
     }
-    for what in ["read", "print"] {
+    for what in ["read", "print", "match"] {
         let output = std::process::Command::new(std::env::current_exe().expect("this program"))
             .args(["--exact", "stack::too_little_stack_ends_the_process", "--nocapture"])
             .env(INSIDE, what)

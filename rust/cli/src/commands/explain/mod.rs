@@ -4,7 +4,7 @@ mod words;
 
 use std::io;
 
-use flascjuvan::{raw, read, Level, Reason};
+use flascjuvan::{raw, read, Level, Reason, Refusal};
 
 use crate::console::{complain, Console, Status};
 use crate::paint::Paint;
@@ -46,15 +46,22 @@ enum Example {
     Lent(&'static str),
     /// tables that are printed with room for so many bytes
     Tables { nodes: &'static [u32], rules: &'static [u32], store: &'static str, room: usize },
+    /// tables whose first rule is run over an empty line
+    RunTables { nodes: &'static [u32], rules: &'static [u32], store: &'static str },
+    /// a layout whose first rule is run over a line, in at most so many steps
+    Run(&'static str, &'static [u8], u64),
 }
 
 /// A text that people write, and what they meant.
 struct Slip {
     why: &'static str,
     text: &'static [u8],
-    /// what is read instead; nothing where there is no one text to name
+    /// what is read or run instead; nothing where there is no one text to name
     instead: &'static str,
 }
+
+/// The steps that are allowed where it doesn't matter how many.
+const STEPS: u64 = 1_000;
 
 pub fn run(args: &Args, console: &mut Console) -> io::Result<Status> {
     let answer = match args.number {
@@ -83,23 +90,39 @@ struct Answer(u64, u64);
 impl std::fmt::Display for Answer {
     fn fmt(&self, f: &mut std::fmt::Formatter<'_>) -> std::fmt::Result {
         match self.0 {
-            0 => write!(f, "is read"),
+            0 => write!(f, "is good"),
             number => write!(f, "refused {number} at {}", self.1),
         }
     }
 }
 
-fn reading(text: &[u8], level: Level) -> Answer {
-    match read(text, level) {
-        Ok(_) => Answer(0, 0),
-        Err(refusal) => Answer(refusal.number(), refusal.place as u64),
+impl<T> From<Result<T, Refusal>> for Answer {
+    fn from(answer: Result<T, Refusal>) -> Answer {
+        match answer {
+            Ok(_) => Answer(0, 0),
+            Err(refusal) => Answer(refusal.number(), refusal.place as u64),
+        }
     }
+}
+
+fn reading(text: &[u8], level: Level) -> Answer {
+    read(text, level).into()
+}
+
+/// What the first rule of a layout answers to a line.
+fn running(layout: &[u8], line: &[u8], steps: u64) -> Answer {
+    let grammar = match read(layout, Level::Tagged) {
+        Ok(grammar) => grammar,
+        Err(refused) => return Err::<(), _>(refused).into(),
+    };
+    let first = grammar.rules().into_iter().next().map_or_else(String::new, |rule| rule.name);
+    grammar.match_line(&first, line, steps).into()
 }
 
 impl Explanation {
     fn shown(&self, paint: Paint) -> String {
         let number = paint.red(&format!("refused {}:", self.reason.number()));
-        let slips: String = self.slips.iter().map(Slip::shown).collect();
+        let slips: String = self.slips.iter().map(|slip| self.slip_shown(slip)).collect();
         let parts = [
             ("What it means", self.what.to_owned()),
             ("Place", self.place.to_owned()),
@@ -110,6 +133,31 @@ impl Explanation {
         let parts =
             parts.map(|(title, said)| format!("\n{}\n{}\n", paint.bold(title), said.trim_end()));
         format!("{number} {}\n{}", self.reason, parts.concat())
+    }
+
+    /// What is done with the texts of slips: they are read, and the matcher's run as well, over an
+    /// empty line.
+    fn tried(&self, text: &[u8]) -> Answer {
+        match self.reason.number() {
+            30.. => running(text, b"", STEPS),
+            _ => reading(text, Level::Tagged),
+        }
+    }
+
+    fn slip_shown(&self, slip: &Slip) -> String {
+        let texts = [slip.text, slip.instead.as_bytes()];
+        let told: Vec<_> = texts
+            .iter()
+            .filter(|text| !text.is_empty())
+            .map(|text| visible::line(text, usize::MAX))
+            .collect();
+        let width = told.iter().map(|line| line.chars().count()).max().unwrap_or(0);
+        let lines = told.iter().zip(texts).map(|(line, text)| match self.tried(text) {
+            Answer(0, _) if self.reason.number() >= 30 => format!("    {line:width$}    is run\n"),
+            Answer(0, _) => format!("    {line:width$}    is read\n"),
+            refused => format!("    {line:width$}    {refused}\n"),
+        });
+        format!("\n{}\n{}", slip.why, lines.collect::<String>())
     }
 }
 
@@ -126,6 +174,11 @@ impl Example {
                 let answer = raw::print(nodes, rules, store.as_bytes(), &mut vec![0; *room]);
                 Answer(answer[0], answer[1])
             }
+            Example::RunTables { nodes, rules, store } => {
+                let answer = raw::match_line(nodes, rules, store.as_bytes(), 0, b"", STEPS);
+                Answer(answer[0], answer[1])
+            }
+            Example::Run(layout, line, steps) => running(layout.as_bytes(), line, *steps),
         }
     }
 
@@ -144,24 +197,19 @@ impl Example {
                 let tables = format!("nodes {nodes:?}, rules {rules:?}, store {store:?}");
                 format!("{tables}\nprinted with room for {room} bytes: {answer}")
             }
+            Example::RunTables { nodes, rules, store } => {
+                let tables = format!("nodes {nodes:?}, rules {rules:?}, store {store:?}");
+                format!("{tables}\nrun over an empty line: {answer}")
+            }
+            Example::Run(layout, line, _) if answer.0 == Reason::LineNotUtf8.number() => {
+                let line = quote(line, answer.1 as usize, paint);
+                format!("{layout}\nrun over this line:\n{line}{answer}")
+            }
+            Example::Run(layout, line, steps) => {
+                let line = String::from_utf8_lossy(line);
+                format!("{layout}\nrun over {line:?} in at most {steps} steps: {answer}")
+            }
         }
-    }
-}
-
-impl Slip {
-    fn shown(&self) -> String {
-        let texts = [self.text, self.instead.as_bytes()];
-        let told: Vec<_> = texts
-            .iter()
-            .filter(|text| !text.is_empty())
-            .map(|text| visible::line(text, usize::MAX))
-            .collect();
-        let width = told.iter().map(|line| line.chars().count()).max().unwrap_or(0);
-        let lines = told.iter().zip(texts).map(|(line, text)| {
-            let answer = reading(text, Level::Tagged);
-            format!("    {line:width$}    {answer}\n")
-        });
-        format!("\n{}\n{}", self.why, lines.collect::<String>())
     }
 }
 
@@ -188,6 +236,11 @@ mod tests {
         (21, 0, &[]),
         (22, 0, &[]),
         (23, 0, &[]),
+        (30, 0, &[]),
+        (31, 1, &[1, 1, 1]),
+        (32, 0, &[0, 0, 0, 0, 0]),
+        (33, 1, &[]),
+        (34, 0, &[0, 0, 0]),
     ];
 
     #[test]
@@ -203,7 +256,7 @@ mod tests {
             assert_eq!(explanation.reason.number(), number);
             assert_eq!(explanation.example.answer(), Answer(number, place));
             let answers: Vec<Answer> =
-                explanation.slips.iter().map(|slip| reading(slip.text, Level::Tagged)).collect();
+                explanation.slips.iter().map(|slip| explanation.tried(slip.text)).collect();
             assert_eq!(
                 answers,
                 slips.iter().map(|&place| Answer(number, place)).collect::<Vec<_>>()
@@ -212,16 +265,12 @@ mod tests {
     }
 
     #[test]
-    fn what_stands_instead_is_read() {
-        for slip in
-            words::ALL.iter().flat_map(|it| it.slips).filter(|slip| !slip.instead.is_empty())
-        {
-            assert_eq!(
-                reading(slip.instead.as_bytes(), Level::Tagged),
-                Answer(0, 0),
-                "{}",
-                slip.instead
-            );
+    fn what_stands_instead_is_read_or_run() {
+        for explanation in words::ALL {
+            for slip in explanation.slips.iter().filter(|slip| !slip.instead.is_empty()) {
+                let answer = explanation.tried(slip.instead.as_bytes());
+                assert_eq!(answer, Answer(0, 0), "{}", slip.instead);
+            }
         }
     }
 

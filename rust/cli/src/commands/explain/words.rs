@@ -2,7 +2,7 @@
 
 use flascjuvan::{Level, Reason};
 
-use super::{Example, Explanation, Slip};
+use super::{Example, Explanation, Slip, STEPS};
 
 const WITH_NINE: &str = "\
 After 1, 2 and 3, each of which is looked for in the whole text first: a stray % on
@@ -380,5 +380,131 @@ nodes are left over.",
 This command prints into as much room as it takes. The desk has 65,536 bytes: a string of
 20,000 characters that print as \\u{01} each is too long for it. A program lends more.",
         slips: &[],
+    },
+    Explanation {
+        reason: Reason::FalseTables,
+        what: "Tables that printing refuses by 20, 21 or 22 can't be run either.",
+        place: "0: print the same tables, and 20, 21 or 22 says which record it is.",
+        order: "First of the matcher's numbers.",
+        example: Example::RunTables { nodes: &[0], rules: &[], store: "" },
+        usual: "\
+No layout gets it: what was read can be run, or gives another number. It is for programs
+that make tables of their own and run them; README.md says what a table's numbers mean.",
+        slips: &[],
+    },
+    Explanation {
+        reason: Reason::Unfit,
+        what: "\
+The layout is read, but has something that means nothing on a line: PEEK[..], PUSH(..),
+PUSH_LITERAL(..), a tag, or a repeat whose minimum is above its maximum.",
+        place: "\
+The index of the first such node, children before what they belong to. The command
+`flascjuvan match` shows where it stands in the layout.",
+        order: "After 30. All nodes are looked at, also those that the rule doesn't lead to.",
+        example: Example::Run("r={\"a\"{3,2}}", b"a", STEPS),
+        usual: "\
+The layout was written for pest's own parser, which has a stack and keeps tags. Run a
+copy without them.",
+        slips: &[
+            Slip {
+                why: "A tag. `flascjuvan match --plain` reads without tags:",
+                text: b"a = { #size = \"3\" }",
+                instead: "a = { \"3\" }",
+            },
+            Slip {
+                why: "What was taken before is asked for again. Say it once more:",
+                text: b"a = { PUSH(\";\") ~ \"3\" ~ PEEK[..] }",
+                instead: "a = { \";\" ~ \"3\" ~ \";\" }",
+            },
+            Slip {
+                why: "Minimum and maximum the wrong way round:",
+                text: b"a = { \"3\"{4, 2} }",
+                instead: "a = { \"3\"{2, 4} }",
+            },
+        ],
+    },
+    Explanation {
+        reason: Reason::NoRule,
+        what: "\
+A name means nothing, or two things: the rule to start with isn't in the layout, a name
+in it is neither ANY nor a rule, a rule is called ANY, or two rules have one name.",
+        place: "0. The command `flascjuvan match` says which name it is, and where.",
+        order: "\
+After 30 and 31. All names are looked at, also those that the rule doesn't lead to.",
+        example: Example::Run("r={a}", b"a", STEPS),
+        usual: "\
+The layout leans on rules that pest has built in. Of those there is ANY alone, one
+character; write the others yourself.",
+        slips: &[
+            Slip {
+                why: "A rule of pest's own:",
+                text: b"a = { ASCII_DIGIT }",
+                instead: "a = { ASCII_DIGIT } ASCII_DIGIT = { '0'..'9' }",
+            },
+            Slip {
+                why: "The line's start and end. A run begins at the start, and nothing follows the end:",
+                text: b"a = { SOI ~ \"3\" ~ EOI }",
+                instead: "a = { \"3\" ~ !ANY }",
+            },
+            Slip {
+                why: "A name that is spelled otherwise. Upper and lower case differ:",
+                text: b"a = { Digit } digit = { '0'..'9' }",
+                instead: "a = { digit } digit = { '0'..'9' }",
+            },
+            Slip {
+                why: "Two rules of one name. Join what they say:",
+                text: b"a = { \"3\" } a = { \"4\" }",
+                instead: "a = { \"3\" | \"4\" }",
+            },
+            Slip {
+                why: "A rule called ANY:",
+                text: b"a = { ANY } ANY = { \"3\" | \"4\" }",
+                instead: "a = { any } any = { \"3\" | \"4\" }",
+            },
+        ],
+    },
+    Explanation {
+        reason: Reason::LineNotUtf8,
+        what: "A line is UTF-8, as RFC 3629 has it. This one has bytes that are none.",
+        place: "\
+The start of the first sequence of bytes that is none, counted from the line's start.",
+        order: "\
+After 30, 31 and 32. The whole line is looked at, also past what the rule would take.
+Other lines of the same file are run.",
+        example: Example::Run("r={\"a\"}", b"a\xff", STEPS),
+        usual: "\
+The camera writes another encoding, so that µ or ° is one byte, or the line was damaged
+on its way. Turn the file into UTF-8 by `iconv -f WINDOWS-1252 -t UTF-8 OLD >NEW`.",
+        slips: &[],
+    },
+    Explanation {
+        reason: Reason::Overrun,
+        what: "\
+The run takes more steps than allowed, or has over 1,024 visits inside one another. Each
+visit to a node is a step, and so is each that fails.",
+        place: "0: it is about the whole line.",
+        order: "Last.",
+        example: Example::Run("r={\"\"*}", b"a", STEPS),
+        usual: "\
+Often a repetition that never ends, since what it repeats may take nothing: no
+allowance is enough for it. Or a rule that comes back to itself before it has taken
+anything. A long line may take many steps: `flascjuvan match --steps N` allows more.",
+        slips: &[
+            Slip {
+                why: "What may be missing, any number of times:",
+                text: b"a = { (\"3\"?)* }",
+                instead: "a = { \"3\"* }",
+            },
+            Slip {
+                why: "A repetition of a repetition:",
+                text: b"a = { (\" \"*)+ }",
+                instead: "a = { \" \"* }",
+            },
+            Slip {
+                why: "A rule that begins with itself. Say how often it comes:",
+                text: b"a = { a ~ \";3\" | \"3\" }",
+                instead: "a = { \"3\" ~ \";3\"* }",
+            },
+        ],
     },
 ];
