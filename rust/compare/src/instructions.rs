@@ -75,7 +75,7 @@ pub fn show(name: &str, bytes: usize, work: &mut dyn FnMut()) {
 
 /// Runs this program again with `--callgrind`, under callgrind, and prints the instructions of each work that it
 /// shows. All else that it prints is printed as it is.
-pub fn by_callgrind(held_to: &str) -> io::Result<()> {
+pub fn by_callgrind(held_to: fn(&str) -> bool) -> io::Result<()> {
     let folder = std::env::temp_dir().join(format!("compare-{}", std::process::id()));
     fs::create_dir(&folder)?;
     let mut child = Command::new("valgrind")
@@ -89,8 +89,11 @@ pub fn by_callgrind(held_to: &str) -> io::Result<()> {
         .spawn()?;
     let mut dumps = 0;
     let mut group = Vec::new();
-    for line in BufReader::new(child.stdout.take().expect("piped")).lines() {
-        let line = line?;
+    // A dump may be written only after the line that tells of its work: all are read at the end.
+    let output = BufReader::new(child.stdout.take().expect("piped"));
+    let lines = output.lines().collect::<io::Result<Vec<String>>>()?;
+    let good = child.wait()?.success();
+    for line in lines {
         let words: Vec<&str> = line.split('\t').collect();
         if let [MARK, name, bytes] = words[..] {
             dumps += 1;
@@ -108,7 +111,6 @@ pub fn by_callgrind(held_to: &str) -> io::Result<()> {
         println!("{line}");
     }
     print_group(&mut group, held_to);
-    let good = child.wait()?.success();
     fs::remove_dir_all(&folder)?;
     if good {
         return Ok(());
@@ -122,8 +124,8 @@ struct Counted {
     bytes: f64,
 }
 
-fn print_group(group: &mut Vec<Counted>, held_to: &str) {
-    let held = group.iter().find(|one| one.name.starts_with(held_to));
+fn print_group(group: &mut Vec<Counted>, held_to: fn(&str) -> bool) {
+    let held = group.iter().find(|one| held_to(&one.name));
     let held = held.map(|one| one.instructions);
     for Counted { name, instructions, bytes } in group.drain(..) {
         print!("  {name:<36} {instructions:>11.0} instructions");

@@ -1,11 +1,16 @@
 //! Texts and tables by the million, and what the Rust, the second program and the product
 //! answer for them.
 
+pub mod by_hand;
 pub mod instructions;
+pub mod layouts;
+pub mod lines;
 pub mod tables;
 pub mod texts;
 pub mod trees;
 
+#[cfg(feature = "product")]
+pub mod matching;
 #[cfg(feature = "product")]
 pub mod product;
 #[cfg(feature = "product")]

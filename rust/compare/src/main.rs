@@ -1,5 +1,5 @@
 //! The comparison. `--seed N` (default 1); `--scale N`, hundredths of the full run (default
-//! 100); `--only PART` (texts, tables, characters, product). Ends with 1 if anything is different and not explained.
+//! 100); `--only PART` (texts, tables, characters, product, matcher). Ends with 1 if anything is different and not explained.
 
 use std::collections::BTreeMap;
 use std::time::Instant;
@@ -486,16 +486,28 @@ fn compare_product(_: u64, _: usize) -> bool {
     true
 }
 
+#[cfg(feature = "product")]
+fn compare_matcher(seed: u64, scale: usize) -> bool {
+    compare::matching::compare(seed, scale)
+}
+
+#[cfg(not(feature = "product"))]
+fn compare_matcher(_: u64, _: usize) -> bool {
+    println!("\nmatcher: not linked (feature `product`)");
+    true
+}
+
 fn main() {
     let (seed, scale) = (argument("--seed", 1), argument("--scale", 100) as usize);
     println!("seed {seed}, scale {scale} of 100");
     quiet_panics();
-    let parts: [(&str, usize, Box<dyn Fn() -> bool + Send + Sync>); 4] = [
+    let parts: [(&str, usize, Box<dyn Fn() -> bool + Send + Sync>); 5] = [
         ("texts", 4 << 30, Box::new(move || compare_texts(seed, scale))),
         ("tables", 1 << 30, Box::new(move || compare_tables(seed, scale))),
         ("characters", 8 << 20, Box::new(compare_characters)),
         // The product gets the stack that a program has.
         ("product", 8 << 20, Box::new(move || compare_product(seed, scale))),
+        ("matcher", 8 << 20, Box::new(move || compare_matcher(seed, scale))),
     ];
     let mut good = true;
     let only = std::env::args().skip_while(|a| a != "--only").nth(1);

@@ -7,27 +7,42 @@ use second::read::Used;
 use second::{read, Refusal};
 
 /// As they are, for measuring: into buffers of the caller's.
-pub use flascjuvan::raw::{print as print_into, read as read_into};
+pub use flascjuvan::raw::{
+    match_line as match_into, match_lines as match_lines_into, print as print_into,
+    read as read_into, rule_named,
+};
+
+/// The tables of a text that reads, at the tagged level.
+pub fn read(text: &[u8]) -> Tables {
+    let (mut nodes, mut rules, mut store) =
+        (vec![0; text.len() * 6], vec![0; text.len() * 6], vec![0; text.len()]);
+    let answer = read_into(text, true, &mut nodes, &mut rules, &mut store);
+    let [0, 0, n, r, s] = answer else { panic!("{answer:?}: {}", shown(text)) };
+    nodes.truncate(n as usize * 6);
+    rules.truncate(r as usize * 6);
+    store.truncate(s as usize);
+    Tables { nodes, rules, store }
+}
 
 /// A lent buffer with canaries on both sides.
-struct Lent<T> {
+pub(crate) struct Lent<T> {
     all: Vec<T>,
 }
 
 const GUARD: usize = 16;
 
 impl<T: Copy + PartialEq + std::fmt::Debug> Lent<T> {
-    fn new(length: usize, canary: T) -> Lent<T> {
+    pub(crate) fn new(length: usize, canary: T) -> Lent<T> {
         Lent { all: vec![canary; length + 2 * GUARD] }
     }
 
-    fn lent(&mut self) -> &mut [T] {
+    pub(crate) fn lent(&mut self) -> &mut [T] {
         let end = self.all.len() - GUARD;
         &mut self.all[GUARD..end]
     }
 
     /// Whether `used` stands at the front, and all else is as it was.
-    fn holds(&self, used: &[T], canary: T) -> bool {
+    pub(crate) fn holds(&self, used: &[T], canary: T) -> bool {
         let (front, rest) = self.all.split_at(GUARD);
         let (written, rest) = rest.split_at(used.len());
         written == used && front.iter().chain(rest).all(|x| *x == canary)

@@ -1,6 +1,7 @@
-//! A second reader, printer and token lister, written from docs' rules alone and with nothing
-//! of the product's or of pest's: what it answers can be held beside both.
+//! A second reader, printer, token lister and line matcher, written from docs' rules alone and
+//! with nothing of the product's or of pest's: what it answers can be held beside both.
 
+pub mod matching;
 pub mod print;
 pub mod read;
 pub mod token;
@@ -13,6 +14,8 @@ pub const NODES: usize = 4_096;
 pub const RULES: usize = 1_024;
 /// The most round brackets open at once.
 pub const OPEN: usize = 1_024;
+/// The most visits of the matcher inside one another.
+pub const NESTED: usize = 1_024;
 /// The numbers in a record.
 pub const RECORD: usize = 6;
 

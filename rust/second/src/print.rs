@@ -15,7 +15,7 @@ pub fn print(nodes: &[u32], rules: &[u32], store: &[u8], out: &mut [u8]) -> Resu
     Ok(text.len())
 }
 
-fn part(store: &[u8], offset: u32, length: u32) -> Option<&[u8]> {
+pub(crate) fn part(store: &[u8], offset: u32, length: u32) -> Option<&[u8]> {
     let end = u64::from(offset) + u64::from(length);
     if end > store.len() as u64 {
         return None;

@@ -1,6 +1,7 @@
 //! Measures, in one run: reading by pest 2.5.2, by the given files of 2.9.5, by the second program
-//! and (feature `product`) by the product; and printing by `Display`, by the second program and by
-//! the product. `--seed N`; `--ms N`, milliseconds for each line (default 1,000); `--sample N`,
+//! and (feature `product`) by the product; printing by `Display`, by the second program and by
+//! the product; and lines matched by parsers that pest 2.5.2 generates, by a matcher by hand in Rust and
+//! by the product. `--only PART` (tables, lines); `--seed N`; `--ms N`, milliseconds for each line (default 1,000); `--sample N`,
 //! microseconds that a work runs before the next takes its turn (default 5,000). `--instructions`
 //! counts instructions in the place of time, by callgrind.
 
@@ -8,7 +9,8 @@ use std::hint::black_box;
 use std::time::{Duration, Instant};
 
 use compare::instructions::{self, Counter};
-use compare::{argument, asked, on_stack, Random};
+use compare::layouts::{Layout, LAYOUTS};
+use compare::{argument, asked, by_hand, on_stack, Random};
 use oracle::{Answer, Printable, Tables};
 
 /// A grammar of so many bytes, such as people write: it passes 2.5.2's validator, since every rule
@@ -103,14 +105,18 @@ impl Measured {
 
 type Work<'a> = (&'a str, Box<dyn FnMut() + 'a>);
 
-/// Of the works the one that all are held to has a name that begins so.
-const HELD_TO: &str = "given files of 2.9.5";
+/// Of the works the one that all are held to has a name that begins with one of these.
+const HELD_TO: [&str; 2] = ["given files of 2.9.5", "pest 2.5.2: P::parse"];
+
+fn held_to(name: &str) -> bool {
+    HELD_TO.iter().any(|front| name.starts_with(front))
+}
 
 /// The first calls find memory that was never touched.
 const WARM: usize = 3;
 
 /// Measures all works by turns and prints a line for each; under callgrind, shows them to it.
-fn measure(budget: Duration, bytes: usize, mut works: Vec<Work<'_>>) {
+fn measure(budget: Duration, bytes: usize, mut works: Vec<Work<'_>>) -> Vec<Measured> {
     for (_, work) in &mut works {
         for _ in 0..WARM {
             work();
@@ -120,13 +126,14 @@ fn measure(budget: Duration, bytes: usize, mut works: Vec<Work<'_>>) {
         for (name, work) in &mut works {
             instructions::show(name, bytes, work);
         }
-        return;
+        return Vec::new();
     }
     let measured = times(budget, works);
-    let held = measured.iter().find(|one| one.name.starts_with(HELD_TO)).map(Measured::median);
+    let held = measured.iter().find(|one| held_to(&one.name)).map(Measured::median);
     for one in &measured {
         one.print(bytes, held);
     }
+    measured
 }
 
 /// Runs all works by turns, for about `budget` each. A sample is long, so that all but its first runs
@@ -184,23 +191,225 @@ fn heading(seed: u64) -> String {
 
 fn main() {
     if asked("--instructions") {
-        instructions::by_callgrind(HELD_TO).expect("valgrind");
+        instructions::by_callgrind(held_to).expect("valgrind");
         return;
     }
     let seed = argument("--seed", 1);
     let budget = Duration::from_millis(argument("--ms", 1_000));
     println!("{}", heading(seed));
+    let only = std::env::args().skip_while(|a| a != "--only").nth(1);
+    let wanted = |part: &str| match &only {
+        Some(only) => only == part,
+        None => true,
+    };
     on_stack(1 << 30, || {
         let mut random = Random(seed);
-        for bytes in [1_024, 10_240, 65_536] {
-            let text = grammar(&mut random, bytes);
-            one(&text, budget);
+        if wanted("tables") {
+            for bytes in [1_024, 10_240, 65_536] {
+                let text = grammar(&mut random, bytes);
+                one(&text, budget);
+            }
+            #[cfg(feature = "product")]
+            if !asked("--callgrind") {
+                compare::random_trees::measure(seed);
+            }
         }
-        #[cfg(feature = "product")]
-        if !asked("--callgrind") {
-            compare::random_trees::measure(seed);
+        if wanted("lines") {
+            // the same lines, whatever else is measured
+            let mut random = Random(seed);
+            for layout in &LAYOUTS {
+                lines(layout, &mut random, budget);
+            }
+            names(budget);
         }
     });
+}
+
+/// Lines of a text that is matched.
+const LINES: usize = 1_000;
+/// Enough for every line.
+const ALLOWANCE: u64 = 1_000_000;
+
+/// A layout over lines of 40 to 200 bytes, one in ten of them damaged.
+fn lines(layout: &Layout, random: &mut Random, budget: Duration) {
+    let made = second::read::tables(layout.text.as_bytes(), true).expect("a good text");
+    let (nodes, rules, store) = (&made.nodes[..], &made.rules[..], &made.store[..]);
+    let lines: Vec<String> = (0..LINES)
+        .map(|_| {
+            let mut line = (layout.line)(random);
+            if random.one_in(10) {
+                let mut all: Vec<char> = line.chars().collect();
+                let at = random.below(all.len());
+                all[at] = '#';
+                line = all.into_iter().collect();
+            }
+            assert!((40..=200).contains(&line.len()), "{}: {line}", line.len());
+            line
+        })
+        .collect();
+    let text: String = lines.iter().map(|line| format!("{line}\n")).collect();
+    let (text, bytes) = (text.as_bytes(), text.len());
+    let wanted = second::matching::match_lines(nodes, rules, store, 0, text, ALLOWANCE);
+    let wanted = wanted.expect("it runs");
+    let mut records = vec![0; 5 * LINES];
+    let answer = by_hand::match_lines(nodes, rules, store, 0, text, ALLOWANCE, &mut records);
+    assert_eq!(answer, [0, 0, LINES as u64, bytes as u64]);
+    for ((line, wanted), record) in lines.iter().zip(&wanted).zip(records.chunks_exact(5)) {
+        let length = (wanted.matched == 1).then_some(wanted.length as usize);
+        assert_eq!((layout.pest)(line), length, "{line}");
+        let numbers = [0, 0, wanted.matched, wanted.length, wanted.steps];
+        assert_eq!(record, numbers, "{line}");
+        let one = by_hand::match_line(nodes, rules, store, 0, line.as_bytes(), ALLOWANCE);
+        assert_eq!(one, numbers);
+    }
+    let steps: u64 = wanted.iter().map(|record| record.steps).sum();
+    let matched = wanted.iter().filter(|record| record.matched == 1).count();
+    let whole =
+        wanted.iter().zip(&lines).filter(|(record, line)| record.length == line.len() as u64);
+    println!(
+        "\nmatching, {} layout: {} nodes, {} rules; {LINES} lines, {} bytes a line, {} steps a line, {matched} matched, {} wholly",
+        layout.name,
+        nodes.len() / 6,
+        rules.len() / 6,
+        (bytes - LINES) / LINES,
+        steps / LINES as u64,
+        whole.count(),
+    );
+    #[cfg(feature = "product")]
+    let mut records2 = records.clone();
+    #[allow(unused_mut)]
+    let mut works: Vec<Work<'_>> = vec![
+        (
+            "pest 2.5.2: P::parse, line by line",
+            Box::new(|| {
+                for line in &lines {
+                    black_box((layout.pest)(black_box(line)));
+                }
+            }),
+        ),
+        (
+            "by hand in Rust: match_lines",
+            Box::new(|| {
+                let answer = by_hand::match_lines(
+                    black_box(nodes),
+                    rules,
+                    store,
+                    0,
+                    text,
+                    ALLOWANCE,
+                    &mut records,
+                );
+                assert_eq!(black_box(answer)[2], LINES as u64);
+            }),
+        ),
+        (
+            "by hand in Rust: match_line",
+            Box::new(|| {
+                for line in &lines {
+                    let line = black_box(line).as_bytes();
+                    black_box(by_hand::match_line(nodes, rules, store, 0, line, ALLOWANCE));
+                }
+            }),
+        ),
+    ];
+    #[cfg(feature = "product")]
+    {
+        use compare::product::{match_into, match_lines_into};
+        let answer = match_lines_into(nodes, rules, store, 0, text, ALLOWANCE, &mut records2);
+        assert_eq!(answer, [0, 0, LINES as u64, bytes as u64]);
+        for (record, wanted) in records2.chunks_exact(5).zip(&wanted) {
+            assert_eq!(record, [0, 0, wanted.matched, wanted.length, wanted.steps]);
+        }
+        works.push((
+            "the product: match_lines",
+            Box::new(|| {
+                let nodes = black_box(nodes);
+                let answer =
+                    match_lines_into(nodes, rules, store, 0, text, ALLOWANCE, &mut records2);
+                assert_eq!(black_box(answer)[2], LINES as u64);
+            }),
+        ));
+        works.push((
+            "the product: match_line",
+            Box::new(|| {
+                for line in &lines {
+                    let line = black_box(line).as_bytes();
+                    black_box(match_into(nodes, rules, store, 0, line, ALLOWANCE));
+                }
+            }),
+        ));
+    }
+    for one in measure(budget, bytes, works) {
+        let best = one.samples[0].as_secs_f64();
+        print!("    {:<36} best: {:>8.1} ns a line", one.name, best * 1e9 / LINES as f64);
+        // pest makes no such steps
+        if !held_to(&one.name) {
+            print!(", {:>6.1} million steps a second", steps as f64 / best / 1e6);
+        }
+        println!();
+    }
+}
+
+/// As many names as fit beside 1,000 rules: what a call costs before it matches anything.
+fn names(budget: Duration) {
+    let mut random = Random(5);
+    let mut text = String::new();
+    let mut name = || format!("field_number_{}", random.below(1_000));
+    let mut names = 0;
+    for rule in 0..1_000 {
+        // 4,096 nodes: 2,548 names and what joins them
+        let count = if rule < 548 { 3 } else { 2 };
+        let of: Vec<String> = (0..count).map(|_| name()).collect();
+        names += count;
+        text.push_str(&format!("field_number_{rule}={{{}}}\n", of.join("~")));
+    }
+    // the first rule has nothing to look for
+    let made = second::read::tables(text.as_bytes(), true).expect("a good text");
+    let (nodes, rules, store) = (&made.nodes[..], &made.rules[..], &made.store[..]);
+    println!(
+        "\na call over {} rules and {names} names in {} nodes, 1 step allowed, {} bytes kept",
+        rules.len() / 6,
+        nodes.len() / 6,
+        store.len()
+    );
+    let wanted = [34, 0, 0, 0, 0];
+    assert_eq!(by_hand::match_line(nodes, rules, store, 0, b"", 1), wanted);
+    #[allow(unused_mut)]
+    let mut works: Vec<Work<'_>> = vec![(
+        "by hand in Rust: match_line",
+        Box::new(|| {
+            black_box(by_hand::match_line(black_box(nodes), rules, store, 0, b"", 1));
+        }),
+    )];
+    #[cfg(feature = "product")]
+    {
+        use compare::product::{match_into, print_into};
+        assert_eq!(match_into(nodes, rules, store, 0, b"", 1), wanted);
+        works.push((
+            "the product: match_line",
+            Box::new(|| {
+                black_box(match_into(black_box(nodes), rules, store, 0, b"", 1));
+            }),
+        ));
+        // with a node that is 31 no name is looked up
+        let mut unfit = nodes.to_vec();
+        unfit[0] = 18;
+        assert_eq!(match_into(&unfit, rules, store, 0, b"", 1), [31, 0, 0, 0, 0]);
+        works.push((
+            "the product: refused by 31 at once",
+            Box::new(move || {
+                black_box(match_into(black_box(&unfit), rules, store, 0, b"", 1));
+            }),
+        ));
+        // as much for the printer, which checks the tables alone before it finds no room
+        works.push((
+            "the product: print into no room",
+            Box::new(|| {
+                black_box(print_into(black_box(nodes), rules, store, &mut []));
+            }),
+        ));
+    }
+    measure(budget, store.len(), works);
 }
 
 fn one(text: &str, budget: Duration) {

@@ -14,6 +14,11 @@
 //! - `l AT COUNT:HEX,..`: the same, of a long text.
 //! - `p ROOM NODES RULES STORE`: print tables of such numbers and such a store. Answer: number,
 //!   place, bytes; the text in hex.
+//! - `m ALLOWANCE START HEX NODES RULES STORE`: run the rule of that index over a line. Answer:
+//!   number, place, 1 for a match, its length, steps.
+//! - `r ALLOWANCE START HEX NODES RULES STORE ROOM`: run it over the lines of a text; the room in
+//!   numbers. Answer: number, place, lines, where the next one begins; the records' numbers (of a
+//!   refusal none).
 //!
 //! An empty list or hex is `-`; a refusal's answer is its numbers alone.
 //!
@@ -24,8 +29,10 @@ use std::collections::BTreeMap;
 use std::fs;
 use std::io::{BufWriter, Write};
 
+use compare::lines::{self, Liner, Maker};
 use compare::{argument, hex, on_stack, quiet_panics, tables, texts, Random};
 use oracle::{Answer, Tables};
+use second::matching::{match_line, match_lines, record, Record};
 use second::read::Used;
 use second::{read, Refusal};
 
@@ -80,6 +87,22 @@ fn parts(text: &[u8]) -> String {
 }
 
 const BLOCK: usize = 65_536;
+
+/// More steps than most lines need.
+const AMPLE: u64 = 4_000;
+
+/// The numbers of nodes, of rules, the store and the line that the program has room for.
+const MOST: usize = 600;
+const RECORDS: usize = 120;
+
+/// Where the line after so many begins.
+fn past(text: &[u8], count: usize) -> usize {
+    text.split_inclusive(|byte| *byte == b'\n').take(count).map(<[u8]>::len).sum()
+}
+
+fn fits(made: &Tables, line: &[u8]) -> bool {
+    made.nodes.len().max(made.rules.len()).max(made.store.len()).max(line.len()) <= MOST
+}
 
 struct Stored {
     questions: BufWriter<fs::File>,
@@ -196,6 +219,118 @@ impl Stored {
         let question = format!("p {room} {} {} {}", list(nodes), list(rules), bytes(store));
         self.put(format!("p, {number:>2}"), &question, &answer);
     }
+
+    /// A line, and how many steps it took.
+    fn line(&mut self, made: &Tables, start: usize, line: &[u8], allowance: u64) -> Option<u64> {
+        if !fits(made, line) {
+            return None;
+        }
+        let Tables { nodes, rules, store } = made;
+        let question = format!(
+            "m {allowance} {start} {} {} {} {}",
+            bytes(line),
+            list(nodes),
+            list(rules),
+            bytes(store)
+        );
+        let Record { number, place, matched, length, steps } =
+            record(match_line(nodes, rules, store, start, line, allowance));
+        let answer = format!("{number} {place} {matched} {length} {steps}");
+        self.put(format!("m, {number:>2}"), &question, &answer);
+        Some(steps).filter(|_| number == 0)
+    }
+
+    fn lines(&mut self, made: &Tables, start: usize, text: &[u8], allowance: u64, room: usize) {
+        if !fits(made, text) || room > RECORDS {
+            return;
+        }
+        let Tables { nodes, rules, store } = made;
+        let question = format!(
+            "r {allowance} {start} {} {} {} {} {room}",
+            bytes(text),
+            list(nodes),
+            list(rules),
+            bytes(store)
+        );
+        let (number, answer) = match match_lines(nodes, rules, store, start, text, allowance) {
+            Err(Refusal { number, place }) => (number, format!("{number} {place} 0 0 -")),
+            Ok(records) => {
+                let count = records.len().min(room / 5);
+                let numbers = records[..count].iter().map(|r| {
+                    let Record { number, place, matched, length, steps } = r;
+                    format!("{number},{place},{matched},{length},{steps},")
+                });
+                let numbers = or_dash(numbers.collect());
+                (0, format!("0 0 {count} {} {numbers}", past(text, count)))
+            }
+        };
+        self.put(format!("r, {number:>2}"), &question, &answer);
+    }
+
+    /// Some short lines of a rule, with allowances around what each needs, and a short text.
+    fn rule(&mut self, random: &mut Random, made: &Tables, characters: &[char], much: usize) {
+        let rules = made.rules.len() / 6;
+        for _ in 0..much {
+            let start = if random.one_in(20) {
+                rules + random.below(2)
+            } else {
+                random.below(rules.max(1))
+            };
+            let mut line = Liner::new(random, characters).line(made, start);
+            if random.one_in(10) {
+                Liner::new(random, characters).broken(&mut line);
+            }
+            if line.len() > 40 {
+                continue;
+            }
+            if let Some(steps) = self.line(made, start, &line, AMPLE) {
+                let other = random.of(&[steps - 1, steps, steps / 2, 0, 1 << 40]);
+                self.line(made, start, &line, other);
+            }
+        }
+        let start = random.below(rules.max(1));
+        let text = lines::text(random, characters, made, start);
+        let room =
+            5 * random.below(second::matching::lines(&text).len() + 2) + random.of(&[0, 0, 1, 4]);
+        let allowance = random.of(&[AMPLE, AMPLE, 30, 5]);
+        if text.len() <= 80 {
+            self.lines(made, start, &text, allowance, room);
+        }
+    }
+}
+
+/// The matcher: grown tables, tables with something in them that is 31 or 32, and false ones; and
+/// nesting on both sides of 1,024 visits.
+fn matcher(stored: &mut Stored, seed: u64, scale: usize) {
+    let mut random = Random(seed ^ 3);
+    let mut maker = Maker::new(Random(seed ^ 4));
+    for i in 0..2 * scale {
+        let made = maker.make(1 + i % 3, 1 + i % 6);
+        let characters = maker.characters.clone();
+        stored.rule(&mut random, &made, &characters, 4);
+        let spoilt = lines::spoilt(&mut random, &made);
+        stored.rule(&mut random, &spoilt, &characters, 1);
+        let falsified = tables::falsified(&mut random, &made);
+        if random.one_in(2) {
+            stored.rule(&mut random, &falsified, &characters, 1);
+        }
+    }
+    for (text, counts) in [
+        (r#"r={"a"~r|"b"}"#, [340, 341]),
+        (r#"r={("a"~r)?}"#, [340, 341]),
+        (r#"r={"a"~s|"b"} s={r}"#, [255, 256]),
+        (r#"r={!"b"~ANY~r|"b"}"#, [255, 256]),
+    ] {
+        let read = read::tables(text.as_bytes(), true).expect(text);
+        let made = Tables { nodes: read.nodes, rules: read.rules, store: read.store };
+        for count in counts.into_iter().flat_map(|count| count - 2..=count + 2) {
+            let line = "a".repeat(count) + "b";
+            if let Some(steps) = stored.line(&made, 0, line.as_bytes(), 1_000_000) {
+                stored.line(&made, 0, line.as_bytes(), steps - 1);
+                stored.line(&made, 0, line.as_bytes(), steps);
+            }
+        }
+    }
 }
 
 fn write(folder: &str, seed: u64, scale: usize) {
@@ -280,6 +415,7 @@ fn write(folder: &str, seed: u64, scale: usize) {
             stored.tables(&made, -1);
         }
     }
+    matcher(&mut stored, seed, scale);
     stored.end();
     println!("seed {seed}");
     for (class, count) in &stored.counts {
