@@ -1,6 +1,7 @@
 // Runs what programs write on the vectors of its standard input. A line names what is run, how many bytes of
 // the output are lent, and
-//     d   a text in pieces: how many times, and what in hex; `show::desk` is run on it
+//     d   a text in pieces: how many times, and what in hex; `show::desk` is run on it in the full style
+//     s   the same, in the short style
 //     r   a number and a place; `show::refusal` is run on them
 //     l   an answer's five numbers; `show::answer_line` is run on them
 //     w   a text in pieces; `show::whole_lines` is run on it
@@ -11,6 +12,7 @@
 // Then the bytes put, and how many bytes of the whole output behind them still stand at what was there before;
 // then of more than 300 bytes a sum, and of others, on lines of their own, all.
 use matcher::Row;
+use printer::Style;
 use show::Block;
 use show::Layout;
 use show::Shown;
@@ -39,11 +41,11 @@ fn answer(word: &[u8], n: usize, out: &[u8]) {
     vectors::write(&out[..n]);
 }
 
-fn run_desk(text: &[u8], room: usize, out: &mut [u8]) {
+fn run_desk(style: Style, text: &[u8], room: usize, out: &mut [u8]) {
     if out.len() < room {
         return;
     }
-    let shown = show::desk(text, &mut out[..room]);
+    let shown = show::desk(style, text, &mut out[..room]);
     match shown {
         Shown::Text(n) => answer(b" text", n, out),
         Shown::Refused(n) => answer(b" refused", n, out),
@@ -189,10 +191,10 @@ fn run_lines(line: &[u8], from: usize, room: usize, out: &mut [u8]) {
     );
 }
 
-fn run_text(line: &[u8], from: usize, room: usize, out: &mut [u8]) {
+fn run_text(style: Style, line: &[u8], from: usize, room: usize, out: &mut [u8]) {
     let mut text = [0u8; 65600];
     let n = vectors::pieces(line, from, &mut text);
-    run_desk(&text[..n], room, out);
+    run_desk(style, &text[..n], room, out);
 }
 
 fn run_numbers(line: &[u8], from: usize, room: usize, out: &mut [u8]) {
@@ -223,7 +225,8 @@ fn run_line(line: &[u8]) {
         return;
     }
     match line[at] {
-        b'd' => run_text(line, b, room, &mut out),
+        b'd' => run_text(Style::Full, line, b, room, &mut out),
+        b's' => run_text(Style::Short, line, b, room, &mut out),
         b'l' => run_row(line, b, room, &mut out),
         b'w' => run_whole(line, b),
         b'b' => run_lines(line, b, room, &mut out),

@@ -5,6 +5,7 @@ use mathlib.Core.List.{List}
 use lib.ListN.{length}
 use Rattle.structure.specs.declared.Level.{Level}
 use Rattle.reader.specs.Read.{roomForNodes, roomForRules, readOf, reported, Leaves}
+use Rattle.printer.specs.declared.Style.{Style}
 use Rattle.printer.specs.Answers as Answers
 use Rattle.token.specs.Lister.{lister}
 use Rattle.matcher.specs.Answers as Match
@@ -22,12 +23,12 @@ pub read-unique : {s : List ℕ} {tagged : ℕ} {ns rs st a b c d x y z w : List
 read-unique v u =
     (v .answered ∙ sym (u .answered), v .left .nodes ∙ sym (u .left .nodes), v .left .rules ∙ sym (u .left .rules), v .left .store ∙ sym (u .left .store))
 
--- flascjuvan_print: the answer, and what the output holds
-pub record Printed (ns rs st o answer o′ : List ℕ) : Type 0 where
-  pub answered : answer ≡ printNumbers (Answers.reported ns rs st (length o))
-  pub written : o′ ≡ Answers.printIn ns rs st o (Answers.printOf ns rs st (length o))
+-- flascjuvan_print (Full), flascjuvan_print_short (Short): the answer, and what the output holds
+pub record Printed (style : Style) (ns rs st o answer o′ : List ℕ) : Type 0 where
+  pub answered : answer ≡ printNumbers (Answers.reported style ns rs st (length o))
+  pub written : o′ ≡ Answers.printIn style ns rs st o (Answers.printOf style ns rs st (length o))
 
-pub print-unique : {ns rs st o a b x y : List ℕ} → Printed ns rs st o a b → Printed ns rs st o x y → (a ≡ x) × (b ≡ y)
+pub print-unique : {style : Style} {ns rs st o a b x y : List ℕ} → Printed style ns rs st o a b → Printed style ns rs st o x y → (a ≡ x) × (b ≡ y)
 print-unique v u = (v .answered ∙ sym (u .answered), v .written ∙ sym (u .written))
 
 -- flascjuvan_next_token: the answer

@@ -6,12 +6,14 @@ use matcher::Finding;
 use matcher::Row;
 use matcher::Tally;
 use printer::Printed;
+use printer::Style;
 use reader::Reading;
 use structure::Level;
 use token::Listed;
 ghost use mathlib.Core.Path.{_≡_};
 ghost use lib.ListN.{length};
 ghost use Rattle.token.specs.Lister.{numbersOf, lister};
+ghost use Rattle.printer.specs.declared.Style.the-variants.{Full, Short};
 ghost use Rattle.printer.specs.Answers.{printOf, printIn};
 ghost use Rattle.printer.specs.Answers.{numbered as printNumbered, reported as printReported};
 ghost use Rattle.reader.specs.Read.{roomForNodes, roomForRules, readOf, Leaves};
@@ -120,7 +122,23 @@ pub extern "C" fn flascjuvan_read(
     *answer = read_numbers(reading);
 }
 
-// Prints tables to the front of an output. The answer: number, place, bytes used.
+// Prints tables in a style to the front of an output. The answer: number, place, bytes used.
+pub fn print_styled(
+    style: Style,
+    nodes: &[u32],
+    rules: &[u32],
+    store: &[u8],
+    out: &mut [u8],
+    answer: &mut [u64; 3],
+)
+    ensures answered { λ _. ⌜ now (answer .exit) ≡ printNumbers (printReported style (now (nodes .entry)) (now (rules .entry)) (now (store .entry)) (length (now (out .entry)))) ⌝ }
+    ensures written { λ _. ⌜ now (out .exit) ≡ printIn style (now (nodes .entry)) (now (rules .entry)) (now (store .entry)) (now (out .entry)) (printOf style (now (nodes .entry)) (now (rules .entry)) (now (store .entry)) (length (now (out .entry)))) ⌝ }
+{
+    let printed = printer::print(style, nodes, rules, store, out);
+    *answer = printed_numbers(printed);
+}
+
+// The same, in the full style.
 #[no_mangle]
 pub extern "C" fn flascjuvan_print(
     nodes: &[u32],
@@ -129,11 +147,25 @@ pub extern "C" fn flascjuvan_print(
     out: &mut [u8],
     answer: &mut [u64; 3],
 )
-    ensures answered { λ _. ⌜ now (answer .exit) ≡ printNumbers (printReported (now (nodes .entry)) (now (rules .entry)) (now (store .entry)) (length (now (out .entry)))) ⌝ }
-    ensures written { λ _. ⌜ now (out .exit) ≡ printIn (now (nodes .entry)) (now (rules .entry)) (now (store .entry)) (now (out .entry)) (printOf (now (nodes .entry)) (now (rules .entry)) (now (store .entry)) (length (now (out .entry)))) ⌝ }
+    ensures answered { λ _. ⌜ now (answer .exit) ≡ printNumbers (printReported Full (now (nodes .entry)) (now (rules .entry)) (now (store .entry)) (length (now (out .entry)))) ⌝ }
+    ensures written { λ _. ⌜ now (out .exit) ≡ printIn Full (now (nodes .entry)) (now (rules .entry)) (now (store .entry)) (now (out .entry)) (printOf Full (now (nodes .entry)) (now (rules .entry)) (now (store .entry)) (length (now (out .entry)))) ⌝ }
 {
-    let printed = printer::print(nodes, rules, store, out);
-    *answer = printed_numbers(printed);
+    print_styled(Style::Full, nodes, rules, store, out, answer);
+}
+
+// And in the short one.
+#[no_mangle]
+pub extern "C" fn flascjuvan_print_short(
+    nodes: &[u32],
+    rules: &[u32],
+    store: &[u8],
+    out: &mut [u8],
+    answer: &mut [u64; 3],
+)
+    ensures answered { λ _. ⌜ now (answer .exit) ≡ printNumbers (printReported Short (now (nodes .entry)) (now (rules .entry)) (now (store .entry)) (length (now (out .entry)))) ⌝ }
+    ensures written { λ _. ⌜ now (out .exit) ≡ printIn Short (now (nodes .entry)) (now (rules .entry)) (now (store .entry)) (now (out .entry)) (printOf Short (now (nodes .entry)) (now (rules .entry)) (now (store .entry)) (length (now (out .entry)))) ⌝ }
+{
+    print_styled(Style::Short, nodes, rules, store, out, answer);
 }
 
 // The next token of a text from a place on. The answer: number, place, kind, start, end.

@@ -17,12 +17,13 @@ use Rattle.table.specs.declared.Join.{Join}
 use Rattle.table.specs.declared.Join.the-variants.{Seq, Choice}
 use Rattle.table.specs.declared.Unary.the-variants.{PosPred, NegPred, Opt, Rep, RepOnce, RepExact, RepMin, RepMax, RepMinMax, Push}
 use Rattle.table.specs.Tree.{text, range, peekSlice, Wrap, plain, nodeTag, Tree, leaf, one, two}
+use Rattle.printer.specs.declared.Style.the-variants.{Full, Short}
 use Rattle.printer.specs.declared.Place.{Place}
 use Rattle.printer.specs.declared.Place.the-variants.{Alone, Prefixed, Operand, LeftOf, RightOf}
 use Rattle.printer.specs.declared.Form.{Form}
 use Rattle.printer.specs.declared.Form.the-variants.{Plain, Range, Prefix, Postfix, Tag, Joined}
-use Rattle.printer.specs.Printing.{character, brackets, enclosed, atomForm, atomText, wrapForm, under, before, after, tagText, separator, printed}
-use Rattle.printer.specs.Display.{display, isPrefix, asPostfixOperand, displayOne, chain, spread, joinedBy, displayTwo}
+use Rattle.printer.specs.Printing.{character, isPrefix, brackets, enclosed, atomForm, atomText, wrapForm, under, before, after, tagText, separator, printed}
+use Rattle.printer.specs.Display.{display, asPostfixOperand, displayOne, chain, spread, joinedBy, displayTwo}
 
 -- what decides about a tree's brackets
 abbrev formOf : {P : Type 0} → Tree P → Form
@@ -38,7 +39,7 @@ regroup : (b e d c : List ℕ) → ((b ++ e) ++ (d ++ [])) ++ c ≡ b ++ (e ++ (
 regroup b e d c = simp append-assoc
 
 -- the brackets of a predicate under a postfix are all that the place changes there
-operand-form : (f : Form) (x : List ℕ) → enclosed (brackets Operand f) x ≡ choose (isPrefix f) (λ u. 40 ∷ (enclosed (brackets Alone f) x ++ (41 ∷ []))) (λ u. enclosed (brackets Alone f) x)
+operand-form : (f : Form) (x : List ℕ) → enclosed (brackets Full Operand f) x ≡ choose (isPrefix f) (λ u. 40 ∷ (enclosed (brackets Full Alone f) x ++ (41 ∷ []))) (λ u. enclosed (brackets Full Alone f) x)
 unfolding brackets enclosed
 operand-form Plain x = refl
 operand-form Range x = refl
@@ -47,7 +48,7 @@ operand-form Postfix x = refl
 operand-form Tag x = refl
 operand-form (Joined j) x = refl
 
-alone-prefixed : (f : Form) → brackets Prefixed f ≡ brackets Alone f
+alone-prefixed : (f : Form) → brackets Full Prefixed f ≡ brackets Full Alone f
 unfolding brackets
 alone-prefixed Plain = refl
 alone-prefixed Range = refl
@@ -56,7 +57,7 @@ alone-prefixed Postfix = refl
 alone-prefixed Tag = refl
 alone-prefixed (Joined j) = refl
 
-alone-left : (k : Join) (f : Form) → brackets (LeftOf k) f ≡ brackets Alone f
+alone-left : (k : Join) (f : Form) → brackets Full (LeftOf k) f ≡ brackets Full Alone f
 unfolding brackets
 alone-left k Plain = refl
 alone-left k Range = refl
@@ -65,7 +66,7 @@ alone-left k Postfix = refl
 alone-left k Tag = refl
 alone-left k (Joined j) = refl
 
-alone-right : (k : Join) (o : Wrap) → brackets (RightOf k) (wrapForm o) ≡ brackets Alone (wrapForm o)
+alone-right : (k : Join) (o : Wrap) → brackets Full (RightOf k) (wrapForm o) ≡ brackets Full Alone (wrapForm o)
 unfolding brackets
 alone-right k (nodeTag b) = refl
 alone-right k (plain PosPred) = refl
@@ -90,20 +91,20 @@ inside-encoded c h =
 
 module _ {P : Type 0} where
   -- a place counts by its brackets alone
-  same-place : (w v : Place) (t : Tree P) → brackets w (formOf t) ≡ brackets v (formOf t) → printed w t ≡ printed v t
+  same-place : (w v : Place) (t : Tree P) → brackets Full w (formOf t) ≡ brackets Full v (formOf t) → printed Full w t ≡ printed Full v t
   unfolding printed
   same-place w v (leaf s a) e = ap (λ b. enclosed b (atomText a)) e
-  same-place w v (one s o t) e = ap (λ b. enclosed b (before o ++ (printed (under (wrapForm o)) t ++ after o))) e
-  same-place w v (two s j a b) e = ap (λ c. enclosed c (printed (LeftOf j) a ++ (separator j ++ printed (RightOf j) b))) e
+  same-place w v (one s o t) e = ap (λ b. enclosed b (before o ++ (printed Full (under (wrapForm o)) t ++ after o))) e
+  same-place w v (two s j a b) e = ap (λ c. enclosed c (printed Full (LeftOf j) a ++ (separator j ++ printed Full (RightOf j) b))) e
 
-  prefixed : (t : Tree P) → printed Prefixed t ≡ display t
+  prefixed : (t : Tree P) → printed Full Prefixed t ≡ display t
   prefixed t = same-place Prefixed Alone t (alone-prefixed (formOf t))
 
-  left : (j : Join) (t : Tree P) → printed (LeftOf j) t ≡ display t
+  left : (j : Join) (t : Tree P) → printed Full (LeftOf j) t ≡ display t
   left j t = same-place (LeftOf j) Alone t (alone-left j (formOf t))
 
   -- a postfix on a predicate brackets it
-  pub display-operand : (t : Tree P) → printed Operand t ≡ asPostfixOperand t
+  pub display-operand : (t : Tree P) → printed Full Operand t ≡ asPostfixOperand t
   unfolding printed asPostfixOperand
   display-operand (leaf s (text k b)) = operand-form Plain _
   display-operand (leaf s (range x y)) = operand-form Range _
@@ -111,15 +112,15 @@ module _ {P : Type 0} where
   display-operand (one s o t) = operand-form (wrapForm o) _
   display-operand (two s j a b) = operand-form (Joined j) _
 
-  before-it : (c : ℕ) (t : Tree P) → enclosed false (c ∷ (printed Prefixed t ++ [])) ≡ c ∷ display t
-  before-it c t = bare (c ∷ (printed Prefixed t ++ [])) ∙ ap (λ x. c ∷ x) (append-nil (printed Prefixed t) ∙ prefixed t)
+  before-it : (c : ℕ) (t : Tree P) → enclosed false (c ∷ (printed Full Prefixed t ++ [])) ≡ c ∷ display t
+  before-it c t = bare (c ∷ (printed Full Prefixed t ++ [])) ∙ ap (λ x. c ∷ x) (append-nil (printed Full Prefixed t) ∙ prefixed t)
 
-  after-it : (t : Tree P) (x : List ℕ) → enclosed false (printed Operand t ++ x) ≡ asPostfixOperand t ++ x
-  after-it t x = bare (printed Operand t ++ x) ∙ ap (λ y. y ++ x) (display-operand t)
+  after-it : (t : Tree P) (x : List ℕ) → enclosed false (printed Full Operand t ++ x) ≡ asPostfixOperand t ++ x
+  after-it t x = bare (printed Full Operand t ++ x) ∙ ap (λ y. y ++ x) (display-operand t)
 
-  tagged : (b : List ℕ) (t : Tree P) → enclosed true (tagText b ++ (printed Prefixed t ++ [])) ≡ 40 ∷ 35 ∷ (b ++ (32 ∷ 61 ∷ 32 ∷ (display t ++ (41 ∷ []))))
+  tagged : (b : List ℕ) (t : Tree P) → enclosed true (tagText b ++ (printed Full Prefixed t ++ [])) ≡ 40 ∷ 35 ∷ (b ++ (32 ∷ 61 ∷ 32 ∷ (display t ++ (41 ∷ []))))
   unfolding enclosed tagText
-  tagged b t = ap (λ x. 40 ∷ 35 ∷ x) (regroup b (32 ∷ 61 ∷ 32 ∷ []) (printed Prefixed t) (41 ∷ []) ∙ ap (λ x. b ++ (32 ∷ 61 ∷ 32 ∷ (x ++ (41 ∷ [])))) (prefixed t))
+  tagged b t = ap (λ x. 40 ∷ 35 ∷ x) (regroup b (32 ∷ 61 ∷ 32 ∷ []) (printed Full Prefixed t) (41 ∷ []) ∙ ap (λ x. b ++ (32 ∷ 61 ∷ 32 ∷ (x ++ (41 ∷ [])))) (prefixed t))
 
   -- what `Display` writes over one child
   pub display-one : (s : P) (o : Wrap) (t : Tree P) → display (one s o t) ≡ displayOne o (display t) (asPostfixOperand t)
@@ -136,20 +137,20 @@ module _ {P : Type 0} where
   display-one s (plain Push) t = bare _
   display-one s (nodeTag b) t = tagged b t
 
-  last : (j : Join) (t : Tree P) → brackets (RightOf j) (formOf t) ≡ brackets Alone (formOf t) → separator j ++ printed (RightOf j) t ≡ spread (separator j) (display t ∷ [])
+  last : (j : Join) (t : Tree P) → brackets Full (RightOf j) (formOf t) ≡ brackets Full Alone (formOf t) → separator j ++ printed Full (RightOf j) t ≡ spread (separator j) (display t ∷ [])
   unfolding spread
   last j t e = ap (λ x. separator j ++ x) (same-place (RightOf j) Alone t e ∙ sym (append-nil (display t)))
 
-  more : (s : P) (j : Join) (a b : Tree P) (x : List ℕ) → brackets (RightOf j) (Joined j) ≡ false → separator j ++ printed (RightOf j) b ≡ x
-      → separator j ++ printed (RightOf j) (two s j a b) ≡ separator j ++ (display a ++ x)
+  more : (s : P) (j : Join) (a b : Tree P) (x : List ℕ) → brackets Full (RightOf j) (Joined j) ≡ false → separator j ++ printed Full (RightOf j) b ≡ x
+      → separator j ++ printed Full (RightOf j) (two s j a b) ≡ separator j ++ (display a ++ x)
   unfolding printed
   more s j a b x e h =
       ap (λ y. separator j ++ y)
-      (ap (λ c. enclosed c (printed (LeftOf j) a ++ (separator j ++ printed (RightOf j) b))) e
+      (ap (λ c. enclosed c (printed Full (LeftOf j) a ++ (separator j ++ printed Full (RightOf j) b))) e
       ∙ bare _ ∙ rw (left j a, h))
 
   -- what follows a chain's first expression
-  pub display-chain : (j : Join) (b : Tree P) → separator j ++ printed (RightOf j) b ≡ spread (separator j) (map display (chain j b))
+  pub display-chain : (j : Join) (b : Tree P) → separator j ++ printed Full (RightOf j) b ≡ spread (separator j) (map display (chain j b))
   unfolding chain spread brackets
   display-chain j (leaf s (text k x)) = last j (leaf s (text k x)) refl
   display-chain j (leaf s (range x y)) = last j (leaf s (range x y)) refl
@@ -164,7 +165,7 @@ module _ {P : Type 0} where
   pub display-two : (s : P) (j : Join) (a b : Tree P) → display (two s j a b) ≡ displayTwo j a b
   unfolding printed displayTwo joinedBy enclosed brackets
   display-two s j a b =
-      ap (λ x. 40 ∷ (x ++ (41 ∷ []))) (ap (λ x. x ++ (separator j ++ printed (RightOf j) b)) (left j a) ∙ ap (λ x. display a ++ x) (display-chain j b))
+      ap (λ x. 40 ∷ (x ++ (41 ∷ []))) (ap (λ x. x ++ (separator j ++ printed Full (RightOf j) b)) (left j a) ∙ ap (λ x. display a ++ x) (display-chain j b))
 
 -- a range's end is `fmt_literal` of its character's bytes
 pub character-literal : (c : ℕ) → scalar c ≡ true → character c ≡ literal 39 (encoded c)

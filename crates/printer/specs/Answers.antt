@@ -9,13 +9,14 @@ use Rattle.table.specs.declared.TableCheck.{TableCheck}
 use Rattle.table.specs.declared.TableCheck.the-variants as Table
 use Rattle.table.specs.Record.{rulesOf}
 use Rattle.table.specs.Check.{tables}
+use Rattle.printer.specs.declared.Style.{Style}
 use Rattle.printer.specs.declared.Printed.{Printed}
 use Rattle.printer.specs.declared.Printed.the-variants.{Used, Shape, Node, Rule, NoRoom}
 use Rattle.printer.specs.Printing.{printedRules}
 
 -- the text of tables: that of their rules
-unfoldable pub tableText : List ℕ → List ℕ → List ℕ → List ℕ
-tableText ns rs st = printedRules (rulesOf ns rs st)
+unfoldable pub tableText : Style → List ℕ → List ℕ → List ℕ → List ℕ
+tableText style ns rs st = printedRules style (rulesOf ns rs st)
 
 abbrev pub answerBy : TableCheck → (Unit {0} → Printed) → Printed
 answerBy Table.Good f = f tt
@@ -28,16 +29,16 @@ unfoldable pub roomOf : List ℕ → ℕ → Printed
 roomOf x n = choose (leb (length x) n) (λ u. Used (length x)) (λ u. NoRoom)
 
 -- the answer for an output of n bytes: the first fault of the tables, then room
-unfoldable pub printOf : List ℕ → List ℕ → List ℕ → ℕ → Printed
-printOf ns rs st n = answerBy (tables ns rs st) (λ u. roomOf (tableText ns rs st) n)
+unfoldable pub printOf : Style → List ℕ → List ℕ → List ℕ → ℕ → Printed
+printOf style ns rs st n = answerBy (tables ns rs st) (λ u. roomOf (tableText style ns rs st) n)
 
 -- what it leaves in the output: a success changes only what it reports as used
-unfoldable pub printIn : List ℕ → List ℕ → List ℕ → List ℕ → Printed → List ℕ
-printIn ns rs st o (Used n) = fronted (tableText ns rs st) o
-printIn ns rs st o Shape = o
-printIn ns rs st o (Node i) = o
-printIn ns rs st o (Rule i) = o
-printIn ns rs st o NoRoom = o
+unfoldable pub printIn : Style → List ℕ → List ℕ → List ℕ → List ℕ → Printed → List ℕ
+printIn style ns rs st o (Used n) = fronted (tableText style ns rs st) o
+printIn style ns rs st o Shape = o
+printIn style ns rs st o (Node i) = o
+printIn style ns rs st o (Rule i) = o
+printIn style ns rs st o NoRoom = o
 
 -- an answer's number and place, and the bytes used
 pub record Numbered : Type 0 where
@@ -59,9 +60,9 @@ reportBy (Table.Node i) f = record { number = 21; place = i; used = 0 }
 reportBy (Table.Rule i) f = record { number = 22; place = i; used = 0 }
 
 -- 20, 21 and 22 by the tables, then 23 where the text is longer than the lent output, else 0 and the bytes used
-unfoldable pub reported : List ℕ → List ℕ → List ℕ → ℕ → Numbered
-reported ns rs st n =
+unfoldable pub reported : Style → List ℕ → List ℕ → List ℕ → ℕ → Numbered
+reported style ns rs st n =
     reportBy (tables ns rs st)
-    (λ u. choose (leb (length (tableText ns rs st)) n)
-    (λ u. record { number = 0; place = 0; used = length (tableText ns rs st) })
+    (λ u. choose (leb (length (tableText style ns rs st)) n)
+    (λ u. record { number = 0; place = 0; used = length (tableText style ns rs st) })
     (λ u. record { number = 23; place = 0; used = 0 }))

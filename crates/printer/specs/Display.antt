@@ -11,19 +11,12 @@ use Rattle.table.specs.Regroup.{sameJoin}
 use Rattle.printer.specs.declared.Place.the-variants.{Alone}
 use Rattle.printer.specs.declared.Form.{Form}
 use Rattle.printer.specs.declared.Form.the-variants.{Plain, Range, Prefix, Postfix, Tag, Joined}
-use Rattle.printer.specs.Printing.{wrapForm, separator, printed}
+use Rattle.printer.specs.declared.Style.the-variants.{Full}
+use Rattle.printer.specs.Printing.{isPrefix, wrapForm, separator, printed}
 
 -- `format!("{self}")`
 abbrev pub display : {P : Type 0} → Tree P → List ℕ
-display t = printed Alone t
-
-abbrev pub isPrefix : Form → Bool
-isPrefix Plain = false
-isPrefix Range = false
-isPrefix Prefix = true
-isPrefix Postfix = false
-isPrefix Tag = false
-isPrefix (Joined j) = false
+display t = printed Full Alone t
 
 -- `Expr::PosPred(_) | Expr::NegPred(_)`
 abbrev pub isPredicate : {P : Type 0} → Tree P → Bool

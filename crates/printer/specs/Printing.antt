@@ -4,7 +4,7 @@ use mathlib.Core.Bool.{Bool, true, false, not}
 use mathlib.Core.List.{List, [], _∷_, _++_}
 use lib.Dec.{ltb}
 use lib.ListN.{getD}
-use Rattle.text.specs.Choice.{choose}
+use Rattle.text.specs.Choice.{choose, and, or}
 use Rattle.text.specs.Digits.{decimal}
 use Rattle.literal.specs.Literals.{shown, literal}
 use Rattle.table.specs.declared.Join.{Join}
@@ -17,6 +17,8 @@ use Rattle.table.specs.declared.End.{End}
 use Rattle.table.specs.declared.End.the-variants.{Open, At}
 use Rattle.table.specs.Tree.{Atom, text, range, peekSlice, Wrap, plain, nodeTag, Tree, leaf, one, two, Rule}
 use Rattle.table.specs.Regroup.{sameJoin}
+use Rattle.printer.specs.declared.Style.{Style}
+use Rattle.printer.specs.declared.Style.the-variants.{Full, Short}
 use Rattle.printer.specs.declared.Place.{Place}
 use Rattle.printer.specs.declared.Place.the-variants.{Alone, Prefixed, Operand, LeftOf, RightOf}
 use Rattle.printer.specs.declared.Form.{Form}
@@ -40,15 +42,61 @@ follows j Operand = false
 follows j (LeftOf k) = false
 follows j (RightOf k) = sameJoin j k
 
--- Range always in brackets; Seq and Choice in brackets, but a right child of the same kind goes on its chain; a tag in
--- brackets; a postfix on a predicate brackets it
-unfoldable pub brackets : Place → Form → Bool
-brackets w Plain = false
-brackets w Range = true
-brackets w Prefix = isOperand w
-brackets w Postfix = false
-brackets w Tag = true
-brackets w (Joined j) = not (follows j w)
+-- under a postfix, a predicate or a tag
+abbrev pub isUnder : Place → Bool
+isUnder Alone = false
+isUnder Prefixed = true
+isUnder Operand = true
+isUnder (LeftOf j) = false
+isUnder (RightOf j) = false
+
+-- under Seq
+abbrev pub underSeq : Place → Bool
+underSeq Alone = false
+underSeq Prefixed = false
+underSeq Operand = false
+underSeq (LeftOf Seq) = true
+underSeq (LeftOf Choice) = false
+underSeq (RightOf Seq) = true
+underSeq (RightOf Choice) = false
+
+-- a predicate
+abbrev pub isPrefix : Form → Bool
+isPrefix Plain = false
+isPrefix Range = false
+isPrefix Prefix = true
+isPrefix Postfix = false
+isPrefix Tag = false
+isPrefix (Joined j) = false
+
+abbrev pub isChoice : Join → Bool
+isChoice Seq = false
+isChoice Choice = true
+
+abbrev pub isFull : Style → Bool
+isFull Full = true
+isFull Short = false
+
+-- Full: always, but a right child of the same kind goes on its chain. Short: under a postfix, a predicate or a tag; a
+-- right child of the same kind; Choice under Seq
+abbrev pub joinBrackets : Style → Place → Join → Bool
+joinBrackets Full w j = not (follows j w)
+joinBrackets Short w j = or (isUnder w) (or (follows j w) (and (underSeq w) (isChoice j)))
+
+-- Full: always. Short: under a postfix, a predicate or a tag
+abbrev pub tagBrackets : Style → Place → Bool
+tagBrackets Full w = true
+tagBrackets Short w = isUnder w
+
+-- Range always in the full text, never in the short one; a predicate under a postfix in both. Levels says the short
+-- text's twice more, as a sentence and by the grammar's levels
+unfoldable pub brackets : Style → Place → Form → Bool
+brackets style w Plain = false
+brackets style w Range = isFull style
+brackets style w Prefix = isOperand w
+brackets style w Postfix = false
+brackets style w Tag = tagBrackets style w
+brackets style w (Joined j) = joinBrackets style w j
 
 abbrev pub opening : Bool → List ℕ
 opening true = 40 ∷ []
@@ -178,10 +226,10 @@ abbrev pub separator : Join → List ℕ
 separator j = 32 ∷ joinByte j ∷ 32 ∷ []
 
 -- the text of an expression that stands at a place
-unfoldable pub printed : {P : Type 0} → Place → Tree P → List ℕ
-printed w (leaf s a) = enclosed (brackets w (atomForm a)) (atomText a)
-printed w (one s o t) = enclosed (brackets w (wrapForm o)) (before o ++ (printed (under (wrapForm o)) t ++ after o))
-printed w (two s j a b) = enclosed (brackets w (Joined j)) (printed (LeftOf j) a ++ (separator j ++ printed (RightOf j) b))
+unfoldable pub printed : {P : Type 0} → Style → Place → Tree P → List ℕ
+printed style w (leaf s a) = enclosed (brackets style w (atomForm a)) (atomText a)
+printed style w (one s o t) = enclosed (brackets style w (wrapForm o)) (before o ++ (printed style (under (wrapForm o)) t ++ after o))
+printed style w (two s j a b) = enclosed (brackets style w (Joined j)) (printed style (LeftOf j) a ++ (separator j ++ printed style (RightOf j) b))
 
 -- ---- rules
 
@@ -193,10 +241,10 @@ unfoldable pub markText : ℕ → List ℕ
 markText m = getD marks m []
 
 -- name = mark{ expr }, and LF
-unfoldable pub printedRule : {P : Type 0} → Rule P → List ℕ
-printedRule r =
-    r .name ++ (32 ∷ 61 ∷ 32 ∷ (markText (r .mark) ++ (123 ∷ 32 ∷ (printed Alone (r .tree) ++ (32 ∷ 125 ∷ 10 ∷ [])))))
+unfoldable pub printedRule : {P : Type 0} → Style → Rule P → List ℕ
+printedRule style r =
+    r .name ++ (32 ∷ 61 ∷ 32 ∷ (markText (r .mark) ++ (123 ∷ 32 ∷ (printed style Alone (r .tree) ++ (32 ∷ 125 ∷ 10 ∷ [])))))
 
-unfoldable pub printedRules : {P : Type 0} → List (Rule P) → List ℕ
-printedRules [] = []
-printedRules (r ∷ rs) = printedRule r ++ printedRules rs
+unfoldable pub printedRules : {P : Type 0} → Style → List (Rule P) → List ℕ
+printedRules style [] = []
+printedRules style (r ∷ rs) = printedRule style r ++ printedRules style rs

@@ -12,6 +12,12 @@ ghost use mathlib.Core.Path.{_≡_};
 ghost use lib.ListN.{length};
 ghost use Rattle.printer.specs.Answers.{printOf, printIn, numbered, reported};
 
+// The two texts of a tree: with the brackets of the Rust's `Display`, or with the fewest that keep it.
+pub enum Style {
+    Full,
+    Short,
+}
+
 // Where an expression stands: as a rule's body or in PUSH( ), behind a predicate or a tag, under a
 // postfix, or on a side of a join.
 pub enum Place {
@@ -43,14 +49,14 @@ pub enum Printed {
 }
 
 // Prints tables to the front of a buffer, a rule to a line.
-pub fn print(nodes: &[u32], rules: &[u32], store: &[u8], out: &mut [u8]) -> Printed
-    ensures { λ r. ⌜ r ≡ printOf (now (nodes .entry)) (now (rules .entry)) (now (store .entry)) (length (now (out .entry))) ⌝ }
-    ensures { λ r. ⌜ numbered r ≡ reported (now (nodes .entry)) (now (rules .entry)) (now (store .entry)) (length (now (out .entry))) ⌝ }
-    ensures { λ r. ⌜ now (out .exit) ≡ printIn (now (nodes .entry)) (now (rules .entry)) (now (store .entry)) (now (out .entry)) r ⌝ }
+pub fn print(style: Style, nodes: &[u32], rules: &[u32], store: &[u8], out: &mut [u8]) -> Printed
+    ensures { λ r. ⌜ r ≡ printOf style (now (nodes .entry)) (now (rules .entry)) (now (store .entry)) (length (now (out .entry))) ⌝ }
+    ensures { λ r. ⌜ numbered r ≡ reported style (now (nodes .entry)) (now (rules .entry)) (now (store .entry)) (length (now (out .entry))) ⌝ }
+    ensures { λ r. ⌜ now (out .exit) ≡ printIn style (now (nodes .entry)) (now (rules .entry)) (now (store .entry)) (now (out .entry)) r ⌝ }
 {
     let check = table::check_tables(nodes, rules, store);
     match check {
-        TableCheck::Good => inner::walks::print_valid(nodes, rules, store, out),
+        TableCheck::Good => inner::walks::print_valid(style, nodes, rules, store, out),
         TableCheck::Shape => Printed::Shape,
         TableCheck::Node(i) => Printed::Node(i),
         TableCheck::Rule(k) => Printed::Rule(k),

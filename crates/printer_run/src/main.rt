@@ -1,7 +1,9 @@
 // Prints the tables of its standard input, and writes each line with what came of it: the answer's
 // number, its place, the bytes used, how many bytes of the output behind those were left alone, and
-// on lines of its own the text.
+// on lines of its own the text. A small letter at a line's front asks for the full text, a capital for the
+// short one.
 use printer::Printed;
+use printer::Style;
 ghost use Prim.Native.Nat.{_≤_};
 ghost use Rattle.io.specs.Counts.{Counts};
 
@@ -17,11 +19,18 @@ fn answer(number: usize, place: usize, used: usize, out: &[u8]) {
 }
 
 // Prints tables into the first bytes of a buffer that stands at 170.
-fn run_print(nodes: &[u32], rules: &[u32], store: &[u8], room: usize, out: &mut [u8]) {
+fn run_print(
+    style: Style,
+    nodes: &[u32],
+    rules: &[u32],
+    store: &[u8],
+    room: usize,
+    out: &mut [u8],
+) {
     if out.len() < room {
         return;
     }
-    let printed = printer::print(nodes, rules, store, &mut out[..room]);
+    let printed = printer::print(style, nodes, rules, store, &mut out[..room]);
     match printed {
         Printed::Used(n) => answer(0, 0, n, out),
         Printed::Shape => answer(20, 0, 0, out),
@@ -122,7 +131,7 @@ fn make_rules(n: usize, rules: &mut [u32]) -> usize
 }
 
 // One rule over all nodes.
-fn run_tree(nodes: &[u32], store: &[u8], room: usize, out: &mut [u8]) {
+fn run_tree(style: Style, nodes: &[u32], store: &[u8], room: usize, out: &mut [u8]) {
     let n = nodes.len() / 6;
     if n == 0 {
         return;
@@ -131,32 +140,40 @@ fn run_tree(nodes: &[u32], store: &[u8], room: usize, out: &mut [u8]) {
         return;
     }
     let rules = [0, 1, 0, (n - 1) as u32, 0, 0];
-    run_print(nodes, &rules, store, room, out);
+    run_print(style, nodes, &rules, store, room, out);
 }
 
-fn run_deep(n: usize, room: usize, store: &[u8], out: &mut [u8]) {
+fn run_deep(style: Style, n: usize, room: usize, store: &[u8], out: &mut [u8]) {
     let mut nodes = [0u32; 24588];
     let k = make_deep(n, &mut nodes);
-    run_tree(&nodes[..k], store, room, out);
+    run_tree(style, &nodes[..k], store, room, out);
 }
 
-fn run_chain(n: usize, kind: u32, length: u32, room: usize, store: &[u8], out: &mut [u8]) {
+fn run_chain(
+    style: Style,
+    n: usize,
+    kind: u32,
+    length: u32,
+    room: usize,
+    store: &[u8],
+    out: &mut [u8],
+) {
     let mut nodes = [0u32; 24588];
     make_leaves(n, kind, length, &mut nodes);
     let k = make_chain(n, &mut nodes);
-    run_tree(&nodes[..k], store, room, out);
+    run_tree(style, &nodes[..k], store, room, out);
 }
 
-fn run_many(n: usize, room: usize, store: &[u8], out: &mut [u8]) {
+fn run_many(style: Style, n: usize, room: usize, store: &[u8], out: &mut [u8]) {
     let mut nodes = [0u32; 6150];
     let mut rules = [0u32; 6150];
     let k = make_leaves(n, 4, 1, &mut nodes);
     let m = make_rules(n, &mut rules);
-    run_print(&nodes[..k], &rules[..m], store, room, out);
+    run_print(style, &nodes[..k], &rules[..m], store, room, out);
 }
 
 // p ROOM NODES RULES STORE: tables as they stand
-fn run_tables(line: &[u8], from: usize, room: usize, out: &mut [u8]) {
+fn run_tables(style: Style, line: &[u8], from: usize, room: usize, out: &mut [u8]) {
     let mut nodes = [0u32; 600];
     let mut rules = [0u32; 600];
     let mut store = [0u8; 600];
@@ -172,7 +189,7 @@ fn run_tables(line: &[u8], from: usize, room: usize, out: &mut [u8]) {
     let n = vectors::numbers(&line[a..b], &mut nodes);
     let m = vectors::numbers(&line[c..d], &mut rules);
     let k = vectors::unhex(&line[e..f], &mut store);
-    run_print(&nodes[..n], &rules[..m], &store[..k], room, out);
+    run_print(style, &nodes[..n], &rules[..m], &store[..k], room, out);
 }
 
 fn small(n: u64) -> u32 {
@@ -180,7 +197,7 @@ fn small(n: u64) -> u32 {
 }
 
 // d ROOM N, c ROOM N KIND LENGTH, m ROOM N, s ROOM N: tables that are made here, over a store of a's
-fn run_made(line: &[u8], from: usize, op: u8, room: usize, out: &mut [u8]) {
+fn run_made(style: Style, line: &[u8], from: usize, op: u8, room: usize, out: &mut [u8]) {
     let store = [97u8; 65537];
     let first = vectors::field(line, from);
     let second = vectors::field(line, first.end);
@@ -195,16 +212,30 @@ fn run_made(line: &[u8], from: usize, op: u8, room: usize, out: &mut [u8]) {
     let kind = small(vectors::number(&line[c..d]));
     let length = small(vectors::number(&line[e..f]));
     match op {
-        b'd' => run_deep(n, room, &store[..65536], out),
-        b'c' => run_chain(n, kind, length, room, &store[..65536], out),
-        b'm' => run_many(n, room, &store[..65536], out),
+        b'd' => run_deep(style, n, room, &store[..65536], out),
+        b'c' => run_chain(style, n, kind, length, room, &store[..65536], out),
+        b'm' => run_many(style, n, room, &store[..65536], out),
         b's' => {
             if n <= 65537 {
-                run_print(&[], &[], &store[..n], room, out);
+                run_print(style, &[], &[], &store[..n], room, out);
             }
         }
         _ => {}
     }
+}
+
+fn style_of(op: u8) -> Style {
+    if op < b'a' {
+        return Style::Short;
+    }
+    Style::Full
+}
+
+fn small_letter(op: u8) -> u8 {
+    if op < b'a' {
+        return op + 32;
+    }
+    op
 }
 
 fn run_line(line: &[u8]) {
@@ -219,10 +250,12 @@ fn run_line(line: &[u8]) {
     if line.len() <= at {
         return;
     }
-    if line[at] == b'p' {
-        run_tables(line, b, room, &mut out);
+    let style = style_of(line[at]);
+    let op = small_letter(line[at]);
+    if op == b'p' {
+        run_tables(style, line, b, room, &mut out);
     } else {
-        run_made(line, b, line[at], room, &mut out);
+        run_made(style, line, b, op, room, &mut out);
     }
 }
 

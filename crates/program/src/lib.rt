@@ -6,6 +6,7 @@
 // was refused, `2` input or output failed. Without an argument it leaves descriptor 3 alone.
 pub mod inner;
 
+use printer::Style;
 ghost use lib.ListN.{length};
 ghost use Rattle.program.specs.Input.{Within};
 
@@ -60,6 +61,19 @@ pub fn read_input(name: &[u8], buf: &mut [u8]) -> Input
             Input::Failed
         }
     }
+}
+
+// All that the programs desk and short do: a grammar from standard input, its text in a style or the line of its
+// refusal to standard output. What is written is the promise of `show::desk`; the rest moves bytes.
+pub fn print_input(name: &[u8], style: Style) {
+    let mut text = [0u8; 65537];
+    let mut out = [0u8; 65536];
+    let input = read_input(name, &mut text);
+    let Input::Bytes(n) = input else {
+        return;
+    };
+    let shown = show::desk(style, &text[..n], &mut out);
+    inner::write_shown(name, shown, &out);
 }
 
 fn write_output(name: &[u8], out: &[u8], verdict: u8) {

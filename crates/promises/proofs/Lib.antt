@@ -7,19 +7,32 @@ pub mod Tokens
 pub mod Laid
 pub mod Lays
 pub mod Pushes
-pub mod Text
 -- from those tokens to the rules
 pub mod Leaves
 pub mod Shapes
-pub mod Tree
+pub mod Enough
+pub mod Backs
+pub mod Descent
+pub mod Styles
 pub mod Rules
+pub mod Text
 -- from tables to tables
 pub mod Spread
 pub mod Narrow
 pub mod Asides
 pub mod Round
-pub mod Sample
+-- the short text
+pub mod Needs
+pub mod Least
+pub mod Fewest
+pub mod Counts
+pub mod Bared
+pub mod Pairs
+pub mod Cuts
+pub mod Short
+pub mod Examples
 -- the twelve examples, uniqueness, wrong programs
+pub mod Sample
 pub mod Twelve
 pub mod Unique
 pub mod Wrong

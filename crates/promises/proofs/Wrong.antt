@@ -34,6 +34,8 @@ use Rattle.reader.specs.Build as ReaderBuild
 use Rattle.reader.specs.Read as ReaderRead
 use Rattle.table.specs.Tree.{Span, Tree, Rule, Nowhere, count, counts, rulesStored}
 use Rattle.table.specs.Flat.{nodesOf, recordsOf}
+use Rattle.printer.specs.declared.Style.{Style}
+use Rattle.printer.specs.declared.Style.the-variants.{Full, Short}
 use Rattle.printer.specs.Answers.{printOf, printIn}
 use Rattle.structure.specs.declared.Level.{Level}
 use Rattle.structure.specs.declared.Level.the-variants.{Tagged}
@@ -62,9 +64,28 @@ long = ascii "r={a*}"
 abbrev both : List ℕ
 both = ascii "r={a}q={b*}"
 
+-- one whose rule is a tag, and one whose chain is grouped to the right
+abbrev labelled : List ℕ
+labelled = ascii "r={#t=a}"
+
+abbrev right : List ℕ
+right = ascii "r={a~(b~c)}"
+
+-- what printing in a style leaves in an output
+abbrev printedIn : Style → List ℕ → List ℕ → List ℕ → List ℕ → List ℕ
+printedIn style ns rs st o = printIn style ns rs st o (printOf style ns rs st (length o))
+
+-- the same of the rules of a text
+abbrev reprinted : Style → List ℕ → List ℕ → List ℕ
+reprinted style s o = printedIn style (nodesOf (rulesOf Tagged s)) (recordsOf (rulesOf Tagged s)) (rulesStored (rulesOf Tagged s)) o
+
 -- ten bytes of output
 abbrev zeros : List ℕ
 zeros = 0 ∷ 0 ∷ 0 ∷ 0 ∷ 0 ∷ 0 ∷ 0 ∷ 0 ∷ 0 ∷ 0 ∷ []
+
+-- and twenty
+abbrev twenty : List ℕ
+twenty = 0 ∷ 0 ∷ 0 ∷ 0 ∷ 0 ∷ 0 ∷ 0 ∷ 0 ∷ 0 ∷ 0 ∷ zeros
 
 -- the first tree in the place of each
 abbrev repeated : List (Tree Nowhere) → List (Tree Nowhere)
@@ -80,8 +101,11 @@ record Facts : Type 0 where
   both-read : numbered (readOf Tagged both 4096 1024 65536) .number ≡ 0
   both-trees : map (count {P = Nowhere}) (treesOf Tagged both) ≡ 1 ∷ 2 ∷ []
   both-repeated : getD (map (count {P = Nowhere}) (repeated (treesOf Tagged both))) 1 0 ≡ 1
-  short-prints : printIn (nodesOf (rulesOf Tagged short)) (recordsOf (rulesOf Tagged short)) (rulesStored (rulesOf Tagged short)) zeros
-      (printOf (nodesOf (rulesOf Tagged short)) (recordsOf (rulesOf Tagged short)) (rulesStored (rulesOf Tagged short)) 10) ≡ ascii "r = { a }\n"
+  short-prints : printIn Full (nodesOf (rulesOf Tagged short)) (recordsOf (rulesOf Tagged short)) (rulesStored (rulesOf Tagged short)) zeros
+      (printOf Full (nodesOf (rulesOf Tagged short)) (recordsOf (rulesOf Tagged short)) (rulesStored (rulesOf Tagged short)) 10) ≡ ascii "r = { a }\n"
+  label-full : getD (reprinted Full labelled twenty) 6 0 ≡ 40
+  label-short : getD (reprinted Short labelled twenty) 6 0 ≡ 35
+  right-short : reprinted Short right twenty ≡ ascii "r = { a ~ (b ~ c) }\n"
 
 facts : Facts
 unfolding TextChoice.all TextClasses.classOf TextDigits.decimalFrom TextDigits.decimalOf TextDigits.digits TextDigits.decimal TextDigits.decimalPut TextDigits.decimalIn TextDigits.hexOf TextDigits.hexDigit TextDigits.hexes TextScans.spelled TextScans.sought TextSplice.spent TextSplice.fronted TextUtf8.scalar TextUtf8.leadOf TextUtf8.gathered TextUtf8.judged TextUtf8.charOf TextUtf8.firstBad TextUtf8.encoded TextUtf8.encodeOf TextUtf8.encodeIn TextWords.isWord TextWords.begins TextWords.wordOf LiteralEscapes.digitsOf LiteralEscapes.simpleOf LiteralEscapes.pairOf LiteralEscapes.bracedOf LiteralEscapes.afterOf LiteralEscapes.escapeOf LiteralEscapes.noEscape LiteralEscapes.badEscape LiteralEscapes.unescaped LiteralEscapes.unescapeOf LiteralEscapes.unescapeIn LiteralLiterals.hexCount LiteralLiterals.showOf LiteralLiterals.shownBy LiteralLiterals.shown LiteralLiterals.inside LiteralLiterals.literal LiteralLiterals.formatOf LiteralLiterals.formatIn TokenBlanks.run TokenBlanks.markOf TokenBlanks.closeOf TokenBlanks.lineBlank TokenBlanks.slashBlank TokenBlanks.returnBlank TokenBlanks.openerBlank TokenBlanks.blankBy TokenLister.nextOf TokenLister.lister TokenLists.tokensIn TokenLists.tokensFrom TokenLists.tokensOf TokenLists.filledOf TokenTokens.allowed TokenTokens.wordToken TokenTokens.tagToken TokenTokens.numberToken TokenTokens.minusToken TokenTokens.dotsToken TokenTokens.insideLook TokenTokens.stringOf TokenTokens.insensToken TokenTokens.quoted TokenTokens.charToken TokenTokens.docToken TokenTokens.openerToken TokenTokens.oneKind TokenTokens.tokenBy TokenTokens.tokenOf TokenTokens.tokenAt TableCheck.shaped TableCheck.isUtf8 TableCheck.isName TableCheck.isLabel TableCheck.goodLeaf TableCheck.goodOp TableCheck.goodAt TableCheck.goodName TableCheck.goodRoot TableCheck.goodRule TableCheck.lowest TableCheck.tables TableCheck.numbered TableCheck.verdict TableCheck.fine TableCheck.fineRule TableCheck.fineRules TableFlat.numbersOf TableFlat.flat TableFlat.front TableFlat.ruleRecord TableFlat.nodesFrom TableFlat.recordsFrom TableRecord.nodeOf TableRecord.nodeAt TableRecord.spanAt TableRecord.rowAt TableRecord.column TableRecord.treeAt TableRecord.firstAt TableRecord.headAt TableRecord.ruleRowAt TableRecord.ruleAt TableRecord.rulesFrom TableRecord.rulesOf TableRegroup.joined TableRegroup.regrouped TableRegroup.parts TableRegroup.regroup TableRegroup.links TableRegroup.grouped TableRegroup.untagged TableRegroup.items TableRegroup.unlabelled TableTree.below TableTree.counts TableTree.stored TableTree.ruleStored TableTree.rulesStored TableTree.aside PrinterAnswers.tableText PrinterAnswers.roomOf PrinterAnswers.printOf PrinterAnswers.printIn PrinterAnswers.numbered PrinterAnswers.reported PrinterDisplay.asPostfixOperand PrinterDisplay.displayOne PrinterDisplay.chain PrinterDisplay.spread PrinterDisplay.joinedBy PrinterDisplay.displayTwo PrinterPrinting.brackets PrinterPrinting.enclosed PrinterPrinting.character PrinterPrinting.signed PrinterPrinting.sortText PrinterPrinting.rangeText PrinterPrinting.sliceText PrinterPrinting.tagText PrinterPrinting.printed PrinterPrinting.markText PrinterPrinting.printedRule PrinterPrinting.printedRules StructureAnswers.unread StructureAnswers.summary StructureAnswers.wanted StructureAnswers.openingOf StructureAnswers.signs StructureAnswers.bracketOf StructureAnswers.tailOf StructureAnswers.tailed StructureAnswers.ruleSummary StructureAnswers.summaries StructureStructure.next StructureStructure.want StructureStructure.opened StructureStructure.join StructureStructure.closed StructureStructure.endsAt StructureStructure.startsAt StructureStructure.before StructureStructure.after StructureStructure.inTag StructureStructure.fromNumber StructureStructure.fromComma StructureStructure.postfixAt StructureStructure.sliceTo StructureStructure.slice StructureStructure.pushed StructureStructure.ranged StructureStructure.leafAt StructureStructure.body StructureStructure.run StructureStructure.Run StructureStructure.markAt StructureStructure.ruleOf StructureStructure.thenRules StructureStructure.ruleAt StructureStructure.rulesIn StructureStructure.docsIn StructureStructure.grammar StructureTokens.tokenOf StructureTokens.kind StructureTokens.start StructureTokens.end StructureTokens.is StructureTokens.part StructureTokens.word StructureTokens.label StructureTokens.spells StructureValues.number StructureValues.integer StructureValues.string StructureValues.character StructureValues.faultAt StructureValues.faultsFrom StructureValues.faults ReaderBuild.written ReaderBuild.suffixOf ReaderRead.roomBy ReaderRead.listedOf ReaderRead.judgedOf ReaderRead.readOf ReaderRead.leftIn ReaderRead.numbered
@@ -95,6 +119,9 @@ facts =
       both-trees = refl;
       both-repeated = refl;
       short-prints = refl;
+      label-full = refl;
+      label-short = refl;
+      right-short = refl;
     }
 
 -- ---- a reader that refuses everything
@@ -121,12 +148,28 @@ repeats-first same =
 
 -- ---- a printer that writes nothing
 
-pub writes-nothing : ((ns rs st o : List ℕ) → printIn ns rs st o (printOf ns rs st (length o)) ≡ o) → ⊥
+pub writes-nothing : ((ns rs st o : List ℕ) → printIn Full ns rs st o (printOf Full ns rs st (length o)) ≡ o) → ⊥
 writes-nothing same =
     let us = rulesOf Tagged short in
     let e = sym (facts .short-prints) ∙ same (nodesOf us) (recordsOf us) (rulesStored us) zeros in
     let n : _≡_ {A = ℕ} 114 0 = ap (λ (xs : List ℕ). getD xs 0 0) e in
     absurd (omega arith)
+
+-- ---- a short text that brackets tags, as the full one does
+
+pub short-as-full : ((ns rs st o : List ℕ) → printedIn Short ns rs st o ≡ printedIn Full ns rs st o) → ⊥
+short-as-full same =
+    let us = rulesOf Tagged labelled in
+    let e = ap (λ (xs : List ℕ). getD xs 6 0) (same (nodesOf us) (recordsOf us) (rulesStored us) twenty) in
+    let n : _≡_ {A = ℕ} 35 40 = sym (facts .label-short) ∙ e ∙ facts .label-full in
+    absurd (omega arith)
+
+-- ---- a short text without brackets
+
+pub never-brackets : ((ns rs st o : List ℕ) (i : ℕ) → getD (printedIn Short ns rs st o) i 0 ≡ 40 → ⊥) → ⊥
+never-brackets none =
+    let us = rulesOf Tagged right in
+    none (nodesOf us) (recordsOf us) (rulesStored us) twenty 10 (ap (λ (xs : List ℕ). getD xs 10 0) (facts .right-short))
 
 -- ---- a made-up number of used records: the counts are those of the defined rules
 

@@ -1,4 +1,8 @@
 -- The promises: the definitions that the theorems of this crate cite.
 pub mod Pieces
+pub mod Styled
 pub mod Round
+pub mod Marked
+pub mod Fewest
+pub mod Pairs
 pub mod Twelve

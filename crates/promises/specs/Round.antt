@@ -12,19 +12,18 @@ use Rattle.table.specs.declared.Sort.{Sort}
 use Rattle.table.specs.declared.Sort.the-variants.{Str, Insens, Ident, PushLiteral}
 use Rattle.table.specs.declared.End.{End}
 use Rattle.table.specs.declared.End.the-variants.{Open, At}
-use Rattle.table.specs.Tree.{Atom, text, range, peekSlice, Wrap, plain, nodeTag, Tree, leaf, one, two, Rule, Nowhere, asideRule, counts, rulesStored}
+use Rattle.table.specs.Tree.{Atom, text, range, peekSlice, Wrap, plain, nodeTag, Tree, leaf, one, two, Rule, Nowhere, ruleBy, asideRule, counts, rulesStored}
 use Rattle.table.specs.Record.{rulesIn, rulesOf}
 use Rattle.table.specs.Check.{maxNodes, maxRules, tables}
 use Rattle.table.specs.declared.TableCheck.the-variants as Table
+use Rattle.printer.specs.declared.Style.{Style}
+use Rattle.printer.specs.declared.Style.the-variants.{Full, Short}
 use Rattle.printer.specs.Answers.{tableText}
+use Rattle.promises.specs.Styled.{markedRules}
 use Rattle.reader.specs.declared.Reading.the-variants as Reading
 use Rattle.reader.specs.Read as Read
 use Rattle.reader.specs.Read.{readOf}
-use Rattle.table.specs.Regroup.{regroupRules, untaggedRules}
-use Rattle.printer.specs.declared.Place.{Place}
-use Rattle.printer.specs.declared.Place.the-variants.{Alone, LeftOf, RightOf}
-use Rattle.printer.specs.declared.Form.the-variants.{Joined}
-use Rattle.printer.specs.Printing.{brackets, atomForm, wrapForm, under}
+use Rattle.table.specs.Regroup.{regroup, untagged}
 use Rattle.structure.specs.declared.Level.{Level}
 use Rattle.structure.specs.declared.Level.the-variants.{Tagged, Plain}
 
@@ -138,14 +137,14 @@ abbrev pub wrapDepth : Wrap → ℕ
 wrapDepth (plain u) = unaryDepth u
 wrapDepth (nodeTag b) = 0
 
-unfoldable pub depth : {P : Type 0} → Place → Tree P → ℕ
-depth w (leaf s a) = one? (brackets w (atomForm a)) + atomDepth a
-depth w (one s o t) = one? (brackets w (wrapForm o)) + (wrapDepth o + depth (under (wrapForm o)) t)
-depth w (two s j a b) = one? (brackets w (Joined j)) + max (depth (LeftOf j) a) (depth (RightOf j) b)
+unfoldable pub depth : Tree Bool → ℕ
+depth (leaf b a) = one? b + atomDepth a
+depth (one b o t) = one? b + (wrapDepth o + depth t)
+depth (two b j x y) = one? b + max (depth x) (depth y)
 
-unfoldable pub depths : {P : Type 0} → List (Rule P) → ℕ
+unfoldable pub depths : List (Rule Bool) → ℕ
 depths [] = 0
-depths (r ∷ rs) = max (depth Alone (r .tree)) (depths rs)
+depths (r ∷ rs) = max (depth (r .tree)) (depths rs)
 
 -- ---- PUSH_LITERAL, which plain refuses
 
@@ -169,20 +168,27 @@ holdsPushLiteral (r ∷ rs) = or (pushing (r .tree)) (holdsPushLiteral rs)
 
 -- ---- what comes back
 
--- the rules regrouped once; plain then drops their tags
-abbrev pub seen : Level → List (Rule Nowhere) → List (Rule Nowhere)
-seen Tagged us = regroupRules us
-seen Plain us = untaggedRules (regroupRules us)
+-- the full text's rules are regrouped once, the short text's are the same; plain then drops their tags
+abbrev pub readBack : Style → Tree Nowhere → Tree Nowhere
+readBack Full e = regroup e
+readBack Short e = e
+
+abbrev pub sight : Level → Tree Nowhere → Tree Nowhere
+sight Tagged t = t
+sight Plain t = untagged t
+
+abbrev pub seen : Style → Level → List (Rule Nowhere) → List (Rule Nowhere)
+seen style level us = map (ruleBy (λ t. sight level (readBack style t))) us
 
 -- tables that the printer accepts, holding a rule, no zero exact count or maximum, whose printed text is within the
 -- reader's limits
-pub record Printable (ns rs st : List ℕ) : Type 0 where
+pub record Printable (style : Style) (ns rs st : List ℕ) : Type 0 where
   pub good : tables ns rs st ≡ Table.Good
   pub narrow : Narrow ns
   pub some : 1 ≤ rulesIn rs
   pub nonzeros : nonzeroRules (rulesOf ns rs st) ≡ true
-  pub short : length (tableText ns rs st) ≤ 65536
-  pub shallow : depths (rulesOf ns rs st) ≤ 1024
+  pub short : length (tableText style ns rs st) ≤ 65536
+  pub shallow : depths (markedRules style (rulesOf ns rs st)) ≤ 1024
 
 -- a text is read as these rules, spans aside, given room for them and no more; the limits leave room, and so does a
 -- store as long as the text

@@ -7,7 +7,8 @@
 //   bytes. Number, place, the nodes, rules and store bytes used; the nodes, the rules, the store.
 // - x LEVEL COUNT:HEX,.. NODES RULES STORE: the same of a long text, made of pieces. A sum in place of each.
 // - k PLACE HEX, l PLACE COUNT:HEX,..: the lister. Number, place, kind, start, end.
-// - p ROOM NODES RULES STORE: tables are printed. Number, place, bytes used; the text.
+// - p ROOM NODES RULES STORE, s ROOM NODES RULES STORE: tables are printed, in full and short. Number,
+//   place, bytes used; the text.
 // - m ALLOWANCE START HEX NODES RULES STORE: a rule is run over a line. Number, place, 1 for a match, its
 //   length, steps.
 // - r ALLOWANCE START HEX NODES RULES STORE ROOM: a rule is run over the lines of a text; the room in
@@ -15,6 +16,7 @@
 //
 // The input is read in blocks of 65,536 bytes, and no line lies in two of them: empty lines fill a block up.
 use printer::Printed;
+use printer::Style;
 use reader::Reading;
 use structure::Level;
 use token::Listed;
@@ -192,11 +194,18 @@ fn answer_unprinted(number: usize, place: usize, out: &[u8]) {
     write_changed(vectors::bytes_alone(out, 0) != out.len());
 }
 
-fn run_print(nodes: &[u32], rules: &[u32], store: &[u8], room: usize, out: &mut [u8]) {
+fn run_print(
+    style: Style,
+    nodes: &[u32],
+    rules: &[u32],
+    store: &[u8],
+    room: usize,
+    out: &mut [u8],
+) {
     if out.len() < room {
         return;
     }
-    let printed = printer::print(nodes, rules, store, &mut out[..room]);
+    let printed = printer::print(style, nodes, rules, store, &mut out[..room]);
     match printed {
         Printed::Used(n) => answer_printed(n, out),
         Printed::Shape => answer_unprinted(20, 0, out),
@@ -284,7 +293,7 @@ fn run_lister(line: &[u8], from: usize, at: usize, long: bool) {
     run_next(&text[..used], at);
 }
 
-fn run_tables(line: &[u8], from: usize, room: usize) {
+fn run_tables(style: Style, line: &[u8], from: usize, room: usize) {
     let mut nodes = [0u32; 600];
     let mut rules = [0u32; 600];
     let mut store = [0u8; 600];
@@ -301,7 +310,7 @@ fn run_tables(line: &[u8], from: usize, room: usize) {
     let n = vectors::numbers(&line[a..b], &mut nodes);
     let m = vectors::numbers(&line[c..d], &mut rules);
     let k = vectors::unhex(&line[e..f], &mut store);
-    run_print(&nodes[..n], &rules[..m], &store[..k], room, &mut out);
+    run_print(style, &nodes[..n], &rules[..m], &store[..k], room, &mut out);
 }
 
 fn write_wide(v: u64) {
@@ -384,12 +393,39 @@ fn run_lines(
     write_records(records, 5 * tally.lines as usize);
 }
 
+// Over a line, or over lines in some room.
+fn run_over(
+    nodes: &[u32],
+    rules: &[u32],
+    store: &[u8],
+    start: usize,
+    text: &[u8],
+    allowance: u64,
+    many: bool,
+    room: usize,
+) {
+    let mut records = [2863311530u64; 120];
+    if many {
+        run_lines(
+            nodes,
+            rules,
+            store,
+            start,
+            text,
+            allowance,
+            room,
+            &mut records,
+        );
+        return;
+    }
+    run_match(nodes, rules, store, start, text, allowance);
+}
+
 fn run_rule(line: &[u8], from: usize, allowance: u64, many: bool) {
     let mut nodes = [0u32; 600];
     let mut rules = [0u32; 600];
     let mut store = [0u8; 600];
     let mut text = [0u8; 600];
-    let mut records = [2863311530u64; 120];
     let zeroth = vectors::field(line, from);
     let shown = vectors::field(line, zeroth.end);
     let first = vectors::field(line, shown.end);
@@ -413,26 +449,16 @@ fn run_rule(line: &[u8], from: usize, allowance: u64, many: bool) {
     let n = vectors::numbers(&line[e..f], &mut nodes);
     let m = vectors::numbers(&line[g..h], &mut rules);
     let k = vectors::unhex(&line[i..j], &mut store);
-    if many {
-        run_lines(
-            &nodes[..n],
-            &rules[..m],
-            &store[..k],
-            start,
-            &text[..t],
-            allowance,
-            vectors::number(&line[o..p]) as usize,
-            &mut records,
-        );
-        return;
-    }
-    run_match(
+    let room = vectors::number(&line[o..p]) as usize;
+    run_over(
         &nodes[..n],
         &rules[..m],
         &store[..k],
         start,
         &text[..t],
         allowance,
+        many,
+        room,
     );
 }
 
@@ -453,7 +479,8 @@ fn run_line(line: &[u8]) {
         b'x' => run_text(line, b, level_of(n), true),
         b'k' => run_lister(line, b, n as usize, false),
         b'l' => run_lister(line, b, n as usize, true),
-        b'p' => run_tables(line, b, n as usize),
+        b'p' => run_tables(Style::Full, line, b, n as usize),
+        b's' => run_tables(Style::Short, line, b, n as usize),
         b'm' => run_rule(line, b, n, false),
         b'r' => run_rule(line, b, n, true),
         _ => {}

@@ -17,6 +17,7 @@ use Rattle.reader.specs.Read as Read
 use Rattle.reader.specs.Read.{roomForNodes, roomForRules, rulesOf, readOf, leftIn, Leaves}
 use Rattle.printer.specs.declared.Printed.{Printed}
 use Rattle.printer.specs.declared.Printed.the-variants as Printed
+use Rattle.printer.specs.declared.Style.{Style}
 use Rattle.printer.specs.Answers as Printer
 use Rattle.printer.proofs.Answers.{print-reported}
 use Rattle.exports.specs.Numbers.{levelOf, readNumbers, printNumbers}
@@ -26,30 +27,30 @@ use Rattle.show.specs.Desk.{reading, printing, textOf, printed, answerOf
 use Rattle.show.proofs.Readings.{Counted, counted}
 
 -- what the answer is where the numbers ns refuse, with o′ left in the output
-abbrev pub Refuses : List ℕ → List ℕ → List ℕ → List ℕ → Type 0
-Refuses ns s o o′ =
-    (Answer.Refused (getD ns 0 0) (getD ns 1 0) ≡ answerOf s (length o)) × (o′ ≡ answerIn s o (Answer.Refused (getD ns 0 0) (getD ns 1 0)))
+abbrev pub Refuses : Style → List ℕ → List ℕ → List ℕ → List ℕ → Type 0
+Refuses style ns s o o′ =
+    (Answer.Refused (getD ns 0 0) (getD ns 1 0) ≡ answerOf style s (length o)) × (o′ ≡ answerIn style s o (Answer.Refused (getD ns 0 0) (getD ns 1 0)))
 
 -- the printer's answer for the rules of a text
-unfoldable printerOf : List ℕ → ℕ → Printed
-printerOf s m = Printer.printOf (nodesOf (rulesOf Tagged s)) (recordsOf (rulesOf Tagged s)) (rulesStored (rulesOf Tagged s)) m
+unfoldable printerOf : Style → List ℕ → ℕ → Printed
+printerOf style s m = Printer.printOf style (nodesOf (rulesOf Tagged s)) (recordsOf (rulesOf Tagged s)) (rulesStored (rulesOf Tagged s)) m
 
 -- the printer writes where its number is 0, and only there
-in-done : (ns rs st o : List ℕ) (x : Printed) → Printer.numbered x .number ≡ 0 → Printer.printIn ns rs st o x ≡ fronted (Printer.tableText ns rs st) o
+in-done : (style : Style) (ns rs st o : List ℕ) (x : Printed) → Printer.numbered x .number ≡ 0 → Printer.printIn style ns rs st o x ≡ fronted (Printer.tableText style ns rs st) o
 unfolding Printer.numbered Printer.printIn
-in-done ns rs st o (Printed.Used n) e = refl
-in-done ns rs st o Printed.Shape e = absurd (omega arith)
-in-done ns rs st o (Printed.Node i) e = absurd (omega arith)
-in-done ns rs st o (Printed.Rule k) e = absurd (omega arith)
-in-done ns rs st o Printed.NoRoom e = absurd (omega arith)
+in-done style ns rs st o (Printed.Used n) e = refl
+in-done style ns rs st o Printed.Shape e = absurd (omega arith)
+in-done style ns rs st o (Printed.Node i) e = absurd (omega arith)
+in-done style ns rs st o (Printed.Rule k) e = absurd (omega arith)
+in-done style ns rs st o Printed.NoRoom e = absurd (omega arith)
 
-in-refused : (ns rs st o : List ℕ) (x : Printed) → (Printer.numbered x .number ≡ 0 → ⊥) → Printer.printIn ns rs st o x ≡ o
+in-refused : (style : Style) (ns rs st o : List ℕ) (x : Printed) → (Printer.numbered x .number ≡ 0 → ⊥) → Printer.printIn style ns rs st o x ≡ o
 unfolding Printer.numbered Printer.printIn
-in-refused ns rs st o (Printed.Used n) h = absurd (h refl)
-in-refused ns rs st o Printed.Shape h = refl
-in-refused ns rs st o (Printed.Node i) h = refl
-in-refused ns rs st o (Printed.Rule k) h = refl
-in-refused ns rs st o Printed.NoRoom h = refl
+in-refused style ns rs st o (Printed.Used n) h = absurd (h refl)
+in-refused style ns rs st o Printed.Shape h = refl
+in-refused style ns rs st o (Printed.Node i) h = refl
+in-refused style ns rs st o (Printed.Rule k) h = refl
+in-refused style ns rs st o Printed.NoRoom h = refl
 
 -- the front of a buffer
 pub taken : (x o o′ : List ℕ) (k : ℕ) → o′ ≡ fronted x o → k ≡ length x → (k ≤ length o′) × (take k o′ ≡ x)
@@ -80,9 +81,9 @@ module _ (s ns rs st ns′ rs′ st′ rd : List ℕ) (h₁ : length ns ≡ 1228
   number-is : getD rd 0 0 ≡ reading s .number
   number-is = ap (λ (xs : List ℕ). getD xs 0 0) numbers
 
-  pub read-refused : (getD rd 0 0 ≡ 0 → ⊥) → (o : List ℕ) → Refuses rd s o o
+  pub read-refused : (getD rd 0 0 ≡ 0 → ⊥) → (style : Style) (o : List ℕ) → Refuses style rd s o o
   unfolding answerOf answerIn
-  read-refused z o =
+  read-refused z style o =
       let q = ne-eqb (reading s .number) 0 (λ w. z (number-is ∙ w)) in
       (ap (λ (xs : List ℕ). Answer.Refused (getD xs 0 0) (getD xs 1 0)) numbers ∙ rw q, refl)
 
@@ -116,7 +117,7 @@ module _ (s ns rs st ns′ rs′ st′ rd : List ℕ) (h₁ : length ns ≡ 1228
 -- the buffers that the desk lends are zeros
 module _ (s rd : List ℕ)
     (e : rd ≡ readNumbers (Read.reported (levelOf 1) s (roomForNodes (replicate 12288 0)) (roomForRules (replicate 6144 0)) (length (replicate {A = ℕ} 65536 0)))) where
-  pub desk-refused : (getD rd 0 0 ≡ 0 → ⊥) → (o : List ℕ) → Refuses rd s o o
+  pub desk-refused : (getD rd 0 0 ≡ 0 → ⊥) → (style : Style) (o : List ℕ) → Refuses style rd s o o
   desk-refused =
       read-refused s (replicate 12288 0) (replicate 6144 0) (replicate 65536 0) [] [] [] rd
       (length-replicate {A = ℕ} 12288 0) (length-replicate {A = ℕ} 6144 0) (length-replicate {A = ℕ} 65536 0) e
@@ -130,42 +131,42 @@ module _ (s rd : List ℕ)
       (length-replicate {A = ℕ} 12288 0) (length-replicate {A = ℕ} 6144 0) (length-replicate {A = ℕ} 65536 0) e
 
 -- and after the printing of those fronts: its numbers pr, and the output o′
-module _ (s ns rs st rd : List ℕ) (t : Tables s ns rs st rd) (o o′ pr : List ℕ)
-    (f : pr ≡ printNumbers (Printer.reported (take (6 * getD rd 2 0) ns) (take (6 * getD rd 3 0) rs) (take (getD rd 4 0) st) (length o)))
-    (g : o′ ≡ Printer.printIn (take (6 * getD rd 2 0) ns) (take (6 * getD rd 3 0) rs) (take (getD rd 4 0) st) o
-    (Printer.printOf (take (6 * getD rd 2 0) ns) (take (6 * getD rd 3 0) rs) (take (getD rd 4 0) st) (length o))) where
-  figures : pr ≡ printNumbers (printing (rulesOf Tagged s) (length o))
+module _ (style : Style) (s ns rs st rd : List ℕ) (t : Tables s ns rs st rd) (o o′ pr : List ℕ)
+    (f : pr ≡ printNumbers (Printer.reported style (take (6 * getD rd 2 0) ns) (take (6 * getD rd 3 0) rs) (take (getD rd 4 0) st) (length o)))
+    (g : o′ ≡ Printer.printIn style (take (6 * getD rd 2 0) ns) (take (6 * getD rd 3 0) rs) (take (getD rd 4 0) st) o
+    (Printer.printOf style (take (6 * getD rd 2 0) ns) (take (6 * getD rd 3 0) rs) (take (getD rd 4 0) st) (length o))) where
+  figures : pr ≡ printNumbers (printing style (rulesOf Tagged s) (length o))
   unfolding printing
   figures = f ∙ rw (t .nodes .1, t .rules .1, t .store .1)
 
-  number-printed : getD pr 0 0 ≡ printing (rulesOf Tagged s) (length o) .number
+  number-printed : getD pr 0 0 ≡ printing style (rulesOf Tagged s) (length o) .number
   number-printed = ap (λ (xs : List ℕ). getD xs 0 0) figures
 
   -- what the printer answered has that number
-  printer-is : Printer.numbered (printerOf s (length o)) .number ≡ getD pr 0 0
+  printer-is : Printer.numbered (printerOf style s (length o)) .number ≡ getD pr 0 0
   unfolding printing printerOf
-  printer-is = ap (λ (x : Printer.Numbered). x .number) (print-reported _ _ _ (length o)) ∙ sym number-printed
+  printer-is = ap (λ (x : Printer.Numbered). x .number) (print-reported _ _ _ _ (length o)) ∙ sym number-printed
 
-  out-is : o′ ≡ Printer.printIn (nodesOf (rulesOf Tagged s)) (recordsOf (rulesOf Tagged s)) (rulesStored (rulesOf Tagged s)) o (printerOf s (length o))
+  out-is : o′ ≡ Printer.printIn style (nodesOf (rulesOf Tagged s)) (recordsOf (rulesOf Tagged s)) (rulesStored (rulesOf Tagged s)) o (printerOf style s (length o))
   unfolding printerOf
   out-is = g ∙ rw (t .nodes .1, t .rules .1, t .store .1)
 
-  answer-is : answerOf s (length o) ≡ printed (printing (rulesOf Tagged s) (length o))
+  answer-is : answerOf style s (length o) ≡ printed (printing style (rulesOf Tagged s) (length o))
   unfolding answerOf
   answer-is = rw (eq-eqb (reading s .number) 0 (t .good))
 
-  pub print-refused : (getD pr 0 0 ≡ 0 → ⊥) → Refuses pr s o o′
+  pub print-refused : (getD pr 0 0 ≡ 0 → ⊥) → Refuses style pr s o o′
   unfolding printed answerIn
   print-refused y =
-      let q = ne-eqb (printing (rulesOf Tagged s) (length o) .number) 0 (λ k. y (number-printed ∙ k)) in (
+      let q = ne-eqb (printing style (rulesOf Tagged s) (length o) .number) 0 (λ k. y (number-printed ∙ k)) in (
         ap (λ (xs : List ℕ). Answer.Refused (getD xs 0 0) (getD xs 1 0)) figures ∙ sym (answer-is ∙ rw q),
-        out-is ∙ in-refused _ _ _ o (printerOf s (length o)) (λ k. y (sym printer-is ∙ k)),
+        out-is ∙ in-refused _ _ _ _ o (printerOf style s (length o)) (λ k. y (sym printer-is ∙ k)),
       )
 
-  pub print-done : getD pr 0 0 ≡ 0 → (Answer.Printed (getD pr 2 0) ≡ answerOf s (length o)) × (o′ ≡ answerIn s o (Answer.Printed (getD pr 2 0)))
+  pub print-done : getD pr 0 0 ≡ 0 → (Answer.Printed (getD pr 2 0) ≡ answerOf style s (length o)) × (o′ ≡ answerIn style s o (Answer.Printed (getD pr 2 0)))
   unfolding printed answerIn textOf
   print-done y =
-      let q = eq-eqb (printing (rulesOf Tagged s) (length o) .number) 0 (sym number-printed ∙ y) in (
+      let q = eq-eqb (printing style (rulesOf Tagged s) (length o) .number) 0 (sym number-printed ∙ y) in (
         ap (λ (xs : List ℕ). Answer.Printed (getD xs 2 0)) figures ∙ sym (answer-is ∙ rw q),
-        out-is ∙ in-done _ _ _ o (printerOf s (length o)) (printer-is ∙ y),
+        out-is ∙ in-done _ _ _ _ o (printerOf style s (length o)) (printer-is ∙ y),
       )

@@ -17,6 +17,7 @@ use Rattle.table.specs.Flat.{nodesOf, recordsOf}
 use Rattle.table.specs.Check.{tables}
 use Rattle.structure.specs.declared.Level.the-variants.{Tagged}
 use Rattle.reader.specs.Read.{rulesOf}
+use Rattle.printer.specs.declared.Style.{Style}
 use Rattle.printer.specs.Answers as Printer
 use Rattle.show.specs.declared.Answer.{Answer}
 use Rattle.show.specs.declared.Answer.the-variants as Answer
@@ -28,19 +29,19 @@ use Rattle.show.specs.Desk.{reading, printing, printed, answerOf, answer
 
 -- ---- the desk, by its answer
 
-pub text-shown : (s o : List ℕ) {x : Answer} {n : ℕ} {o′ : List ℕ} → x ≡ answerOf s (length o) → o′ ≡ answerIn s o x → x ≡ Answer.Printed n
-    → (Text n ≡ deskOf s (length o)) × (o′ ≡ deskIn s o)
+pub text-shown : (style : Style) (s o : List ℕ) {x : Answer} {n : ℕ} {o′ : List ℕ} → x ≡ answerOf style s (length o) → o′ ≡ answerIn style s o x → x ≡ Answer.Printed n
+    → (Text n ≡ deskOf style s (length o)) × (o′ ≡ deskIn style s o)
 unfolding answerIn shownBy deskOf leftBy deskIn
-text-shown s o {x} {n} e f g =
-    let h : answerOf s (length o) ≡ Answer.Printed n = sym e ∙ g in
+text-shown style s o {x} {n} e f g =
+    let h : answerOf style s (length o) ≡ Answer.Printed n = sym e ∙ g in
     (rw h, f ∙ rw (g, h))
 
-pub line-shown : (s o : List ℕ) {x : Answer} {n p : ℕ} {o′ o″ : List ℕ} {r : Put} {t : Shown} → x ≡ answerOf s (length o) → o′ ≡ answerIn s o x
+pub line-shown : (style : Style) (s o : List ℕ) {x : Answer} {n p : ℕ} {o′ o″ : List ℕ} {r : Put} {t : Shown} → x ≡ answerOf style s (length o) → o′ ≡ answerIn style s o x
     → x ≡ Answer.Refused n p → r ≡ refusalPut n p (length o′) → o″ ≡ refusalIn n p o′ r → t ≡ refusedBy r
-    → (t ≡ deskOf s (length o)) × (o″ ≡ deskIn s o)
+    → (t ≡ deskOf style s (length o)) × (o″ ≡ deskIn style s o)
 unfolding answerIn shownBy deskOf leftBy deskIn
-line-shown s o {x} {n} {p} {o′} e f g a b d =
-    let h : answerOf s (length o) ≡ Answer.Refused n p = sym e ∙ g in
+line-shown style s o {x} {n} {p} {o′} e f g a b d =
+    let h : answerOf style s (length o) ≡ Answer.Refused n p = sym e ∙ g in
     let k : o′ ≡ o = f ∙ rw g in
     (d ∙ rw (a, k, h), b ∙ rw (a, k, h))
 
@@ -62,11 +63,11 @@ room-fits : (b : Bool) (k n : ℕ) → (b ≡ true → k ≤ n) → choose {A = 
 room-fits true k n h = h refl
 room-fits false k n h = omega arith
 
-used-fits : (us : List (Rule Span)) (n : ℕ) → printing us n .used ≤ n
+used-fits : (style : Style) (us : List (Rule Span)) (n : ℕ) → printing style us n .used ≤ n
 unfolding printing Printer.reported
-used-fits us n =
+used-fits style us n =
     by-tables (tables (nodesOf us) (recordsOf us) (rulesStored us)) _ n
-    (room-fits (leb (length (Printer.tableText (nodesOf us) (recordsOf us) (rulesStored us))) n) _ n (leb-true _ n))
+    (room-fits (leb (length (Printer.tableText style (nodesOf us) (recordsOf us) (rulesStored us))) n) _ n (leb-true _ n))
 
 put-fits : (b : Bool) (k n : ℕ) → (b ≡ true → k ≤ n) → Fits (refusedBy (choose b (λ u. Put.Wrote k) (λ u. Put.NoRoom))) n
 unfolding refusedBy
@@ -82,13 +83,13 @@ by-either : (b : Bool) (x y : Unit {0} → Answer) (m : ℕ) → Fits (shownBy (
 by-either true x y m h g = h
 by-either false x y m h g = g
 
-pub desk-fits : (s : List ℕ) (m : ℕ) → Fits (deskOf s m) m
+pub desk-fits : (style : Style) (s : List ℕ) (m : ℕ) → Fits (deskOf style s m) m
 unfolding deskOf answerOf printed shownBy
-desk-fits s m =
+desk-fits style s m =
     let us = rulesOf Tagged s in
     by-either (eqb (reading s .number) 0) _ _ m
-    (by-either (eqb (printing us m .number) 0) _ _ m (used-fits us m) (refusal-fits _ _ m)) (refusal-fits _ _ m)
+    (by-either (eqb (printing style us m .number) 0) _ _ m (used-fits style us m) (refusal-fits _ _ m)) (refusal-fits _ _ m)
 
 -- and still does after the call
-pub fits-after : (s : List ℕ) {x : Shown} (k : ℕ) (o : List ℕ) → x ≡ deskOf s k → length o ≡ k → Fits x (length o)
-fits-after s k o e h = rw (e, h) (desk-fits s k)
+pub fits-after : (style : Style) (s : List ℕ) {x : Shown} (k : ℕ) (o : List ℕ) → x ≡ deskOf style s k → length o ≡ k → Fits x (length o)
+fits-after style s k o e h = rw (e, h) (desk-fits style s k)

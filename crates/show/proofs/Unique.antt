@@ -4,6 +4,7 @@ use mathlib.Core.Path.{_≡_, sym, ap, _∙_}
 use mathlib.Core.List.{List}
 use lib.ListN.{length}
 use Rattle.text.specs.declared.Put.{Put}
+use Rattle.printer.specs.declared.Style.{Style}
 use Rattle.matcher.specs.declared.Row.{Row}
 use Rattle.structure.specs.declared.Level.the-variants.{Tagged}
 use Rattle.reader.specs.Read.{roomForNodes, roomForRules, readOf, Leaves}
@@ -27,11 +28,11 @@ line-unique {n} {p} {o} v u =
     (e, v .written ∙ (ap (refusalIn n p o) e ∙ sym (u .written)))
 
 -- desk: the answer, and what the output holds
-pub record Desk (s o : List ℕ) (r : Shown) (o′ : List ℕ) : Type 0 where
-  pub answered : r ≡ deskOf s (length o)
-  pub written : o′ ≡ deskIn s o
+pub record Desk (style : Style) (s o : List ℕ) (r : Shown) (o′ : List ℕ) : Type 0 where
+  pub answered : r ≡ deskOf style s (length o)
+  pub written : o′ ≡ deskIn style s o
 
-pub desk-unique : {s o : List ℕ} {r t : Shown} {a b : List ℕ} → Desk s o r a → Desk s o t b → (r ≡ t) × (a ≡ b)
+pub desk-unique : {style : Style} {s o : List ℕ} {r t : Shown} {a b : List ℕ} → Desk style s o r a → Desk style s o t b → (r ≡ t) × (a ≡ b)
 desk-unique v u = (v .answered ∙ sym (u .answered), v .written ∙ sym (u .written))
 
 -- answer_line: the answer, and what the output holds

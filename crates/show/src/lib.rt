@@ -6,6 +6,7 @@ mod row;
 use matcher::Found;
 use matcher::Lines;
 use matcher::Row;
+use printer::Style;
 use text::Put;
 ghost use mathlib.Core.Path.{_≡_};
 ghost use lib.ListN.{length};
@@ -80,10 +81,10 @@ pub fn refusal(number: u64, place: u64, out: &mut [u8]) -> Put
     Put::Wrote(line::put_line(number, place, out, 0))
 }
 
-// Reads a text and prints it, with room for 2,048 nodes, 1,024 rules and 65,536 store bytes.
-fn print_back(text: &[u8], out: &mut [u8]) -> Answer
-    ensures { λ r. ⌜ r ≡ answerOf (now (text .entry)) (length (now (out .entry))) ⌝ }
-    ensures { λ r. ⌜ now (out .exit) ≡ answerIn (now (text .entry)) (now (out .entry)) r ⌝ }
+// Reads a text and prints it in a style, with room for 2,048 nodes, 1,024 rules and 65,536 store bytes.
+fn print_back(style: Style, text: &[u8], out: &mut [u8]) -> Answer
+    ensures { λ r. ⌜ r ≡ answerOf style (now (text .entry)) (length (now (out .entry))) ⌝ }
+    ensures { λ r. ⌜ now (out .exit) ≡ answerIn style (now (text .entry)) (now (out .entry)) r ⌝ }
 {
     let mut nodes = [0u32; 12288];
     let mut rules = [0u32; 6144];
@@ -100,7 +101,14 @@ fn print_back(text: &[u8], out: &mut [u8]) -> Answer
     let r = 6 * read[3] as usize;
     let b = read[4] as usize;
     let mut printed = [0u64; 3];
-    exports::flascjuvan_print(&nodes[..n], &rules[..r], &store[..b], out, &mut printed);
+    exports::print_styled(
+        style,
+        &nodes[..n],
+        &rules[..r],
+        &store[..b],
+        out,
+        &mut printed,
+    );
     if printed[0] != 0 {
         return Answer::Refused {
             number: printed[0],
@@ -120,12 +128,12 @@ fn refused(line: Put) -> Shown
     }
 }
 
-// All that the desk's program writes: the text printed, or the line of its refusal.
-pub fn desk(text: &[u8], out: &mut [u8]) -> Shown
-    ensures answered { λ r. ⌜ r ≡ deskOf (now (text .entry)) (length (now (out .entry))) ⌝ }
-    ensures written { λ r. ⌜ now (out .exit) ≡ deskIn (now (text .entry)) (now (out .entry)) ⌝ }
+// All that the programs desk and short write: the text printed in a style, or the line of its refusal.
+pub fn desk(style: Style, text: &[u8], out: &mut [u8]) -> Shown
+    ensures answered { λ r. ⌜ r ≡ deskOf style (now (text .entry)) (length (now (out .entry))) ⌝ }
+    ensures written { λ r. ⌜ now (out .exit) ≡ deskIn style (now (text .entry)) (now (out .entry)) ⌝ }
 {
-    let answer = print_back(text, out);
+    let answer = print_back(style, text, out);
     match answer {
         Answer::Printed(n) => Shown::Text(n),
         Answer::Refused { number, place } => refused(refusal(number, place, out)),

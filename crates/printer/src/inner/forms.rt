@@ -1,6 +1,7 @@
 // What decides about brackets, and the brackets themselves.
 use crate::Form;
 use crate::Place;
+use crate::Style;
 use table::Join;
 use table::Leaf;
 use table::Op;
@@ -12,8 +13,11 @@ ghost use mathlib.Core.List.{[]};
 ghost use Rattle.text.specs.Splice.{Room, Wrote, spent};
 ghost use Rattle.table.specs.Record.{atomOf, wrapOf};
 ghost use Rattle.table.specs.Regroup.{sameJoin};
+ghost use Rattle.printer.specs.declared.Style.the-variants.{Short};
+ghost use Rattle.printer.specs.declared.Place.the-variants.{LeftOf, RightOf};
+ghost use Rattle.printer.specs.declared.Form.the-variants.{Prefix, Tag, Joined};
 ghost use Rattle.printer.specs.Printing as Printing;
-ghost use Rattle.printer.specs.Printing.{isOperand, opening, closing, enclosed, atomForm, unaryForm, wrapForm};
+ghost use Rattle.printer.specs.Printing.{isOperand, isFull, isChoice, isUnder, joinBrackets, opening, closing, enclosed, atomForm, unaryForm, wrapForm};
 
 fn is_operand(place: Place) -> bool
     ensures { λ r. ⌜ r ≡ isOperand place ⌝ }
@@ -21,6 +25,18 @@ fn is_operand(place: Place) -> bool
     match place {
         Place::Alone => false,
         Place::Prefixed => false,
+        Place::Operand => true,
+        Place::LeftOf(_) => false,
+        Place::RightOf(_) => false,
+    }
+}
+
+fn is_under(place: Place) -> bool
+    ensures { λ r. ⌜ r ≡ isUnder place ⌝ }
+{
+    match place {
+        Place::Alone => false,
+        Place::Prefixed => true,
         Place::Operand => true,
         Place::LeftOf(_) => false,
         Place::RightOf(_) => false,
@@ -55,28 +71,107 @@ fn follows(join: Join, place: Place) -> bool
     }
 }
 
-// Whether an expression stands in brackets. A predicate does as a postfix operand, which
-// `as_postfix_operand` sees to in ast.rs.
-pub fn brackets(place: Place, form: Form) -> bool
-    ensures { λ r. ⌜ r ≡ Printing.brackets place form ⌝ }
+fn is_full(style: Style) -> bool
+    ensures { λ r. ⌜ r ≡ isFull style ⌝ }
 {
-    match form {
-        Form::Plain => false,
-        Form::Range => true,
-        Form::Prefix => is_operand(place),
-        Form::Postfix => false,
-        Form::Tag => true,
-        Form::Joined(join) => !follows(join, place),
+    match style {
+        Style::Full => true,
+        Style::Short => false,
     }
 }
 
-pub fn leaf_form(leaf: Leaf) -> Form
-    ensures { λ r. ⌜ r ≡ atomForm (atomOf [] leaf) ⌝ }
+fn is_choice(join: Join) -> bool
+    ensures { λ r. ⌜ r ≡ isChoice join ⌝ }
+{
+    match join {
+        Join::Seq => false,
+        Join::Choice => true,
+    }
+}
+
+// In the short text a join on the left of another stands in brackets if it is Choice under Seq.
+fn short_left(over: Join, join: Join) -> bool
+    ensures { λ r. ⌜ r ≡ joinBrackets Short (LeftOf over) join ⌝ }
+{
+    match over {
+        Join::Seq => is_choice(join),
+        Join::Choice => false,
+    }
+}
+
+// On the right, also if both are the same.
+fn short_right(over: Join, join: Join) -> bool
+    ensures { λ r. ⌜ r ≡ joinBrackets Short (RightOf over) join ⌝ }
+{
+    match over {
+        Join::Seq => true,
+        Join::Choice => is_choice(join),
+    }
+}
+
+fn short_join(place: Place, join: Join) -> bool
+    ensures { λ r. ⌜ r ≡ joinBrackets Short place join ⌝ }
+{
+    match place {
+        Place::Alone => false,
+        Place::Prefixed => true,
+        Place::Operand => true,
+        Place::LeftOf(k) => short_left(k, join),
+        Place::RightOf(k) => short_right(k, join),
+    }
+}
+
+// A join's brackets.
+pub fn join_brackets(style: Style, place: Place, join: Join) -> bool
+    ensures { λ r. ⌜ r ≡ Printing.brackets style place (Joined join) ⌝ }
+{
+    match style {
+        Style::Full => !follows(join, place),
+        Style::Short => short_join(place, join),
+    }
+}
+
+// A tag's.
+pub fn tag_brackets(style: Style, place: Place) -> bool
+    ensures { λ r. ⌜ r ≡ Printing.brackets style place Tag ⌝ }
+{
+    match style {
+        Style::Full => true,
+        Style::Short => is_under(place),
+    }
+}
+
+// A predicate's, in both styles alike: it has them as a postfix operand, which `as_postfix_operand` sees to
+// in ast.rs.
+pub fn prefix_brackets(style: Style, place: Place) -> bool
+    ensures { λ r. ⌜ r ≡ Printing.brackets style place Prefix ⌝ }
+{
+    is_operand(place)
+}
+
+// A leaf's, wherever it stands.
+pub fn leaf_brackets(style: Style, place: Place, leaf: Leaf) -> bool
+    ensures { λ r. ⌜ r ≡ Printing.brackets style place (atomForm (atomOf [] leaf)) ⌝ }
 {
     match leaf {
-        Leaf::Text(_, _, _) => Form::Plain,
-        Leaf::Range(_, _) => Form::Range,
-        Leaf::PeekSlice(_, _) => Form::Plain,
+        Leaf::Text(_, _, _) => false,
+        Leaf::Range(_, _) => is_full(style),
+        Leaf::PeekSlice(_, _) => false,
+    }
+}
+
+// Whether an expression stands in brackets. Where its form is known, one of the functions above tells; they are
+// small enough for the compiler to put into the walks, and this one isn't.
+pub fn brackets(style: Style, place: Place, form: Form) -> bool
+    ensures { λ r. ⌜ r ≡ Printing.brackets style place form ⌝ }
+{
+    match form {
+        Form::Plain => false,
+        Form::Range => is_full(style),
+        Form::Prefix => prefix_brackets(style, place),
+        Form::Postfix => false,
+        Form::Tag => tag_brackets(style, place),
+        Form::Joined(join) => join_brackets(style, place, join),
     }
 }
 

@@ -4,9 +4,9 @@ use super::bounds::table_most;
 use super::forms;
 use super::leaves;
 use super::unary;
-use crate::Form;
 use crate::Place;
 use crate::Printed;
+use crate::Style;
 use table::Node;
 use table::Op;
 use table::Unary;
@@ -28,9 +28,16 @@ ghost use Rattle.printer.specs.Printing.{printed, markText, printedRule}
 ghost use Rattle.printer.specs.Answers.{tableText, roomOf, printIn};
 
 // What is left after node i's text. Once nothing is left, no node is looked at any more.
-pub fn measure(nodes: &[u32], store: &[u8], i: usize, place: Place, left: usize) -> usize
+pub fn measure(
+    nodes: &[u32],
+    store: &[u8],
+    i: usize,
+    place: Place,
+    left: usize,
+    style: Style,
+) -> usize
     requires { ⌜ Sound (now nodes) (now store) (i + 1) ⌝ }
-    ensures { λ r. ⌜ r ≡ spent left (printed place (treeAt (now (nodes .entry)) (now (store .entry)) i)) ⌝ }
+    ensures { λ r. ⌜ r ≡ spent left (printed style place (treeAt (now (nodes .entry)) (now (store .entry)) i)) ⌝ }
 {
     if left == 0 {
         return 0;
@@ -38,20 +45,20 @@ pub fn measure(nodes: &[u32], store: &[u8], i: usize, place: Place, left: usize)
     let node = node_at(nodes, i);
     match node {
         Node::Tip(leaf) => {
-            let on = forms::brackets(place, forms::leaf_form(leaf));
+            let on = forms::leaf_brackets(style, place, leaf);
             leaves::spend_leaf(store, leaf, forms::spend_brackets(on, left))
         }
         Node::One(op, c) => {
             let form = forms::op_form(op);
-            let on = forms::brackets(place, form);
+            let on = forms::brackets(style, place, form);
             let inside = unary::spend_op(store, op, forms::spend_brackets(on, left));
-            measure(nodes, store, c, forms::under(form), inside)
+            measure(nodes, store, c, forms::under(form), inside, style)
         }
         Node::Two(join, a, b) => {
-            let on = forms::brackets(place, Form::Joined(join));
+            let on = forms::join_brackets(style, place, join);
             let inside = spend(forms::spend_brackets(on, left), 3);
-            let right = measure(nodes, store, a, Place::LeftOf(join), inside);
-            measure(nodes, store, b, Place::RightOf(join), right)
+            let right = measure(nodes, store, a, Place::LeftOf(join), inside, style);
+            measure(nodes, store, b, Place::RightOf(join), right, style)
         }
         Node::Unknown => left,
     }
@@ -67,16 +74,17 @@ pub fn write(
     place: Place,
     out: &mut [u8],
     at: usize,
+    style: Style,
 ) -> usize
     requires { ⌜ now t ≡ hexDigits ⌝ }
     requires { ⌜ Sound (now nodes) (now store) (i + 1) ⌝ }
-    requires { ⌜ Room (now out) at (printed place (treeAt (now nodes) (now store) i)) ⌝ }
-    ensures { λ r. ⌜ Wrote (now (out .entry)) at (printed place (treeAt (now (nodes .entry)) (now (store .entry)) i)) (now (out .exit)) r ⌝ }
+    requires { ⌜ Room (now out) at (printed style place (treeAt (now nodes) (now store) i)) ⌝ }
+    ensures { λ r. ⌜ Wrote (now (out .entry)) at (printed style place (treeAt (now (nodes .entry)) (now (store .entry)) i)) (now (out .exit)) r ⌝ }
 {
     let node = node_at(nodes, i);
     match node {
         Node::Tip(leaf) => {
-            let on = forms::brackets(place, forms::leaf_form(leaf));
+            let on = forms::leaf_brackets(style, place, leaf);
             let a1 = forms::put_open(on, out, at);
             let a2 = leaves::put_leaf(t, store, leaf, out, a1);
             forms::put_close(on, out, a2)
@@ -84,66 +92,67 @@ pub fn write(
         Node::One(op, c) => match op {
             Op::Plain(unary) => match unary {
                 Unary::PosPred => {
-                    let on = forms::brackets(place, Form::Prefix);
+                    let on = forms::prefix_brackets(style, place);
                     let a1 = forms::put_open(on, out, at);
                     let a2 = put_byte(b'&', out, a1);
-                    let a3 = write(t, nodes, store, c, Place::Prefixed, out, a2);
+                    let a3 = write(t, nodes, store, c, Place::Prefixed, out, a2, style);
                     forms::put_close(on, out, a3)
                 }
                 Unary::NegPred => {
-                    let on = forms::brackets(place, Form::Prefix);
+                    let on = forms::prefix_brackets(style, place);
                     let a1 = forms::put_open(on, out, at);
                     let a2 = put_byte(b'!', out, a1);
-                    let a3 = write(t, nodes, store, c, Place::Prefixed, out, a2);
+                    let a3 = write(t, nodes, store, c, Place::Prefixed, out, a2, style);
                     forms::put_close(on, out, a3)
                 }
                 Unary::Opt => {
-                    let a1 = write(t, nodes, store, c, Place::Operand, out, at);
+                    let a1 = write(t, nodes, store, c, Place::Operand, out, at, style);
                     put_byte(b'?', out, a1)
                 }
                 Unary::Rep => {
-                    let a1 = write(t, nodes, store, c, Place::Operand, out, at);
+                    let a1 = write(t, nodes, store, c, Place::Operand, out, at, style);
                     put_byte(b'*', out, a1)
                 }
                 Unary::RepOnce => {
-                    let a1 = write(t, nodes, store, c, Place::Operand, out, at);
+                    let a1 = write(t, nodes, store, c, Place::Operand, out, at, style);
                     put_byte(b'+', out, a1)
                 }
                 Unary::RepExact(n) => {
-                    let a1 = write(t, nodes, store, c, Place::Operand, out, at);
+                    let a1 = write(t, nodes, store, c, Place::Operand, out, at, style);
                     unary::put_exact(n, out, a1)
                 }
                 Unary::RepMin(n) => {
-                    let a1 = write(t, nodes, store, c, Place::Operand, out, at);
+                    let a1 = write(t, nodes, store, c, Place::Operand, out, at, style);
                     unary::put_min(n, out, a1)
                 }
                 Unary::RepMax(n) => {
-                    let a1 = write(t, nodes, store, c, Place::Operand, out, at);
+                    let a1 = write(t, nodes, store, c, Place::Operand, out, at, style);
                     unary::put_max(n, out, a1)
                 }
                 Unary::RepMinMax(n, m) => {
-                    let a1 = write(t, nodes, store, c, Place::Operand, out, at);
+                    let a1 = write(t, nodes, store, c, Place::Operand, out, at, style);
                     unary::put_counts(n, m, out, a1)
                 }
                 Unary::Push => {
                     let a1 = unary::put_push(out, at);
-                    let a2 = write(t, nodes, store, c, Place::Alone, out, a1);
+                    let a2 = write(t, nodes, store, c, Place::Alone, out, a1, style);
                     put_byte(b')', out, a2)
                 }
             },
             Op::NodeTag(p, n) => {
-                let a1 = put_byte(b'(', out, at);
+                let on = forms::tag_brackets(style, place);
+                let a1 = forms::put_open(on, out, at);
                 let a2 = unary::put_tag(store, p, n, out, a1);
-                let a3 = write(t, nodes, store, c, Place::Prefixed, out, a2);
-                put_byte(b')', out, a3)
+                let a3 = write(t, nodes, store, c, Place::Prefixed, out, a2, style);
+                forms::put_close(on, out, a3)
             }
         },
         Node::Two(join, a, b) => {
-            let on = forms::brackets(place, Form::Joined(join));
+            let on = forms::join_brackets(style, place, join);
             let a1 = forms::put_open(on, out, at);
-            let a2 = write(t, nodes, store, a, Place::LeftOf(join), out, a1);
+            let a2 = write(t, nodes, store, a, Place::LeftOf(join), out, a1, style);
             let a3 = forms::put_separator(join, out, a2);
-            let a4 = write(t, nodes, store, b, Place::RightOf(join), out, a3);
+            let a4 = write(t, nodes, store, b, Place::RightOf(join), out, a3, style);
             forms::put_close(on, out, a4)
         }
         Node::Unknown => at,
@@ -176,18 +185,26 @@ fn put_mark(mark: u32, out: &mut [u8], at: usize) -> usize
 }
 
 // What is left after a rule: " = ", "{ " and " }" with LF are eight bytes.
-fn measure_rule(nodes: &[u32], rules: &[u32], store: &[u8], k: usize, left: usize) -> usize
+fn measure_rule(
+    style: Style,
+    nodes: &[u32],
+    rules: &[u32],
+    store: &[u8],
+    k: usize,
+    left: usize,
+) -> usize
     requires { ⌜ Valid (now nodes) (now rules) (now store) ⌝ }
     requires { ⌜ k < rulesIn (now rules) ⌝ }
-    ensures { λ r. ⌜ r ≡ spent left (printedRule (ruleAt (now (nodes .entry)) (now (rules .entry)) (now (store .entry)) k)) ⌝ }
+    ensures { λ r. ⌜ r ≡ spent left (printedRule style (ruleAt (now (nodes .entry)) (now (rules .entry)) (now (store .entry)) k)) ⌝ }
 {
     let head = head_at(rules, k);
     let frame = spend_mark(head.mark, spend(spend(left, head.length), 8));
-    measure(nodes, store, head.root, Place::Alone, frame)
+    measure(nodes, store, head.root, Place::Alone, frame, style)
 }
 
 // Writes a rule.
 fn print_rule(
+    style: Style,
     t: &[u8; 16],
     nodes: &[u32],
     rules: &[u32],
@@ -199,8 +216,8 @@ fn print_rule(
     requires { ⌜ now t ≡ hexDigits ⌝ }
     requires { ⌜ Valid (now nodes) (now rules) (now store) ⌝ }
     requires { ⌜ k < rulesIn (now rules) ⌝ }
-    requires { ⌜ Room (now out) at (printedRule (ruleAt (now nodes) (now rules) (now store) k)) ⌝ }
-    ensures { λ r. ⌜ Wrote (now (out .entry)) at (printedRule (ruleAt (now (nodes .entry)) (now (rules .entry)) (now (store .entry)) k)) (now (out .exit)) r ⌝ }
+    requires { ⌜ Room (now out) at (printedRule style (ruleAt (now nodes) (now rules) (now store) k)) ⌝ }
+    ensures { λ r. ⌜ Wrote (now (out .entry)) at (printedRule style (ruleAt (now (nodes .entry)) (now (rules .entry)) (now (store .entry)) k)) (now (out .exit)) r ⌝ }
 {
     let head = head_at(rules, k);
     let p = head.offset;
@@ -209,14 +226,14 @@ fn print_rule(
     let a2 = put(b" = ", out, a1);
     let a3 = put_mark(head.mark, out, a2);
     let a4 = put(b"{ ", out, a3);
-    let a5 = write(t, nodes, store, head.root, Place::Alone, out, a4);
+    let a5 = write(t, nodes, store, head.root, Place::Alone, out, a4, style);
     put(b" }\n", out, a5)
 }
 
 // What is left after all rules. Once nothing is left, the rest are not looked at.
-pub fn measure_rules(nodes: &[u32], rules: &[u32], store: &[u8], room: usize) -> usize
+pub fn measure_rules(style: Style, nodes: &[u32], rules: &[u32], store: &[u8], room: usize) -> usize
     requires { ⌜ Valid (now nodes) (now rules) (now store) ⌝ }
-    ensures { λ r. ⌜ r ≡ spent room (tableText (now (nodes .entry)) (now (rules .entry)) (now (store .entry))) ⌝ }
+    ensures { λ r. ⌜ r ≡ spent room (tableText style (now (nodes .entry)) (now (rules .entry)) (now (store .entry))) ⌝ }
 {
     let m = rules.len() / RULE_SIZE;
     let mut left = room;
@@ -225,7 +242,7 @@ pub fn measure_rules(nodes: &[u32], rules: &[u32], store: &[u8], room: usize) ->
         if left == 0 {
             return 0;
         }
-        left = measure_rule(nodes, rules, store, k, left);
+        left = measure_rule(style, nodes, rules, store, k, left);
         k += 1;
     }
     left
@@ -233,6 +250,7 @@ pub fn measure_rules(nodes: &[u32], rules: &[u32], store: &[u8], room: usize) ->
 
 // Writes all rules.
 pub fn print_rules(
+    style: Style,
     t: &[u8; 16],
     nodes: &[u32],
     rules: &[u32],
@@ -242,40 +260,46 @@ pub fn print_rules(
 ) -> usize
     requires { ⌜ now t ≡ hexDigits ⌝ }
     requires { ⌜ Valid (now nodes) (now rules) (now store) ⌝ }
-    requires { ⌜ Room (now out) at (tableText (now nodes) (now rules) (now store)) ⌝ }
-    ensures { λ r. ⌜ Wrote (now (out .entry)) at (tableText (now (nodes .entry)) (now (rules .entry)) (now (store .entry))) (now (out .exit)) r ⌝ }
+    requires { ⌜ Room (now out) at (tableText style (now nodes) (now rules) (now store)) ⌝ }
+    ensures { λ r. ⌜ Wrote (now (out .entry)) at (tableText style (now (nodes .entry)) (now (rules .entry)) (now (store .entry))) (now (out .exit)) r ⌝ }
 {
     let m = rules.len() / RULE_SIZE;
     let mut a = at;
     let mut k = 0;
     while k < m {
-        a = print_rule(t, nodes, rules, store, k, out, a);
+        a = print_rule(style, t, nodes, rules, store, k, out, a);
         k += 1;
     }
     a
 }
 
 // Writes all rules to the front of an output that has room for them.
-fn print_fitting(nodes: &[u32], rules: &[u32], store: &[u8], out: &mut [u8]) -> usize
+fn print_fitting(style: Style, nodes: &[u32], rules: &[u32], store: &[u8], out: &mut [u8]) -> usize
     requires { ⌜ Valid (now nodes) (now rules) (now store) ⌝ }
-    requires { ⌜ Room (now out) 0 (tableText (now nodes) (now rules) (now store)) ⌝ }
-    ensures { λ r. ⌜ Wrote (now (out .entry)) 0 (tableText (now (nodes .entry)) (now (rules .entry)) (now (store .entry))) (now (out .exit)) r ⌝ }
+    requires { ⌜ Room (now out) 0 (tableText style (now nodes) (now rules) (now store)) ⌝ }
+    ensures { λ r. ⌜ Wrote (now (out .entry)) 0 (tableText style (now (nodes .entry)) (now (rules .entry)) (now (store .entry))) (now (out .exit)) r ⌝ }
 {
     let t = hex_digits();
-    print_rules(&t, nodes, rules, store, out, 0)
+    print_rules(style, &t, nodes, rules, store, out, 0)
 }
 
 // Prints tables that are known not to be false. They are measured where their bound does not fit.
-pub fn print_valid(nodes: &[u32], rules: &[u32], store: &[u8], out: &mut [u8]) -> Printed
+pub fn print_valid(
+    style: Style,
+    nodes: &[u32],
+    rules: &[u32],
+    store: &[u8],
+    out: &mut [u8],
+) -> Printed
     requires { ⌜ Valid (now nodes) (now rules) (now store) ⌝ }
-    ensures { λ r. ⌜ r ≡ roomOf (tableText (now (nodes .entry)) (now (rules .entry)) (now (store .entry))) (length (now (out .entry))) ⌝ }
-    ensures { λ r. ⌜ now (out .exit) ≡ printIn (now (nodes .entry)) (now (rules .entry)) (now (store .entry)) (now (out .entry)) r ⌝ }
+    ensures { λ r. ⌜ r ≡ roomOf (tableText style (now (nodes .entry)) (now (rules .entry)) (now (store .entry))) (length (now (out .entry))) ⌝ }
+    ensures { λ r. ⌜ now (out .exit) ≡ printIn style (now (nodes .entry)) (now (rules .entry)) (now (store .entry)) (now (out .entry)) r ⌝ }
 {
     if table_most(nodes, rules) <= out.len() {
-        return Printed::Used(print_fitting(nodes, rules, store, out));
+        return Printed::Used(print_fitting(style, nodes, rules, store, out));
     }
-    if measure_rules(nodes, rules, store, out.len() + 1) == 0 {
+    if measure_rules(style, nodes, rules, store, out.len() + 1) == 0 {
         return Printed::NoRoom;
     }
-    Printed::Used(print_fitting(nodes, rules, store, out))
+    Printed::Used(print_fitting(style, nodes, rules, store, out))
 }

@@ -25,7 +25,7 @@ same-length c = search needs
 returns : tie.Need-returns
 returns c =
     let print-back = c .before .before .before .before .before .print-back in
-    text-shown _ _ (print-back .ensures .0) (print-back .ensures .1) (c .before .answer .given .1)
+    text-shown _ _ _ (print-back .ensures .0) (print-back .ensures .1) (c .before .answer .given .1)
 
 same-length-2 : tie.Need-same-length-2
 same-length-2 c = search needs
@@ -35,7 +35,7 @@ returns-2 c =
     let at-refusal = c .before .before .before in
     let at-answer2 = at-refusal .before .before .before in
     let print-back = at-answer2 .before .before .before .before .print-back in
-    line-shown _ _ (print-back .ensures .0) (print-back .ensures .1) (at-answer2 .answer2 .given .1)
+    line-shown _ _ _ (print-back .ensures .0) (print-back .ensures .1) (at-answer2 .answer2 .given .1)
     (at-refusal .refusal .ensures .0) (at-refusal .refusal .ensures .1) (c .refused .ensures)
 
 pub desk-spec : {M : Type 1} → statement M

@@ -22,14 +22,14 @@ flascjuvan-read-requires c κs = search needs
 array-read-if1 : tie.Need-array-read-if1
 array-read-if1 c = search needs
 
-array-read-t25 : tie.Need-array-read-t25
-array-read-t25 c = search needs
+array-read-t26 : tie.Need-array-read-t26
+array-read-t26 c = search needs
 
-array-read-t28 : tie.Need-array-read-t28
-array-read-t28 c = search needs
+array-read-t29 : tie.Need-array-read-t29
+array-read-t29 c = search needs
 
 returns : tie.Need-returns
-returns c = desk-refused _ _ (c .before .before .before .before .flascjuvan-read .ensures .0) (c .if1 .taken) _
+returns c = desk-refused _ _ (c .before .before .before .before .flascjuvan-read .ensures .0) (c .if1 .taken) _ _
 
 array-read-n : tie.Need-array-read-n
 array-read-n c = search needs
@@ -59,8 +59,8 @@ array-share-prefix-nodes c =
     let read = c .before .before .before .before .flascjuvan-read in
     desk-tables _ _ (read .ensures .0) _ _ _ (read .ensures .1) (c .if1 .left) .nodes .0
 
-slice-aggregate-flascjuvan-print : tie.Need-slice-aggregate-flascjuvan-print
-slice-aggregate-flascjuvan-print c =
+slice-aggregate-print-styled : tie.Need-slice-aggregate-print-styled
+slice-aggregate-print-styled c =
     let read = c .before .before .before .before .before .flascjuvan-read in
     sym (length-take-le _ _ (desk-tables _ _ (read .ensures .0) _ _ _ (read .ensures .1) (c .before .if1 .left) .nodes .0))
 
@@ -69,8 +69,8 @@ array-share-prefix-rules c =
     let read = c .before .before .before .before .before .flascjuvan-read in
     desk-tables _ _ (read .ensures .0) _ _ _ (read .ensures .1) (c .before .if1 .left) .rules .0
 
-slice-aggregate-flascjuvan-print-2 : tie.Need-slice-aggregate-flascjuvan-print-2
-slice-aggregate-flascjuvan-print-2 c =
+slice-aggregate-print-styled-2 : tie.Need-slice-aggregate-print-styled-2
+slice-aggregate-print-styled-2 c =
     let read = c .before .before .before .before .before .before .flascjuvan-read in
     sym (length-take-le _ _ (desk-tables _ _ (read .ensures .0) _ _ _ (read .ensures .1) (c .before .before .if1 .left) .rules .0))
 
@@ -79,22 +79,22 @@ array-share-prefix-store c =
     let read = c .before .before .before .before .before .before .flascjuvan-read in
     desk-tables _ _ (read .ensures .0) _ _ _ (read .ensures .1) (c .before .before .if1 .left) .store .0
 
-slice-aggregate-flascjuvan-print-3 : tie.Need-slice-aggregate-flascjuvan-print-3
-slice-aggregate-flascjuvan-print-3 c =
+slice-aggregate-print-styled-3 : tie.Need-slice-aggregate-print-styled-3
+slice-aggregate-print-styled-3 c =
     let read = c .before .before .before .before .before .before .before .flascjuvan-read in
     sym (length-take-le _ _ (desk-tables _ _ (read .ensures .0) _ _ _ (read .ensures .1) (c .before .before .before .if1 .left) .store .0))
 
-flascjuvan-print-requires : tie.Need-flascjuvan-print-requires
-flascjuvan-print-requires c κs = search needs
+print-styled-requires : tie.Need-print-styled-requires
+print-styled-requires c κs = search needs
 
 array-read-if2 : tie.Need-array-read-if2
 array-read-if2 c = search needs
 
-array-read-t49 : tie.Need-array-read-t49
-array-read-t49 c = search needs
+array-read-t50 : tie.Need-array-read-t50
+array-read-t50 c = search needs
 
-array-read-t52 : tie.Need-array-read-t52
-array-read-t52 c = search needs
+array-read-t53 : tie.Need-array-read-t53
+array-read-t53 c = search needs
 
 same-length : tie.Need-same-length
 same-length c = search needs
@@ -104,11 +104,11 @@ returns-2 c =
     let at-print = c .before .before .before in
     let at-if1 = at-print .before .before .before .before .before .before in
     let read = at-if1 .before .before .before .before .flascjuvan-read in
-    let print = at-print .flascjuvan-print in
-    print-refused _ _ _ _ _ (desk-tables _ _ (read .ensures .0) _ _ _ (read .ensures .1) (at-if1 .if1 .left)) _ _ _ (print .ensures .0) (print .ensures .1) (c .if2 .taken)
+    let print = at-print .print-styled in
+    print-refused _ _ _ _ _ _ (desk-tables _ _ (read .ensures .0) _ _ _ (read .ensures .1) (at-if1 .if1 .left)) _ _ _ (print .ensures .0) (print .ensures .1) (c .if2 .taken)
 
-array-read-t21 : tie.Need-array-read-t21
-array-read-t21 c = search needs
+array-read-t22 : tie.Need-array-read-t22
+array-read-t22 c = search needs
 
 same-length-2 : tie.Need-same-length-2
 same-length-2 c = search needs
@@ -118,8 +118,8 @@ returns-3 c =
     let at-print = c .before .before .before in
     let at-if1 = at-print .before .before .before .before .before .before in
     let read = at-if1 .before .before .before .before .flascjuvan-read in
-    let print = at-print .flascjuvan-print in
-    print-done _ _ _ _ _ (desk-tables _ _ (read .ensures .0) _ _ _ (read .ensures .1) (at-if1 .if1 .left)) _ _ _ (print .ensures .0) (print .ensures .1) (c .if2 .left)
+    let print = at-print .print-styled in
+    print-done _ _ _ _ _ _ (desk-tables _ _ (read .ensures .0) _ _ _ (read .ensures .1) (at-if1 .if1 .left)) _ _ _ (print .ensures .0) (print .ensures .1) (c .if2 .left)
 
 pub print-back-spec : {M : Type 1} → statement M
 print-back-spec =
@@ -130,8 +130,8 @@ print-back-spec =
     slice-aggregate-flascjuvan-read-3
     flascjuvan-read-requires
     array-read-if1
-    array-read-t25
-    array-read-t28
+    array-read-t26
+    array-read-t29
     returns
     array-read-n
     mul-n
@@ -139,17 +139,17 @@ print-back-spec =
     mul-r
     array-read-b
     array-share-prefix-nodes
-    slice-aggregate-flascjuvan-print
+    slice-aggregate-print-styled
     array-share-prefix-rules
-    slice-aggregate-flascjuvan-print-2
+    slice-aggregate-print-styled-2
     array-share-prefix-store
-    slice-aggregate-flascjuvan-print-3
-    flascjuvan-print-requires
+    slice-aggregate-print-styled-3
+    print-styled-requires
     array-read-if2
-    array-read-t49
-    array-read-t52
+    array-read-t50
+    array-read-t53
     same-length
     returns-2
-    array-read-t21
+    array-read-t22
     same-length-2
     returns-3)

@@ -4,7 +4,7 @@ use denote.Ref.{now}
 use Rattle.table.proofs.Nodes.{sound-tip, sound-one, sound-two, sound-unknown, sound-below}
 use borrow.Author.Needs.{needs}
 use native.Mathlib.Omega.{arith}
-use mathlib.Core.Path.{sym, _∙_}
+use mathlib.Core.Path.{refl, sym, _∙_}
 use Prim.Native.Nat.{ℕ, _<_}
 use borrow.Fn.Kinds.{In, Out}
 use borrow.Fn.PlainCycle.{Measures, is, falls, and}
@@ -12,7 +12,8 @@ use Rattle.printer.proofs.inner.walks.measure.Reads as measure
 use Rattle.printer.proofs.inner.walks.measure.Kinds as measure-kinds
 use Rattle.printer.proofs.inner.walks.+measure.Lts-measure as measure-lts
 use Rattle.printer.proofs.inner.forms.brackets.Reads as brackets-reads
-use Rattle.printer.proofs.inner.forms.leaf_form.Reads as leaf-form-reads
+use Rattle.printer.proofs.inner.forms.join_brackets.Reads as join-brackets-reads
+use Rattle.printer.proofs.inner.forms.leaf_brackets.Reads as leaf-brackets-reads
 use Rattle.printer.proofs.inner.forms.op_form.Reads as op-form-reads
 use Rattle.printer.proofs.inner.forms.spend_brackets.Reads as spend-brackets-reads
 use Rattle.printer.proofs.inner.forms.under.Reads as under-reads
@@ -34,7 +35,7 @@ measure-below t = and 2 measure-kinds.ps (falls 2 measure-kinds.ps _<_ μ-measur
 
 -- a need of `measure`, or a place of its code, at the measure t
 abbrev of-measure : ((k : measure-lts.Claims) (p : In 2 measure-kinds.ps) (q : Out 2 measure-kinds.ps measure-kinds.r) → Type 0) → ℕ → Type 0
-of-measure N t = N (node-at-reads.Asked, node-at-reads.Learnt, leaf-form-reads.Asked, leaf-form-reads.Learnt, brackets-reads.Asked, brackets-reads.Learnt, spend-brackets-reads.Asked, spend-brackets-reads.Learnt, spend-leaf-reads.Asked, spend-leaf-reads.Learnt, op-form-reads.Asked, op-form-reads.Learnt, spend-op-reads.Asked, spend-op-reads.Learnt, under-reads.Asked, under-reads.Learnt, measure-below t, measure.Post, spend-reads.Asked, spend-reads.Learnt) (measure-at t) measure.Post
+of-measure N t = N (node-at-reads.Asked, node-at-reads.Learnt, leaf-brackets-reads.Asked, leaf-brackets-reads.Learnt, spend-brackets-reads.Asked, spend-brackets-reads.Learnt, spend-leaf-reads.Asked, spend-leaf-reads.Learnt, op-form-reads.Asked, op-form-reads.Learnt, brackets-reads.Asked, brackets-reads.Learnt, spend-op-reads.Asked, spend-op-reads.Learnt, under-reads.Asked, under-reads.Learnt, measure-below t, measure.Post, join-brackets-reads.Asked, join-brackets-reads.Learnt, spend-reads.Asked, spend-reads.Learnt) (measure-at t) measure.Post
 
 measure-returns : (t : ℕ) → of-measure measure-lts.Need-returns t
 measure-returns t c = spent-zero _ _ (c .if1 .taken)
@@ -45,18 +46,15 @@ measure-node-at-requires t c κs = c .before .before .before .pre .1 .whole
 measure-enum-known-node : (t : ℕ) → of-measure measure-lts.Need-enum-known-node t
 measure-enum-known-node t c = search needs
 
-measure-leaf-form-requires : (t : ℕ) → of-measure measure-lts.Need-leaf-form-requires t
-measure-leaf-form-requires t c κs = search needs
-
-measure-brackets-requires : (t : ℕ) → of-measure measure-lts.Need-brackets-requires t
-measure-brackets-requires t c κs = search needs
+measure-leaf-brackets-requires : (t : ℕ) → of-measure measure-lts.Need-leaf-brackets-requires t
+measure-leaf-brackets-requires t c κs = search needs
 
 measure-spend-brackets-requires : (t : ℕ) → of-measure measure-lts.Need-spend-brackets-requires t
 measure-spend-brackets-requires t c κs = search needs
 
 measure-spend-leaf-requires : (t : ℕ) → of-measure measure-lts.Need-spend-leaf-requires t
 measure-spend-leaf-requires t c κs =
-    let at-node = c .before .before .before .before in
+    let at-node = c .before .before .before in
     let at-node-at = at-node .before .before in
     let start = at-node-at .before .before .before .before in
     let s = start in
@@ -72,8 +70,8 @@ measure-enum-known-node-2 t c = search needs
 measure-op-form-requires : (t : ℕ) → of-measure measure-lts.Need-op-form-requires t
 measure-op-form-requires t c κs = search needs
 
-measure-brackets-requires-2 : (t : ℕ) → of-measure measure-lts.Need-brackets-requires-2 t
-measure-brackets-requires-2 t c κs = search needs
+measure-brackets-requires : (t : ℕ) → of-measure measure-lts.Need-brackets-requires t
+measure-brackets-requires t c κs = search needs
 
 measure-spend-brackets-requires-2 : (t : ℕ) → of-measure measure-lts.Need-spend-brackets-requires-2 t
 measure-spend-brackets-requires-2 t c κs = search needs
@@ -106,8 +104,8 @@ measure-measure-requires t c κs =
 measure-enum-known-node-3 : (t : ℕ) → of-measure measure-lts.Need-enum-known-node-3 t
 measure-enum-known-node-3 t c = search needs
 
-measure-brackets-requires-3 : (t : ℕ) → of-measure measure-lts.Need-brackets-requires-3 t
-measure-brackets-requires-3 t c κs = search needs
+measure-join-brackets-requires : (t : ℕ) → of-measure measure-lts.Need-join-brackets-requires t
+measure-join-brackets-requires t c κs = search needs
 
 measure-spend-brackets-requires-3 : (t : ℕ) → of-measure measure-lts.Need-spend-brackets-requires-3 t
 measure-spend-brackets-requires-3 t c κs = search needs
@@ -141,8 +139,7 @@ measure-enum-told t c = search needs
 measure-returns-2 : (t : ℕ) → of-measure measure-lts.Need-returns-2 t
 measure-returns-2 t c =
     let at-brackets = c .before .before in
-    let at-leaf-form = at-brackets .before in
-    let at-node = at-leaf-form .before .before in
+    let at-node = at-brackets .before .before in
     let at-node-at = at-node .before .before in
     let start = at-node-at .before .before .before .before in
     let s = start in
@@ -150,14 +147,14 @@ measure-returns-2 t c =
     let st = now (s .args .store) in
     let i = s .args .i in
     let e = sym (at-node-at .node-at .ensures) ∙ at-node .node .given .1 in
-    leaf-spent ns st i (s .args .place) e (at-leaf-form .leaf-form .ensures) (at-brackets .brackets .ensures) _ (c .before .spend-brackets .ensures) (c .spend-leaf .ensures)
+    leaf-spent (s .args .style) ns st i (s .args .place) e refl (at-brackets .leaf-brackets .ensures) _ (c .before .spend-brackets .ensures) (c .spend-leaf .ensures)
 
 measure-returns-3 : (t : ℕ) → of-measure measure-lts.Need-returns-3 t
 measure-returns-3 t c =
     let at-spend-op = c .before .before in
-    let at-spend-brackets2 = at-spend-op .before in
-    let at-brackets2 = at-spend-brackets2 .before in
-    let at-op-form = at-brackets2 .before in
+    let at-spend-brackets = at-spend-op .before in
+    let at-brackets = at-spend-brackets .before in
+    let at-op-form = at-brackets .before in
     let at-node2 = at-op-form .before .before in
     let at-node-at = at-node2 .before .before in
     let start = at-node-at .before .before .before .before in
@@ -166,14 +163,14 @@ measure-returns-3 t c =
     let st = now (s .args .store) in
     let i = s .args .i in
     let e = sym (at-node-at .node-at .ensures) ∙ at-node2 .node2 .given .1 in
-    one-spent ns st i (s .args .place) (s .pre .1) e (at-op-form .op-form .ensures) (at-brackets2 .brackets2 .ensures) (c .before .under .ensures) _ (at-spend-brackets2 .spend-brackets2 .ensures) (at-spend-op .spend-op .ensures) (c .measure .ensures)
+    one-spent (s .args .style) ns st i (s .args .place) (s .pre .1) e (at-op-form .op-form .ensures) (at-brackets .brackets .ensures) (c .before .under .ensures) _ (at-spend-brackets .spend-brackets2 .ensures) (at-spend-op .spend-op .ensures) (c .measure .ensures)
 
 measure-returns-4 : (t : ℕ) → of-measure measure-lts.Need-returns-4 t
 measure-returns-4 t c =
     let at-spend = c .before .before in
-    let at-spend-brackets3 = at-spend .before in
-    let at-brackets3 = at-spend-brackets3 .before in
-    let at-node3 = at-brackets3 .before .before in
+    let at-spend-brackets = at-spend .before in
+    let at-brackets = at-spend-brackets .before in
+    let at-node3 = at-brackets .before .before in
     let at-node-at = at-node3 .before .before in
     let start = at-node-at .before .before .before .before in
     let s = start in
@@ -181,7 +178,7 @@ measure-returns-4 t c =
     let st = now (s .args .store) in
     let i = s .args .i in
     let e = sym (at-node-at .node-at .ensures) ∙ at-node3 .node3 .given .1 in
-    two-spent ns st i (s .args .place) (s .pre .1) e (at-brackets3 .brackets3 .ensures) _ (at-spend-brackets3 .spend-brackets3 .ensures) (at-spend .spend .ensures) (c .before .measure2 .ensures) (c .measure3 .ensures)
+    two-spent (s .args .style) ns st i (s .args .place) (s .pre .1) e (at-brackets .join-brackets .ensures) _ (at-spend-brackets .spend-brackets3 .ensures) (at-spend .spend .ensures) (c .before .measure2 .ensures) (c .measure3 .ensures)
 
 measure-returns-5 : (t : ℕ) → of-measure measure-lts.Need-returns-5 t
 measure-returns-5 t c =
@@ -198,22 +195,24 @@ pub +measure-spec : {M : Type 1} → statement M
 +measure-spec = close μ-measure λ t. measure-lts.spec (
   node-at-reads.Asked,
   node-at-reads.Learnt,
-  leaf-form-reads.Asked,
-  leaf-form-reads.Learnt,
-  brackets-reads.Asked,
-  brackets-reads.Learnt,
+  leaf-brackets-reads.Asked,
+  leaf-brackets-reads.Learnt,
   spend-brackets-reads.Asked,
   spend-brackets-reads.Learnt,
   spend-leaf-reads.Asked,
   spend-leaf-reads.Learnt,
   op-form-reads.Asked,
   op-form-reads.Learnt,
+  brackets-reads.Asked,
+  brackets-reads.Learnt,
   spend-op-reads.Asked,
   spend-op-reads.Learnt,
   under-reads.Asked,
   under-reads.Learnt,
   measure-below t,
   measure.Post,
+  join-brackets-reads.Asked,
+  join-brackets-reads.Learnt,
   spend-reads.Asked,
   spend-reads.Learnt,
 )
@@ -222,19 +221,18 @@ pub +measure-spec : {M : Type 1} → statement M
     (measure-returns t)
     (measure-node-at-requires t)
     (measure-enum-known-node t)
-    (measure-leaf-form-requires t)
-    (measure-brackets-requires t)
+    (measure-leaf-brackets-requires t)
     (measure-spend-brackets-requires t)
     (measure-spend-leaf-requires t)
     (measure-enum-known-node-2 t)
     (measure-op-form-requires t)
-    (measure-brackets-requires-2 t)
+    (measure-brackets-requires t)
     (measure-spend-brackets-requires-2 t)
     (measure-spend-op-requires t)
     (measure-under-requires t)
     (measure-measure-requires t)
     (measure-enum-known-node-3 t)
-    (measure-brackets-requires-3 t)
+    (measure-join-brackets-requires t)
     (measure-spend-brackets-requires-3 t)
     (measure-spend-requires t)
     (measure-measure-requires-2 t)

@@ -2,8 +2,8 @@ use Rattle.exports.specs.Numbers.{printNumbers}
 use Rattle.printer.specs.Answers.{printIn}
 use mathlib.Core.Path.{ap, _∙_}
 use borrow.Author.Needs.{needs}
-use Rattle.exports.proofs.flascjuvan_print.Statement.{statement}
-use Rattle.exports.proofs.flascjuvan_print.Tie as tie
+use Rattle.exports.proofs.print_styled.Statement.{statement}
+use Rattle.exports.proofs.print_styled.Tie as tie
 
 print-requires : tie.Need-print-requires
 print-requires c κs = search needs
@@ -15,8 +15,8 @@ same-length : tie.Need-same-length
 same-length c = search needs
 
 returns : tie.Need-returns
-returns c = (c .printed-numbers .ensures ∙ ap printNumbers (c .before .before .before .print .ensures .1 .0), c .before .before .before .print .ensures .1 .1 ∙ ap (printIn _ _ _ _) (c .before .before .before .print .ensures .0))
+returns c = (c .printed-numbers .ensures ∙ ap printNumbers (c .before .before .before .print .ensures .1 .0), c .before .before .before .print .ensures .1 .1 ∙ ap (printIn _ _ _ _ _) (c .before .before .before .print .ensures .0))
 
-pub flascjuvan-print-spec : {M : Type 1} → statement M
-flascjuvan-print-spec =
+pub print-styled-spec : {M : Type 1} → statement M
+print-styled-spec =
     tie.close (tie.spec print-requires printed-numbers-requires same-length returns)

@@ -4,17 +4,14 @@ use mathlib.Core.Path.{_≡_, sym, _∙_}
 use native.Mathlib.Omega.{arith}
 use lib.ListN.{length, length-replicate}
 use lib.Seq.{length-take-le}
 use Rattle.program.proofs.Inputs.{bytes-within}
 use Rattle.show.proofs.Shows.{fits-after}
 use borrow.Author.Needs.{needs}
-use Rattle.desk.proofs.main.Statement.{statement}
-use Rattle.desk.proofs.main.Tie as tie
+use Rattle.program.proofs.print_input.Statement.{statement}
+use Rattle.program.proofs.print_input.Tie as tie
 
 slice-aggregate-read-input : tie.Need-slice-aggregate-read-input
 slice-aggregate-read-input c = search needs
-
-slice-aggregate-read-input-2 : tie.Need-slice-aggregate-read-input-2
-slice-aggregate-read-input-2 c = search needs
 
 read-input-requires : tie.Need-read-input-requires
 read-input-requires c κs = search needs
@@ -43,24 +40,20 @@ desk-requires c κs = search needs
 slice-aggregate-write-shown : tie.Need-slice-aggregate-write-shown
 slice-aggregate-write-shown c = search needs
 
-slice-aggregate-write-shown-2 : tie.Need-slice-aggregate-write-shown-2
-slice-aggregate-write-shown-2 c = search needs
-
 write-shown-requires : tie.Need-write-shown-requires
 write-shown-requires c κs =
-    let desk = c .before .before .before .desk in
-    let h : length (desk .last .1 .0) ≡ 65536 = omega arith in
-    fits-after _ _ (desk .last .1 .0) (desk .ensures .0) (h ∙ sym (length-replicate {A = ℕ} 65536 0))
+    let desk = c .before .before .desk in
+    let h : length (desk .last .1 .1 .0) ≡ 65536 = omega arith in
+    fits-after _ _ _ (desk .last .1 .1 .0) (desk .ensures .0) (h ∙ sym (length-replicate {A = ℕ} 65536 0))
 
 returns-2 : tie.Need-returns-2
 returns-2 c = search needs
 
-pub main-spec : {M : Type 1} → statement M
-main-spec =
+pub print-input-spec : {M : Type 1} → statement M
+print-input-spec =
     tie.close
     (tie.spec
     slice-aggregate-read-input
-    slice-aggregate-read-input-2
     read-input-requires
     enum-known-input
     enum-told
@@ -70,6 +63,5 @@ main-spec =
     slice-aggregate-desk-2
     desk-requires
     slice-aggregate-write-shown
-    slice-aggregate-write-shown-2
     write-shown-requires
     returns-2)

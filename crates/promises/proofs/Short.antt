@@ -1,0 +1,108 @@
+-- The short text of tables: it is read as the very same rules, has the fewest brackets, and needs every pair.
+use Prim.Native.Nat.{ℕ, _≤_}
+use mathlib.Core.Path.{_≡_, refl, sym, ap, _∙_}
+use mathlib.Core.Bool.{Bool, true, false}
+use mathlib.Core.List.{List, [], _∷_, map}
+use native.Mathlib.Omega.{arith}
+use lib.ListN.{length}
+use Rattle.table.specs.Tree.{Rule, Nowhere, ruleBy, asideRule}
+use Rattle.table.specs.Record as Record
+use Rattle.table.specs.Regroup.{regroup, untagged, regroupRules, untaggedRules}
+use Rattle.table.specs.Check.{fineRules}
+use Rattle.printer.specs.declared.Style.the-variants.{Full, Short}
+use Rattle.printer.specs.Answers.{tableText}
+use Rattle.structure.specs.declared.Level.{Level}
+use Rattle.structure.specs.declared.Level.the-variants.{Tagged, Plain}
+use Rattle.structure.specs.Tokens.{toks}
+use Rattle.reader.specs.Read.{rulesOf}
+use Rattle.promises.specs.Pieces.{spelled, rulesPieces}
+use Rattle.promises.specs.Pairs.{Pair, cut}
+use Rattle.promises.specs.Styled.{markedRules}
+use Rattle.promises.specs.Round.{countedRules, holdsPushLiteral, seen, Printable, ReadAs}
+use Rattle.promises.specs.Fewest.{opensTo, opensIn, needs}
+use Rattle.promises.proofs.Laid.{tokened}
+use Rattle.promises.proofs.Lays.{held-rules}
+use Rattle.promises.proofs.Spelled.{spelled-printed}
+use Rattle.promises.proofs.Styles.{marked-rules-fine, marked-rules-counted}
+use Rattle.promises.proofs.Counts.{counted-stand, count-rules, opensAll, needs-marked}
+use Rattle.promises.proofs.Fewest.{fewest}
+use Rattle.promises.proofs.Bared.{BaredRules, bared-fewer, bared-rules}
+use Rattle.promises.proofs.Pairs.{unpaired, every-pair}
+use Rattle.promises.proofs.Cuts.{pair-cut, cut-shorter}
+use Rattle.promises.proofs.Round.{printedOnes, is-fine, is-counted, is-text, tagged, plain}
+
+same-rules : (us : List (Rule Nowhere)) → seen Short Tagged us ≡ us
+same-rules [] = refl
+same-rules (r ∷ us) = ap (λ (z : List (Rule Nowhere)). r ∷ z) (same-rules us)
+
+plain-twice : (us : List (Rule Nowhere)) → seen Full Plain us ≡ untaggedRules (regroupRules us)
+plain-twice [] = refl
+plain-twice (r ∷ us) = ap (λ (z : List (Rule Nowhere)). ruleBy (λ t. untagged (regroup t)) r ∷ z) (plain-twice us)
+
+-- ---- texts of marked rules
+
+opens-marked : (ms : List (Rule Bool)) → fineRules ms ≡ true → countedRules ms ≡ true → opensIn (spelled (rulesPieces ms)) ≡ opensAll ms
+unfolding opensTo
+opens-marked ms f c =
+    let s = spelled (rulesPieces ms) in
+    omega (arith, counted-stand s (rulesPieces ms) 0 (length (toks s)) (tokened s (rulesPieces ms) refl (held-rules ms f c 0) .stands), count-rules ms f)
+
+-- ---- tables
+
+module _ (ns rs st : List ℕ) (p : Printable Short ns rs st) where
+  abbrev ones : List (Rule Nowhere)
+  ones = printedOnes Short ns rs st p
+
+  abbrev marks : List (Rule Bool)
+  marks = markedRules Short ones
+
+  marks-fine : fineRules marks ≡ true
+  marks-fine = marked-rules-fine Short ones ∙ is-fine Short ns rs st p
+
+  marks-counted : countedRules marks ≡ true
+  marks-counted = marked-rules-counted Short ones ∙ is-counted Short ns rs st p
+
+  -- the tagged reader returns the very same rules, spans aside
+  pub short-tagged : ReadAs Tagged (tableText Short ns rs st) ones
+  short-tagged = rw (same-rules ones) at (tagged Short ns rs st p)
+
+  -- the plain reader returns them with every tag removed
+  pub short-plain : holdsPushLiteral (Record.rulesOf ns rs st) ≡ false → ReadAs Plain (tableText Short ns rs st) (untaggedRules ones)
+  short-plain h = plain Short ns rs st p h
+
+  -- its pieces
+  short-pieces : spelled (rulesPieces marks) ≡ tableText Short ns rs st
+  short-pieces = spelled-printed Short ones ∙ is-text Short ns rs st p
+
+  -- the short text has the brackets that are needed
+  pub short-opens : opensIn (tableText Short ns rs st) ≡ needs ones
+  short-opens = ap opensIn (sym short-pieces) ∙ opens-marked marks marks-fine marks-counted ∙ needs-marked ones
+
+  -- every text that is read as these rules, at either level, has at least as many
+  pub short-fewest : (level : Level) (x : List ℕ) → map asideRule (rulesOf level x) ≡ ones → opensIn (tableText Short ns rs st) ≤ opensIn x
+  short-fewest level x e = omega (arith, short-opens, fewest level x ones e)
+
+  -- with one mark fewer other rules are read
+  needed : (level : Level) (ms : List (Rule Bool)) → BaredRules marks ms → map asideRule (rulesOf level (spelled (rulesPieces ms))) ≡ ones → ⊥
+  needed level ms b e =
+      let g = bared-rules b in
+      let k = opens-marked ms (g .0 ∙ marks-fine) (g .1 ∙ marks-counted) in
+      omega (arith, fewest level (spelled (rulesPieces ms)) ones e, bared-fewer b, needs-marked ones)
+
+  -- no pair of brackets but those of PUSH and PUSH_LITERAL can be taken away and the same rules still be read
+  pub pair-needed : (level : Level) (i j : ℕ) → Pair (tableText Short ns rs st) i j → map asideRule (rulesOf level (cut (tableText Short ns rs st) i j)) ≡ ones → ⊥
+  pair-needed level i j q e =
+      let (k, f) = pair-cut (tableText Short ns rs st) (rulesPieces marks) (sym short-pieces) (held-rules marks marks-fine marks-counted 0) i j q in
+      let z : unpaired k false (rulesPieces marks) ≡ rulesPieces marks → ⊥ =
+      λ h. omega (arith, cut-shorter (tableText Short ns rs st) i j q, ap length (sym f ∙ ap spelled h ∙ short-pieces)) in
+      let (ms, b, g) = every-pair marks k z in
+      needed level ms b (ap (λ (x : List ℕ). map asideRule (rulesOf level x)) (ap spelled (sym g) ∙ f) ∙ e)
+
+-- ---- demand 3 as it was, of the full text
+
+module _ (ns rs st : List ℕ) (p : Printable Full ns rs st) where
+  pub full-tagged : ReadAs Tagged (tableText Full ns rs st) (regroupRules (printedOnes Full ns rs st p))
+  full-tagged = tagged Full ns rs st p
+
+  pub full-plain : holdsPushLiteral (Record.rulesOf ns rs st) ≡ false → ReadAs Plain (tableText Full ns rs st) (untaggedRules (regroupRules (printedOnes Full ns rs st p)))
+  full-plain h = rw (plain-twice (printedOnes Full ns rs st p)) at (plain Full ns rs st p h)
