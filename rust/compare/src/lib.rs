@@ -5,6 +5,7 @@ pub mod by_hand;
 pub mod instructions;
 pub mod layouts;
 pub mod lines;
+pub mod printing;
 pub mod tables;
 pub mod texts;
 pub mod trees;
@@ -15,6 +16,42 @@ pub mod matching;
 pub mod product;
 #[cfg(feature = "product")]
 pub mod random_trees;
+
+use std::collections::BTreeMap;
+
+use oracle::Tables;
+use second::Refusal;
+
+/// What the second program reads, all the room in the world being there.
+pub fn second_reads(text: &[u8], tagged: bool) -> Result<Tables, Refusal> {
+    let made = second::read::tables(text, tagged)?;
+    Ok(Tables { nodes: made.nodes, rules: made.rules, store: made.store })
+}
+
+/// Counts under names, each with its smallest text.
+#[derive(Default)]
+pub struct Tally(BTreeMap<String, (u64, Vec<u8>)>);
+
+impl Tally {
+    pub fn add(&mut self, name: String, text: &[u8]) {
+        let (count, least) = self.0.entry(name).or_insert((0, text.to_vec()));
+        *count += 1;
+        if (text.len(), text) < (least.len(), &least[..]) {
+            *least = text.to_vec();
+        }
+    }
+
+    pub fn is_empty(&self) -> bool {
+        self.0.is_empty()
+    }
+
+    pub fn print(&self, title: &str) {
+        println!("\n{title}");
+        for (name, (count, least)) in &self.0 {
+            println!("  {count:>9}  {name}   {}", shown(least));
+        }
+    }
+}
 
 /// Numbers that look random and come again for the same seed (SplitMix64).
 #[derive(Clone)]

@@ -1,39 +1,15 @@
 //! The comparison. `--seed N` (default 1); `--scale N`, hundredths of the full run (default
-//! 100); `--only PART` (texts, tables, characters, product, matcher). Ends with 1 if anything is different and not explained.
+//! 100); `--only PART`: texts, tables, characters (the Rust and the second program), reader, printer,
+//! matcher (the product and the second program). Ends with 1 if anything is different and not explained.
 
 use std::collections::BTreeMap;
 use std::time::Instant;
 
 use compare::texts::Source;
-use compare::{argument, on_stack, quiet_panics, shown, tables, texts, trees};
+use compare::{argument, on_stack, printing, quiet_panics, second_reads, texts, Tally};
 use oracle::{Answer, Tables};
 use second::read::Used;
 use second::token::{Next, BAR};
-
-/// Counts under names, each with its smallest text.
-#[derive(Default)]
-struct Tally(BTreeMap<String, (u64, Vec<u8>)>);
-
-impl Tally {
-    fn add(&mut self, name: String, text: &[u8]) {
-        let (count, least) = self.0.entry(name).or_insert((0, text.to_vec()));
-        *count += 1;
-        if (text.len(), text) < (least.len(), &least[..]) {
-            *least = text.to_vec();
-        }
-    }
-
-    fn print(&self, title: &str) {
-        println!("\n{title}");
-        for (name, (count, least)) in &self.0 {
-            println!("  {count:>9}  {name}   {}", shown(least));
-        }
-    }
-}
-
-fn kept(tables: second::read::Tables) -> Tables {
-    Tables { nodes: tables.nodes, rules: tables.rules, store: tables.store }
-}
 
 /// Where pest's own rule for comments ends the comment at `place`.
 fn pest_comment(text: &[u8], place: usize, fuel: &mut u32) -> Option<usize> {
@@ -174,7 +150,7 @@ fn hold(text: &str, tagged: bool, ways: &mut Tally, faults: &mut Tally) -> &'sta
     oracle::limit_calls(1_000_000 + 200 * text.len());
     let rust = oracle::read(text, tagged);
     let rust_label = label(&rust);
-    let ours = second::read::tables(bytes, tagged);
+    let ours = second_reads(bytes, tagged);
     // With all the room in the world, the limits stay.
     let number = match &ours {
         Ok(made) => {
@@ -190,7 +166,7 @@ fn hold(text: &str, tagged: bool, ways: &mut Tally, faults: &mut Tally) -> &'sta
     };
     ways.add(format!("{level}: ours {number}, the Rust: {rust_label}"), bytes);
     if let (Ok(ours), Answer::Read(rules)) = (&ours, &rust) {
-        if kept(ours.clone()) != Tables::of(rules) {
+        if *ours != Tables::of(rules) {
             faults.add(format!("{level}: TREES DIFFER"), bytes);
         }
         return rust_label;
@@ -209,13 +185,13 @@ fn hold(text: &str, tagged: bool, ways: &mut Tally, faults: &mut Tally) -> &'sta
         return rust_label;
     }
     let (text, found) = repaired(bytes, tagged);
-    let after = second::read::tables(&text, tagged);
+    let after = second_reads(&text, tagged);
     let after_number = after.as_ref().err().map_or(0, |refusal| refusal.number);
     let good = match (after_number, &rust) {
         (0, Answer::Read(rules)) => {
             // A comment apart, the trees are the same; a blank after `^` spoils the string.
             found.contains(&Way::BlankAfterCaret)
-                || after.map(|t| kept(t).without_spans()) == Ok(Tables::of(rules).without_spans())
+                || after.map(Tables::without_spans) == Ok(Tables::of(rules).without_spans())
         }
         (0, Answer::Panicked(_)) => found.contains(&Way::BarAfterBracket),
         (3 | 4, Answer::NotRecognized(_)) => true,
@@ -307,94 +283,7 @@ fn compare_texts(seed: u64, scale: usize) -> bool {
     ways.print("the given files of 2.9.5 and the second program, count, class, smallest text:");
     pairs.print("Debian's 2.5.2 and the given files of 2.9.5, on texts without what is new:");
     faults.print("DIFFERENT AND NOT EXPLAINED (nothing below is good):");
-    faults.0.is_empty()
-}
-
-fn compare_tables(seed: u64, scale: usize) -> bool {
-    let (mut answers, mut faults) = (Tally::default(), Tally::default());
-    let mut count = 0u64;
-    let mut out = vec![0; 1 << 22];
-    tables::all(seed, scale, &mut |made| {
-        count += 1;
-        let printed = second::print::print(&made.nodes, &made.rules, &made.store, &mut out);
-        let number = printed.as_ref().err().map_or(0, |refusal| refusal.number);
-        let Ok(length) = printed else {
-            return answers.add(format!("ours {number}"), b"");
-        };
-        let text = &out[..length];
-        let rust = oracle::print(&made.nodes, &made.rules, &made.store);
-        let rules = trees::rules(made);
-        if rust.as_bytes() == text {
-            answers.add("printed alike".to_string(), text);
-        } else if ascii(&rules) {
-            faults.add("PRINTED OTHERWISE".to_string(), text);
-        } else {
-            answers.add("other than ASCII: printed otherwise".to_string(), text);
-        }
-        back(rules, text, &mut answers, &mut faults);
-    });
-    println!("\ntables: {count}");
-    answers.print("printer, count, class, smallest text:");
-    faults.print("DIFFERENT (nothing below is good):");
-    faults.0.is_empty()
-}
-
-fn ascii(rules: &[trees::Rule]) -> bool {
-    fn tree_is(tree: &trees::Tree) -> bool {
-        let ends = tree.kind != 3 || tree.numbers[..2].iter().all(|n| *n < 128);
-        ends && tree.text.is_ascii() && tree.children.iter().all(tree_is)
-    }
-    rules.iter().all(|rule| tree_is(&rule.tree))
-}
-
-/// Reads a printed text again: it must be the tree, regrouped once.
-fn back(rules: Vec<trees::Rule>, text: &[u8], answers: &mut Tally, faults: &mut Tally) {
-    let zero = rules.iter().any(|rule| trees::has_zero(&rule.tree));
-    let literal = rules.iter().any(|rule| trees::has_push_literal(&rule.tree));
-    let regrouped: Vec<_> = rules
-        .into_iter()
-        .map(|rule| trees::Rule { tree: trees::regrouped(rule.tree), ..rule })
-        .collect();
-    match second::read::tables(text, true) {
-        Ok(read) if !zero && kept(read.clone()).without_spans() == trees::tables(&regrouped) => {
-            answers.add("back, tagged".to_string(), text);
-        }
-        Err(refusal) if refusal.number == 6 && zero => {
-            answers.add("back: a zero count is refused".to_string(), text);
-        }
-        Err(refusal)
-            if refusal.number == 9
-                || refusal.number == 1
-                || refusal.number == 4 && text.is_empty() =>
-        {
-            answers.add(format!("back: {}", refusal.number), text);
-        }
-        _ => faults.add("NOT BACK, tagged".to_string(), text),
-    }
-    let untagged: Vec<_> = regrouped
-        .into_iter()
-        .map(|rule| trees::Rule { tree: trees::untagged(rule.tree), ..rule })
-        .collect();
-    match second::read::tables(text, false) {
-        Ok(read)
-            if !zero
-                && !literal
-                && kept(read.clone()).without_spans() == trees::tables(&untagged) =>
-        {
-            answers.add("back, plain".to_string(), text);
-        }
-        Err(refusal) if matches!(refusal.number, 6 | 13) && (zero || literal) => {
-            answers.add("back, plain: a zero count or PUSH_LITERAL is refused".to_string(), text);
-        }
-        Err(refusal)
-            if refusal.number == 9
-                || refusal.number == 1
-                || refusal.number == 4 && text.is_empty() =>
-        {
-            answers.add(format!("back, plain: {}", refusal.number), text);
-        }
-        _ => faults.add("NOT BACK, plain".to_string(), text),
-    }
+    faults.is_empty()
 }
 
 /// Every character between both quotes: what prints alike, and what comes back.
@@ -443,71 +332,101 @@ fn compare_characters() -> bool {
     bad == 0
 }
 
+/// The parts that want the product's library.
 #[cfg(feature = "product")]
-fn compare_product(seed: u64, scale: usize) -> bool {
-    use compare::{product, Random};
-    let mut random = Random(seed);
-    let (mut reads, mut listed, mut prints) = (0u64, 0u64, 0u64);
-    let (mut texts_seen, mut tables_seen, mut differences) = (0u64, 0u64, 0u64);
-    let mut note = |result: Result<(), String>| {
-        if let Err(difference) = result {
-            differences += 1;
-            if differences <= 20 {
+mod linked {
+    use super::{texts, Source};
+    use compare::printing::Style;
+    use compare::{product, tables, Random};
+
+    pub use compare::matching::compare as matcher;
+
+    #[derive(Default)]
+    struct Differences(u64);
+
+    impl Differences {
+        fn note(&mut self, result: Result<(), String>) {
+            let Err(difference) = result else { return };
+            self.0 += 1;
+            if self.0 <= 20 {
                 println!("DIFFERENT: {difference}");
             }
         }
-    };
-    texts::all(seed, scale, &mut |source, text| {
-        texts_seen += 1;
-        let few = source == Source::Exhaustive && !random.one_in(8);
-        note(product::check_read(text, true, few, &mut reads));
-        note(product::check_read(text, false, few, &mut reads));
-        if text.len() < 12 {
-            for at in 0..text.len() + 2 {
-                note(product::check_next(text, at, &mut listed));
+    }
+
+    /// The reader and the lister.
+    pub fn reader(seed: u64, scale: usize) -> bool {
+        let mut random = Random(seed);
+        let (mut count, mut reads, mut listed) = (0u64, 0u64, 0u64);
+        let mut differences = Differences::default();
+        texts::all(seed, scale, &mut |source, text| {
+            count += 1;
+            let few = source == Source::Exhaustive && !random.one_in(8);
+            differences.note(product::check_read(text, true, few, &mut reads));
+            differences.note(product::check_read(text, false, few, &mut reads));
+            if text.len() < 12 {
+                for at in 0..text.len() + 2 {
+                    differences.note(product::check_next(text, at, &mut listed));
+                }
+            } else {
+                let at = random.below(text.len() + 3);
+                differences.note(product::check_next(text, at, &mut listed));
+                differences.note(product::check_next(text, usize::MAX, &mut listed));
             }
-        } else {
-            let at = random.below(text.len() + 3);
-            note(product::check_next(text, at, &mut listed));
-            note(product::check_next(text, usize::MAX, &mut listed));
-        }
-    });
-    tables::all(seed, scale, &mut |made| {
-        tables_seen += 1;
-        note(product::check_print(made, &mut prints));
-    });
-    println!("\nproduct and second program: {texts_seen} texts ({reads} readings, {listed} calls of the lister), {tables_seen} tables ({prints} printings), {differences} different");
-    differences == 0
+        });
+        println!("\nproduct and second program: {count} texts: {reads} readings, {listed} calls of the lister, {} different", differences.0);
+        differences.0 == 0
+    }
+
+    /// The printer, both its texts; and the reader over the short ones.
+    pub fn printer(seed: u64, scale: usize) -> bool {
+        let (mut count, mut trees, mut prints, mut reads) = (0u64, 0u64, 0u64, 0u64);
+        let mut differences = Differences::default();
+        tables::all(seed, scale, &mut |made| {
+            count += 1;
+            trees += made.rules.len() as u64 / 6;
+            for style in Style::BOTH {
+                differences.note(product::check_print(style, made, &mut prints));
+            }
+            differences.note(product::check_short(made, &mut reads));
+        });
+        println!("\nproduct and second program: {count} tables of {trees} trees: {prints} printings in full and short, {reads} readings of short texts and of these without a pair of brackets, {} different", differences.0);
+        differences.0 == 0
+    }
 }
 
 #[cfg(not(feature = "product"))]
-fn compare_product(_: u64, _: usize) -> bool {
-    println!("\nproduct: not linked (feature `product`)");
-    true
-}
+mod linked {
+    fn is_not(part: &str) -> bool {
+        println!("\n{part}: not linked (feature `product`)");
+        true
+    }
 
-#[cfg(feature = "product")]
-fn compare_matcher(seed: u64, scale: usize) -> bool {
-    compare::matching::compare(seed, scale)
-}
+    pub fn reader(_: u64, _: usize) -> bool {
+        is_not("reader")
+    }
 
-#[cfg(not(feature = "product"))]
-fn compare_matcher(_: u64, _: usize) -> bool {
-    println!("\nmatcher: not linked (feature `product`)");
-    true
+    pub fn printer(_: u64, _: usize) -> bool {
+        is_not("printer")
+    }
+
+    pub fn matcher(_: u64, _: usize) -> bool {
+        is_not("matcher")
+    }
 }
 
 fn main() {
     let (seed, scale) = (argument("--seed", 1), argument("--scale", 100) as usize);
     println!("seed {seed}, scale {scale} of 100");
     quiet_panics();
-    let parts: [(&str, usize, Box<dyn Fn() -> bool + Send + Sync>); 5] = [
+    let parts: [(&str, usize, Box<dyn Fn() -> bool + Send + Sync>); 6] = [
         ("texts", 4 << 30, Box::new(move || compare_texts(seed, scale))),
-        ("tables", 1 << 30, Box::new(move || compare_tables(seed, scale))),
+        ("tables", 1 << 30, Box::new(move || printing::compare(seed, scale))),
         ("characters", 8 << 20, Box::new(compare_characters)),
         // The product gets the stack that a program has.
-        ("product", 8 << 20, Box::new(move || compare_product(seed, scale))),
-        ("matcher", 8 << 20, Box::new(move || compare_matcher(seed, scale))),
+        ("reader", 8 << 20, Box::new(move || linked::reader(seed, scale))),
+        ("printer", 8 << 20, Box::new(move || linked::printer(seed, scale))),
+        ("matcher", 8 << 20, Box::new(move || linked::matcher(seed, scale))),
     ];
     let mut good = true;
     let only = std::env::args().skip_while(|a| a != "--only").nth(1);

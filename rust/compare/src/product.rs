@@ -1,7 +1,8 @@
 //! The product's compiled library, through its C interface, in buffers with canaries.
 
+use crate::printing::{is_small, without_pairs, Style};
 use crate::shown;
-use flascjuvan::raw::next_token;
+use flascjuvan::raw::{next_token, print_short};
 use oracle::Tables;
 use second::read::Used;
 use second::{read, Refusal};
@@ -139,34 +140,51 @@ pub fn check_next(text: &[u8], at: usize, calls: &mut u64) -> Result<(), Differe
     Ok(())
 }
 
-/// Printed texts longer than this aren't asked for.
-const LONG: usize = 1 << 23;
-
-/// The printer, with exact room, one short, ample and none.
-pub fn check_print(tables: &Tables, calls: &mut u64) -> Result<(), Difference> {
+/// The printer of a style, with exact room, one short, ample and none.
+pub fn check_print(style: Style, tables: &Tables, calls: &mut u64) -> Result<(), Difference> {
+    let print = match style {
+        Style::Full => print_into,
+        Style::Short => print_short,
+    };
     let (nodes, rules, store) = (&tables.nodes[..], &tables.rules[..], &tables.store[..]);
-    let mut text = vec![0; LONG];
-    let printed = second::print::print(nodes, rules, store, &mut text);
+    let printed = style.print(tables);
     let mut rooms = vec![0, 40];
-    if let Ok(length) = printed {
+    if let Ok(text) = &printed {
+        let length = text.len();
         rooms = vec![length, length + 1, length + 50, length / 2, length.saturating_sub(1), 0];
     }
     for room in rooms {
         let mut out = Lent::new(room, BYTE);
-        let answer = print_into(nodes, rules, store, out.lent());
+        let answer = print(nodes, rules, store, out.lent());
         *calls += 1;
-        let wanted = match printed {
-            Ok(length) if length <= room => Ok(length),
+        let wanted = match &printed {
+            Ok(text) if text.len() <= room => Ok(text),
             Ok(_) => Err(Refusal { number: 23, place: 0 }),
-            Err(refusal) => Err(refusal),
+            Err(refusal) => Err(*refusal),
         };
         let good = match wanted {
-            Ok(length) => answer == [0, 0, length as u64] && out.holds(&text[..length], BYTE),
+            Ok(text) => answer == [0, 0, text.len() as u64] && out.holds(text, BYTE),
             Err(refusal) => answer == [refusal.number, refusal.place, 0] && out.holds(&[], BYTE),
         };
         if !good {
-            return Err(format!("print, room {room}: {answer:?} for {wanted:?}: {tables:?}"));
+            let wanted = wanted.map(|text| shown(text));
+            return Err(format!("{style:?}, room {room}: {answer:?} for {wanted:?}: {tables:?}"));
         }
+    }
+    Ok(())
+}
+
+/// The reader over the short text of tables, at both levels; of a small tree over that text without
+/// each pair of its brackets too.
+pub fn check_short(tables: &Tables, calls: &mut u64) -> Result<(), Difference> {
+    let Ok(text) = Style::Short.print(tables) else { return Ok(()) };
+    check_read(&text, true, true, calls)?;
+    check_read(&text, false, true, calls)?;
+    if !is_small(tables) {
+        return Ok(());
+    }
+    for less in without_pairs(&text) {
+        check_read(&less, true, true, calls)?;
     }
     Ok(())
 }

@@ -1,7 +1,8 @@
-//! Tables: random good ones, with store parts shared; false ones; and those at the limits.
+//! Tables: random good ones, with store parts shared; false ones; those at the limits; small trees.
 
 use oracle::Tables;
 
+use crate::trees::{self, Rule, Tree};
 use crate::Random;
 
 const WORDS: [&str; 9] = ["a", "b", "_", "foo_1", "PEEK", "ANY", "pUSH", "Z9", "PUS"];
@@ -290,14 +291,89 @@ pub fn limits() -> Vec<Tables> {
     made
 }
 
+/// A node over children, with numbers and a text that its kind can have. Brackets stand in literals.
+fn node(kind: u32, children: Vec<Tree>) -> Tree {
+    let (numbers, text) = match kind {
+        1 | 18 => ([0; 3], "("),
+        2 => ([0; 3], ")"),
+        3 => (['('.into(), ')'.into(), 0], ""),
+        4 => ([0; 3], "a"),
+        5 => ([u32::MAX, 1, 2], ""),
+        13..=15 => ([2, 0, 0], ""),
+        16 => ([2, 3, 0], ""),
+        19 => ([0; 3], "PUSH"),
+        _ => ([0; 3], ""),
+    };
+    Tree { kind, numbers, text: text.into(), children }
+}
+
+const LEAVES: [u32; 6] = [1, 2, 3, 4, 5, 18];
+const LONE: [u32; 11] = [6, 7, 10, 11, 12, 13, 14, 15, 16, 17, 19];
+const JOINS: [u32; 2] = [8, 9];
+
+/// A rule of a tree.
+fn ruled(tree: &Tree) -> Tables {
+    trees::tables(&[Rule { name: b"r".to_vec(), mark: 0, tree: tree.clone() }])
+}
+
+/// Every tree of up to five nodes of all kinds, a rule for each.
+pub fn small(f: &mut dyn FnMut(&Tables)) {
+    const MOST: usize = 5;
+    let mut by_size: Vec<Vec<Tree>> = vec![vec![]];
+    for size in 1..=MOST {
+        let mut made = Vec::new();
+        let mut put = |kind, children| {
+            let tree = node(kind, children);
+            f(&ruled(&tree));
+            // The largest are under nothing.
+            if size < MOST {
+                made.push(tree);
+            }
+        };
+        if size == 1 {
+            LEAVES.iter().for_each(|kind| put(*kind, vec![]));
+        }
+        for child in &by_size[size - 1] {
+            LONE.iter().for_each(|kind| put(*kind, vec![child.clone()]));
+        }
+        for left in 1..size.saturating_sub(1) {
+            for (left, right) in both(&by_size[left], &by_size[size - 1 - left]) {
+                JOINS.iter().for_each(|kind| put(*kind, vec![left.clone(), right.clone()]));
+            }
+        }
+        by_size.push(made);
+    }
+}
+
+fn both<'a>(left: &'a [Tree], right: &'a [Tree]) -> impl Iterator<Item = (&'a Tree, &'a Tree)> {
+    left.iter().flat_map(move |left| right.iter().map(move |right| (left, right)))
+}
+
+/// Every kind of node over names in every place: under a rule, and as a child of every kind.
+pub fn places() -> Vec<Tables> {
+    let a = || node(4, vec![]);
+    let leaves = LEAVES.map(|kind| node(kind, vec![]));
+    let lone = LONE.map(|kind| node(kind, vec![a()]));
+    let joins = JOINS.map(|kind| node(kind, vec![a(), a()]));
+    let mut made = Vec::new();
+    for tree in leaves.iter().chain(&lone).chain(&joins) {
+        made.push(ruled(tree));
+        made.extend(LONE.map(|kind| ruled(&node(kind, vec![tree.clone()]))));
+        made.extend(JOINS.map(|kind| ruled(&node(kind, vec![tree.clone(), a()]))));
+        made.extend(JOINS.map(|kind| ruled(&node(kind, vec![a(), tree.clone()]))));
+    }
+    made
+}
+
 /// Every table of a run, in order. `scale` is in hundredths of the full run.
 pub fn all(seed: u64, scale: usize, f: &mut dyn FnMut(&Tables)) {
     for tables in limits() {
         f(&tables);
     }
+    small(f);
     let mut random = Random(seed ^ 0x7ab1e5);
     let mut grower = Grower::new(Random(seed ^ 0x6e0de5));
-    for _ in 0..900 * scale {
+    for _ in 0..3_000 * scale {
         grower.wide = random.one_in(3);
         let rules = random.of(&[1, 1, 1, 2, 3, 5]);
         let size = random.of(&[1, 2, 3, 5, 8, 13, 20, 40]);

@@ -1,6 +1,7 @@
 //! A second reader, printer, token lister and line matcher, written from docs' rules alone and
 //! with nothing of the product's or of pest's: what it answers can be held beside both.
 
+pub mod brackets;
 pub mod matching;
 pub mod print;
 pub mod read;

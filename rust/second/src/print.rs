@@ -1,15 +1,63 @@
-//! The printer: 20, 21, 22, 23, then the text. Nothing recurses.
+//! The printer: 20, 21, 22, 23, then the text, in full or short. Nothing recurses.
 
 use crate::{is_word, refuse, Refusal, BYTES, NODES, RECORD, RULES};
 
 /// Prints into a lent buffer, and answers the bytes written. A refusal writes nothing.
 pub fn print(nodes: &[u32], rules: &[u32], store: &[u8], out: &mut [u8]) -> Result<usize, Refusal> {
+    put(nodes, rules, store, in_full, out)
+}
+
+/// As `print`, but the short text: left-grouped chains are flat, and the only round brackets are
+/// those without which another tree would be read.
+pub fn print_short(
+    nodes: &[u32],
+    rules: &[u32],
+    store: &[u8],
+    out: &mut [u8],
+) -> Result<usize, Refusal> {
+    put(nodes, rules, store, in_short, out)
+}
+
+/// Whether a node of a kind stands in round brackets: under a node of kind `over`, or under a
+/// rule, which is 0; and as a right child or not. The two texts differ in nothing else.
+type Brackets = fn(over: u32, kind: u32, right: bool) -> bool;
+
+/// A Seq or Choice that is a right child of its own kind goes on with the chain.
+fn in_full(over: u32, kind: u32, right: bool) -> bool {
+    match kind {
+        3 | 19 => true,
+        6 | 7 => matches!(over, 10..=16),
+        8 | 9 => !(right && kind == over),
+        _ => false,
+    }
+}
+
+/// A Seq or Choice that is a left child of its own kind goes on with the chain. Under a rule and
+/// in PUSH nothing needs brackets, and a range never does.
+fn in_short(over: u32, kind: u32, right: bool) -> bool {
+    match over {
+        10..=16 => matches!(kind, 6..=9 | 19),
+        6 | 7 | 19 => matches!(kind, 8 | 9 | 19),
+        8 => kind == 9 || (kind == 8 && right),
+        9 => kind == 9 && right,
+        _ => false,
+    }
+}
+
+fn put(
+    nodes: &[u32],
+    rules: &[u32],
+    store: &[u8],
+    brackets: Brackets,
+    out: &mut [u8],
+) -> Result<usize, Refusal> {
     check(nodes, rules, store)?;
-    let length = measure(nodes, rules, store, out.len() as u64);
+    let good = Good { nodes, store, brackets };
+    let length = measure(&good, rules, out.len() as u64);
     if length > out.len() as u64 {
         return refuse(23, 0);
     }
-    let text = write(nodes, rules, store, length as usize);
+    let text = write(&good, rules, length as usize);
     assert_eq!(text.len() as u64, length, "measured and written");
     out[..text.len()].copy_from_slice(&text);
     Ok(text.len())
@@ -129,10 +177,11 @@ fn literal_length(text: &str, quote: char) -> u64 {
     2 + text.chars().map(|c| character_length(c, quote)).sum::<u64>()
 }
 
-/// A table that `check` has let through.
+/// A table that `check` has let through, and the brackets to print it with.
 struct Good<'a> {
     nodes: &'a [u32],
     store: &'a [u8],
+    brackets: Brackets,
 }
 
 impl<'a> Good<'a> {
@@ -144,6 +193,10 @@ impl<'a> Good<'a> {
     fn text(&self, offset: u32, length: u32) -> &'a str {
         let bytes = part(self.store, offset, length).expect("a part that lies inside");
         std::str::from_utf8(bytes).expect("UTF-8")
+    }
+
+    fn bracketed(&self, over: u32, index: u32, right: bool) -> bool {
+        (self.brackets)(over, self.node(index)[0], right)
     }
 
     /// What stands behind the operand of a postfix.
@@ -175,34 +228,30 @@ fn scalar(number: u32) -> char {
 }
 
 /// The length of the printed text; or some number above `most`, as soon as it is known to be.
-fn measure(nodes: &[u32], rules: &[u32], store: &[u8], most: u64) -> u64 {
-    let good = Good { nodes, store };
+fn measure(good: &Good<'_>, rules: &[u32], most: u64) -> u64 {
     // Every leaf is printed, so their lengths together are a lower bound.
     let mut leaves = 0;
-    let mut whole: Vec<u64> = Vec::new();
-    for (i, node) in nodes.chunks_exact(RECORD).enumerate() {
+    // Each node's length, without the brackets that it stands in.
+    let mut lengths: Vec<u64> = Vec::new();
+    let inside = |lengths: &[u64], over, index: u32, right| {
+        lengths[index as usize] + if good.bracketed(over, index, right) { 2 } else { 0 }
+    };
+    for node in good.nodes.chunks_exact(RECORD) {
         let node: [u32; RECORD] = node.try_into().expect("a whole record");
         let (p, q, r) = (node[3], node[4], node[5]);
-        let child = || whole[i - 1];
+        let child = |index, right| inside(&lengths, node[0], index, right);
         let length = match node[0] {
             1 => literal_length(good.text(p, q), '"'),
             2 => 1 + literal_length(good.text(p, q), '"'),
-            3 => 8 + [p, q].map(|n| character_length(scalar(n), '\'')).iter().sum::<u64>(),
+            3 => 6 + [p, q].map(|n| character_length(scalar(n), '\'')).iter().sum::<u64>(),
             4 => u64::from(q),
             5 => good.peek(node).len() as u64,
-            6 | 7 => 1 + child(),
-            8 | 9 => {
-                // A right child of the same kind leaves its brackets out.
-                let inside = if good.node(q)[0] == node[0] { child() - 2 } else { child() };
-                whole[p as usize] + 5 + inside
-            }
-            10..=16 => {
-                let brackets = if matches!(good.node(p)[0], 6 | 7) { 2 } else { 0 };
-                child() + brackets + good.postfix(node).len() as u64
-            }
-            17 => 6 + child(),
+            6 | 7 => 1 + child(p, false),
+            8 | 9 => child(p, false) + 3 + child(q, true),
+            10..=16 => child(p, false) + good.postfix(node).len() as u64,
+            17 => 6 + child(p, false),
             18 => 14 + literal_length(good.text(p, q), '"'),
-            _ => 6 + u64::from(r) + child(),
+            _ => 4 + u64::from(r) + child(p, false),
         };
         if matches!(node[0], 1..=5 | 18) {
             leaves += length;
@@ -210,11 +259,11 @@ fn measure(nodes: &[u32], rules: &[u32], store: &[u8], most: u64) -> u64 {
                 return leaves;
             }
         }
-        whole.push(length);
+        lengths.push(length);
     }
     let line = |rule: &[u32]| {
         let mark = if rule[2] == 0 { 0 } else { 1 };
-        u64::from(rule[1]) + 3 + mark + 2 + whole[rule[3] as usize] + 3
+        u64::from(rule[1]) + 3 + mark + 2 + inside(&lengths, 0, rule[3], false) + 3
     };
     rules.chunks_exact(RECORD).map(line).sum()
 }
@@ -222,32 +271,31 @@ fn measure(nodes: &[u32], rules: &[u32], store: &[u8], most: u64) -> u64 {
 /// What is still to be written, the next at the end.
 enum Left {
     Node(u32),
-    /// A node's chain, without its brackets.
-    Chain(u32),
     Bytes(&'static str),
     Text(String),
 }
 
-fn write(nodes: &[u32], rules: &[u32], store: &[u8], length: usize) -> Vec<u8> {
-    let good = Good { nodes, store };
+/// A node that is still to be written, in its brackets.
+fn leave(good: &Good<'_>, over: u32, index: u32, right: bool, left: &mut Vec<Left>) {
+    if good.bracketed(over, index, right) {
+        left.extend([Left::Bytes(")"), Left::Node(index), Left::Bytes("(")]);
+    } else {
+        left.push(Left::Node(index));
+    }
+}
+
+fn write(good: &Good<'_>, rules: &[u32], length: usize) -> Vec<u8> {
     let mut out = Vec::with_capacity(length);
     for rule in rules.chunks_exact(RECORD) {
         out.extend_from_slice(good.text(rule[0], rule[1]).as_bytes());
         out.extend_from_slice(b" = ");
         out.extend_from_slice(["", "_", "@", "$", "!"][rule[2] as usize].as_bytes());
         out.extend_from_slice(b"{ ");
-        let mut left = vec![Left::Node(rule[3])];
+        let mut left = Vec::new();
+        leave(good, 0, rule[3], false, &mut left);
         while let Some(next) = left.pop() {
             match next {
-                Left::Node(index) => node(&good, index, &mut left, &mut out),
-                Left::Chain(index) => {
-                    let node = good.node(index);
-                    let (p, q) = (node[3], node[4]);
-                    let same = good.node(q)[0] == node[0];
-                    left.push(if same { Left::Chain(q) } else { Left::Node(q) });
-                    left.push(Left::Bytes(if node[0] == 8 { " ~ " } else { " | " }));
-                    left.push(Left::Node(p));
-                }
+                Left::Node(index) => node(good, index, &mut left, &mut out),
                 Left::Bytes(text) => out.extend_from_slice(text.as_bytes()),
                 Left::Text(text) => out.extend_from_slice(text.as_bytes()),
             }
@@ -257,45 +305,40 @@ fn write(nodes: &[u32], rules: &[u32], store: &[u8], length: usize) -> Vec<u8> {
     out
 }
 
+/// Writes a node without the brackets that it stands in, its children being left.
 fn node(good: &Good<'_>, index: u32, left: &mut Vec<Left>, out: &mut Vec<u8>) {
     let node = good.node(index);
-    let (p, q, r) = (node[3], node[4], node[5]);
-    match node[0] {
+    let (kind, p, q, r) = (node[0], node[3], node[4], node[5]);
+    match kind {
         1 => literal(good.text(p, q), '"', out),
         2 => {
             out.push(b'^');
             literal(good.text(p, q), '"', out);
         }
         3 => {
-            out.push(b'(');
             literal(&scalar(p).to_string(), '\'', out);
             out.extend_from_slice(b"..");
             literal(&scalar(q).to_string(), '\'', out);
-            out.push(b')');
         }
         4 => out.extend_from_slice(good.text(p, q).as_bytes()),
         5 => out.extend_from_slice(good.peek(node).as_bytes()),
         6 | 7 => {
-            out.push(if node[0] == 6 { b'&' } else { b'!' });
-            left.push(Left::Node(p));
+            out.push(if kind == 6 { b'&' } else { b'!' });
+            leave(good, kind, p, false, left);
         }
         8 | 9 => {
-            out.push(b'(');
-            left.push(Left::Bytes(")"));
-            left.push(Left::Chain(index));
+            leave(good, kind, q, true, left);
+            left.push(Left::Bytes(if kind == 8 { " ~ " } else { " | " }));
+            leave(good, kind, p, false, left);
         }
         10..=16 => {
             left.push(Left::Text(good.postfix(node)));
-            if matches!(good.node(p)[0], 6 | 7) {
-                out.push(b'(');
-                left.push(Left::Bytes(")"));
-            }
-            left.push(Left::Node(p));
+            leave(good, kind, p, false, left);
         }
         17 => {
             out.extend_from_slice(b"PUSH(");
             left.push(Left::Bytes(")"));
-            left.push(Left::Node(p));
+            leave(good, kind, p, false, left);
         }
         18 => {
             out.extend_from_slice(b"PUSH_LITERAL(");
@@ -303,11 +346,10 @@ fn node(good: &Good<'_>, index: u32, left: &mut Vec<Left>, out: &mut Vec<u8>) {
             out.push(b')');
         }
         _ => {
-            out.extend_from_slice(b"(#");
+            out.push(b'#');
             out.extend_from_slice(good.text(q, r).as_bytes());
             out.extend_from_slice(b" = ");
-            left.push(Left::Bytes(")"));
-            left.push(Left::Node(p));
+            leave(good, kind, p, false, left);
         }
     }
 }

@@ -1,46 +1,42 @@
 //! Reads the grammars named on the command line at both levels, prints them, and reads what was printed: by the
 //! Rust (2.5.2 and the given files), by the second program and (feature `product`) by the product.
 
-use compare::{on_stack, quiet_panics, trees};
+use compare::printing::Style;
+use compare::{on_stack, quiet_panics, second_reads, trees};
 use oracle::{Answer, Tables};
 
-fn tables(text: &str, tagged: bool) -> Result<Tables, second::Refusal> {
-    let made = second::read::tables(text.as_bytes(), tagged)?;
-    Ok(Tables { nodes: made.nodes, rules: made.rules, store: made.store })
-}
-
-/// The printed text of a level's tables, and whether they come back as they were: if not, regrouped.
-fn round(made: &Tables, tagged: bool) -> Result<(String, bool), String> {
-    let mut out = vec![0; 1 << 20];
-    let length = second::print::print(&made.nodes, &made.rules, &made.store, &mut out)
-        .map_err(|e| format!("not printed: {} at {}", e.number, e.place))?;
-    let printed = std::str::from_utf8(&out[..length]).expect("UTF-8");
-    let regrouped: Vec<_> = trees::rules(made)
-        .into_iter()
-        .map(|rule| trees::Rule { tree: trees::regrouped(rule.tree), ..rule })
-        .collect();
-    let regrouped = trees::tables(&regrouped);
-    let back = tables(printed, tagged).map_err(|e| format!("back: {} at {}", e.number, e.place))?;
-    if back.without_spans() != regrouped {
-        return Err("it doesn't come back".to_string());
+/// A style's text of a level's tables, and whether they come back as they were: if not, as the
+/// style regroups them.
+fn round(style: Style, made: &Tables, tagged: bool) -> Result<(Vec<u8>, bool), String> {
+    let printed =
+        style.print(made).map_err(|e| format!("not printed: {} at {}", e.number, e.place))?;
+    let rules = trees::rules(made);
+    let (same, seen) = (trees::tables(&rules), trees::tables(&style.seen(rules)));
+    let back =
+        second_reads(&printed, tagged).map_err(|e| format!("back: {} at {}", e.number, e.place))?;
+    if back.without_spans() != seen {
+        return Err(format!("{style:?}: it doesn't come back"));
     }
-    Ok((printed.to_string(), regrouped == trees::tables(&trees::rules(made))))
+    Ok((printed, seen == same))
 }
 
 /// Whether the product reads a text, prints its tables and reads what was printed as the second program
 /// does, in all rooms worth trying; how often it was called.
 #[cfg(feature = "product")]
-fn product(text: &str, made: &Tables, printed: &str, tagged: bool) -> Result<u64, String> {
+fn product(text: &str, made: &Tables, tagged: bool) -> Result<u64, String> {
     use compare::product::{check_print, check_read};
     let mut calls = 0;
     check_read(text.as_bytes(), tagged, false, &mut calls)?;
-    check_print(made, &mut calls)?;
-    check_read(printed.as_bytes(), tagged, false, &mut calls)?;
+    for style in Style::BOTH {
+        check_print(style, made, &mut calls)?;
+        let (printed, _) = round(style, made, tagged)?;
+        check_read(&printed, tagged, false, &mut calls)?;
+    }
     Ok(calls)
 }
 
 #[cfg(not(feature = "product"))]
-fn product(_: &str, _: &Tables, _: &str, _: bool) -> Result<u64, String> {
+fn product(_: &str, _: &Tables, _: bool) -> Result<u64, String> {
     Ok(0)
 }
 
@@ -48,8 +44,8 @@ fn product(_: &str, _: &Tables, _: &str, _: bool) -> Result<u64, String> {
 fn one(text: &str) -> Result<String, String> {
     let (mut words, mut calls) = (Vec::new(), 0);
     for (tagged, level) in [(true, "tagged"), (false, "plain")] {
-        let made =
-            tables(text, tagged).map_err(|e| format!("refused {} at {}", e.number, e.place))?;
+        let made = second_reads(text.as_bytes(), tagged)
+            .map_err(|e| format!("refused {} at {}", e.number, e.place))?;
         let Answer::Read(rules) = oracle::read(text, tagged) else {
             return Err("the given files refuse it".to_string());
         };
@@ -67,12 +63,14 @@ fn one(text: &str) -> Result<String, String> {
                 _ => "2.5.2 refuses it".to_string(),
             });
         }
-        let (printed, same) = round(&made, tagged)?;
+        let (full, same) = round(Style::Full, &made, tagged)?;
         let display = oracle::print(&made.nodes, &made.rules, &made.store);
-        let alike = if display == printed { "alike" } else { "otherwise" };
+        let alike = if display.as_bytes() == full { "alike" } else { "otherwise" };
         let back = if same { "back equal" } else { "back regrouped" };
-        words.push(format!("{level}: `Display` prints {alike}, {back}"));
-        calls += product(text, &made, &printed, tagged)?;
+        let (short, _) = round(Style::Short, &made, tagged)?;
+        let lengths = format!("{} bytes, short {}", full.len(), short.len());
+        words.push(format!("{level}: `Display` prints {alike}, {back}; {lengths}, back equal"));
+        calls += product(text, &made, tagged)?;
     }
     words.push(if calls == 0 {
         "the product isn't linked".to_string()

@@ -14,6 +14,7 @@
 //! - `l AT COUNT:HEX,..`: the same, of a long text.
 //! - `p ROOM NODES RULES STORE`: print tables of such numbers and such a store. Answer: number,
 //!   place, bytes; the text in hex.
+//! - `s ROOM NODES RULES STORE`: the same, of the short text.
 //! - `m ALLOWANCE START HEX NODES RULES STORE`: run the rule of that index over a line. Answer:
 //!   number, place, 1 for a match, its length, steps.
 //! - `r ALLOWANCE START HEX NODES RULES STORE ROOM`: run it over the lines of a text; the room in
@@ -30,7 +31,8 @@ use std::fs;
 use std::io::{BufWriter, Write};
 
 use compare::lines::{self, Liner, Maker};
-use compare::{argument, hex, on_stack, quiet_panics, tables, texts, Random};
+use compare::printing::Style;
+use compare::{argument, hex, on_stack, quiet_panics, second_reads, tables, texts, Random};
 use oracle::{Answer, Tables};
 use second::matching::{match_line, match_lines, record, Record};
 use second::read::Used;
@@ -95,6 +97,9 @@ const AMPLE: u64 = 4_000;
 const MOST: usize = 600;
 const RECORDS: usize = 120;
 
+/// The longest text that the program prints.
+const TEXT: usize = 1_200;
+
 /// Where the line after so many begins.
 fn past(text: &[u8], count: usize) -> usize {
     text.split_inclusive(|byte| *byte == b'\n').take(count).map(<[u8]>::len).sum()
@@ -134,15 +139,10 @@ impl Stored {
     }
 
     fn text(&mut self, text: &[u8], tagged: bool, rooms: &[(isize, isize, isize)]) {
-        let made = read::tables(text, tagged);
+        let made = second_reads(text, tagged);
         if let (Ok(made), Ok(text)) = (&made, std::str::from_utf8(text)) {
             if let Answer::Read(rules) = oracle::read(text, tagged) {
-                let same = Tables {
-                    nodes: made.nodes.clone(),
-                    rules: made.rules.clone(),
-                    store: made.store.clone(),
-                };
-                assert_eq!(same, Tables::of(&rules), "{text}");
+                assert_eq!(*made, Tables::of(&rules), "{text}");
                 self.also_rust += 1;
             } else {
                 panic!("the Rust refuses {text}");
@@ -206,18 +206,24 @@ impl Stored {
         self.put(format!("{form}, {number:>2}"), &format!("{form} {at} {shown}"), &answer);
     }
 
-    fn tables(&mut self, made: &Tables, more: isize) {
-        let (nodes, rules, store) = (&made.nodes[..], &made.rules[..], &made.store[..]);
-        let mut out = vec![0; 1 << 20];
-        let printed = second::print::print(nodes, rules, store, &mut out);
-        let room = (printed.map_or(16, |length| length as isize) + more).max(0) as usize;
+    /// A style's text, in so much more room than it needs.
+    fn tables(&mut self, style: Style, made: &Tables, more: isize) {
+        let printed = style.print(made);
+        let length = printed.as_ref().map_or(16, Vec::len);
+        let room = (length as isize + more).max(0) as usize;
+        assert!(fits(made, b"") && room <= TEXT, "more than the program has room for");
         let (number, answer) = match printed {
-            Ok(length) if length <= room => (0, format!("0 0 {length} {}", bytes(&out[..length]))),
+            Ok(text) if length <= room => (0, format!("0 0 {length} {}", bytes(&text))),
             Ok(_) => (23, "23 0 0".to_string()),
             Err(Refusal { number, place }) => (number, format!("{number} {place} 0")),
         };
-        let question = format!("p {room} {} {} {}", list(nodes), list(rules), bytes(store));
-        self.put(format!("p, {number:>2}"), &question, &answer);
+        let form = match style {
+            Style::Full => "p",
+            Style::Short => "s",
+        };
+        let Tables { nodes, rules, store } = made;
+        let question = format!("{form} {room} {} {} {}", list(nodes), list(rules), bytes(store));
+        self.put(format!("{form}, {number:>2}"), &question, &answer);
     }
 
     /// A line, and how many steps it took.
@@ -321,8 +327,7 @@ fn matcher(stored: &mut Stored, seed: u64, scale: usize) {
         (r#"r={"a"~s|"b"} s={r}"#, [255, 256]),
         (r#"r={!"b"~ANY~r|"b"}"#, [255, 256]),
     ] {
-        let read = read::tables(text.as_bytes(), true).expect(text);
-        let made = Tables { nodes: read.nodes, rules: read.rules, store: read.store };
+        let made = second_reads(text.as_bytes(), true).expect(text);
         for count in counts.into_iter().flat_map(|count| count - 2..=count + 2) {
             let line = "a".repeat(count) + "b";
             if let Some(steps) = stored.line(&made, 0, line.as_bytes(), 1_000_000) {
@@ -330,6 +335,24 @@ fn matcher(stored: &mut Stored, seed: u64, scale: usize) {
                 stored.line(&made, 0, line.as_bytes(), steps);
             }
         }
+    }
+}
+
+/// The short text: every kind of node in every place; grown tables, and false ones.
+fn short(stored: &mut Stored, seed: u64, scale: usize) {
+    let mut random = Random(seed ^ 5);
+    for made in tables::places() {
+        stored.tables(Style::Short, &made, 0);
+        if random.one_in(4) {
+            stored.tables(Style::Short, &made, random.of(&[1, -1, -1, -(TEXT as isize)]));
+        }
+    }
+    let mut grower = tables::Grower::new(Random(seed ^ 6));
+    for i in 0..2 * scale {
+        grower.wide = i % 3 == 0;
+        let made = grower.grow(i % 4, 1 + i % 11);
+        stored.tables(Style::Short, &made, random.of(&[0, 0, 9, -1]));
+        stored.tables(Style::Short, &tables::falsified(&mut random, &made), 0);
     }
 }
 
@@ -406,16 +429,17 @@ fn write(folder: &str, seed: u64, scale: usize) {
         grower.wide = i % 3 == 0;
         let made = grower.grow(i % 4, 1 + i % 12);
         let more = random.of(&[0, 0, 1, 9, -1, -5]);
-        stored.tables(&made, more);
-        stored.tables(&tables::falsified(&mut random, &made), 0);
+        stored.tables(Style::Full, &made, more);
+        stored.tables(Style::Full, &tables::falsified(&mut random, &made), 0);
     }
     for made in tables::limits() {
         if made.nodes.len() <= 60 && made.store.len() < 100 {
-            stored.tables(&made, 0);
-            stored.tables(&made, -1);
+            stored.tables(Style::Full, &made, 0);
+            stored.tables(Style::Full, &made, -1);
         }
     }
     matcher(&mut stored, seed, scale);
+    short(&mut stored, seed, scale);
     stored.end();
     println!("seed {seed}");
     for (class, count) in &stored.counts {
