@@ -1,6 +1,6 @@
 /* Flascjuvan: reading and printing of pest grammars, and running their rules over lines, for C and whatever calls C.
  *
- * Six functions over lent memory. None of them allocates, keeps anything between calls, reads or writes a file, or
+ * Seven functions over lent memory. None of them allocates, keeps anything between calls, reads or writes a file, or
  * fails to return; any number of threads may call them at once. Each is proved to answer every input as the rules say
  * (crates/exports/src/lib.rt has the promises). What no proof can see is this side of the call, so see to it that
  *
@@ -16,7 +16,7 @@
  * counts bytes of the text from 0; an index counts records. After any number but 0 every lent buffer but `answer` is as
  * it was, and every count in `answer` is 0. After 0 only what is reported as used has changed. If several faults are
  * there, the reader gives the first of this order: 1; 2; 3; 4 and 9, the leftmost; 5, 6, 7, 8 and 13, the leftmost; 12;
- * 10; 11. The printer gives the first of 20, 21, 22, 23; the functions that run rules the first of 30, 31, 32, 33, 34.
+ * 10; 11. The printers give the first of 20, 21, 22, 23; the functions that run rules the first of 30, 31, 32, 33, 34.
  *
  * examples/c has programs that use all of it.
  */
@@ -52,7 +52,7 @@ enum flascjuvan_refusal {
     FLASCJUVAN_REFUSED_RULES_ROOM = 12, /* more rules than 1,024, or than whole records lent; place 0 */
     FLASCJUVAN_REFUSED_NOT_PLAIN = 13,  /* plain reading only: PUSH_LITERAL; the word */
 
-    /* from flascjuvan_print alone */
+    /* from flascjuvan_print and flascjuvan_print_short */
     FLASCJUVAN_REFUSED_SHAPE = 20,       /* a table that isn't whole records or has too many (4,096 nodes, 1,024 rules),
                                             or a store over 65,536 bytes; place 0 */
     FLASCJUVAN_REFUSED_NODE = 21,        /* a node record that is false; its index */
@@ -62,7 +62,7 @@ enum flascjuvan_refusal {
 
     /* from flascjuvan_match and flascjuvan_match_lines; 30 and 32 from flascjuvan_rule_named too. 33 and 34 are those of
        a line: flascjuvan_match_lines gives them in its record */
-    FLASCJUVAN_REFUSED_FALSE_TABLES = 30,  /* tables that the printer would refuse by 20, 21 or 22; place 0 */
+    FLASCJUVAN_REFUSED_FALSE_TABLES = 30,  /* tables that a printer would refuse by 20, 21 or 22; place 0 */
     FLASCJUVAN_REFUSED_UNFIT = 31,         /* a node that can't be run, reached or not: PEEK[..], PUSH, PUSH_LITERAL, a
                                               tag, or a repeat whose least is above its most; the lowest such index */
     FLASCJUVAN_REFUSED_NO_RULE = 32,       /* no rule at the start's index, a name that is neither ANY nor a rule's, a
@@ -80,7 +80,7 @@ enum flascjuvan_answer {
     FLASCJUVAN_READ_NODES = 2, /* of flascjuvan_read: records */
     FLASCJUVAN_READ_RULES = 3, /* records */
     FLASCJUVAN_READ_STORE = 4, /* bytes */
-    FLASCJUVAN_PRINT_USED = 2, /* of flascjuvan_print: bytes */
+    FLASCJUVAN_PRINT_USED = 2, /* of flascjuvan_print and flascjuvan_print_short: bytes */
     FLASCJUVAN_NEXT_KIND = 2,  /* of flascjuvan_next_token: a number of enum flascjuvan_token */
     FLASCJUVAN_NEXT_START = 3,
     FLASCJUVAN_NEXT_END = 4,
@@ -222,8 +222,10 @@ void flascjuvan_read(const uint8_t *text, size_t text_len, uint32_t tagged,
                      uint8_t *store, size_t store_len,
                      uint64_t answer[5]);
 
-/* Prints tables, a rule to a line. Lend exactly the tables: after a reading, 6 times its nodes, 6 times its rules, and
- * its store bytes.
+/* Prints tables, a rule to a line, every bracket shown. Lend exactly the tables: after a reading, 6 times its nodes, 6
+ * times its rules, and its store bytes.
+ *
+ * Read again, a chain that was grouped to the right comes back grouped to the left: a ~ (b ~ c) prints as (a ~ b ~ c).
  *
  * answer: number, place, bytes printed. */
 void flascjuvan_print(const uint32_t *nodes, size_t nodes_len,
@@ -231,6 +233,20 @@ void flascjuvan_print(const uint32_t *nodes, size_t nodes_len,
                       const uint8_t *store, size_t store_len,
                       uint8_t *out, size_t out_len,
                       uint64_t answer[3]);
+
+/* Prints tables as flascjuvan_print does, but with the fewest brackets that keep the trees: (a ~ b) ~ c prints as
+ * a ~ b ~ c, and a ~ (b ~ c) as it stands. So either text can be the longer one; 23 goes by the one that is asked for.
+ * Everything else is alike: what is lent, the numbers and their order, the stack.
+ *
+ * Read again, tagged, it gives the very same trees. Not read are a text of over 65,536 bytes or with over 1,024 brackets
+ * open at once, the empty text of no rules, and a zero count or maximum, which no reading makes.
+ *
+ * answer: number, place, bytes printed. */
+void flascjuvan_print_short(const uint32_t *nodes, size_t nodes_len,
+                            const uint32_t *rules, size_t rules_len,
+                            const uint8_t *store, size_t store_len,
+                            uint8_t *out, size_t out_len,
+                            uint64_t answer[3]);
 
 /* The next token of a text from the place `at` on, past blanks and comments. `at` may be any number.
  *

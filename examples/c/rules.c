@@ -1,7 +1,8 @@
 /* rules: a layout printed back, with a note above each rule: where it stood, how deep its tree is, which rules it uses.
  *
  *     cc $(pkg-config --cflags flascjuvan) rules.c $(pkg-config --libs flascjuvan) -o rules
- *     ./rules layouts/pan.pest        or standard input, if no file is named
+ *     ./rules layouts/pan.pest             or standard input, if no file is named
+ *     ./rules --short layouts/pan.pest     with the fewest brackets
  *
  * Exit status: 0 printed; 1 refused, with one line on standard error; 2 anything else that went wrong.
  * It shows the functions of flascjuvan.h that read, print and list tokens, in C that is C++ too. */
@@ -170,9 +171,13 @@ static void show(size_t rule_count, const uint8_t *printed)
     }
 }
 
+/* flascjuvan_print or flascjuvan_print_short: they are called alike. */
+typedef void printer(const uint32_t *, size_t, const uint32_t *, size_t, const uint8_t *, size_t, uint8_t *, size_t,
+                     uint64_t *);
+
 /* Prints the tables to memory of its own; NULL if there is none. A table doesn't tell how long its text will be, so
  * more is lent until it fits. A refusal changes nothing, so asking again is safe. */
-static uint8_t *print(size_t node_count, size_t rule_count, size_t store_bytes, uint64_t *answer)
+static uint8_t *print(printer *by, size_t node_count, size_t rule_count, size_t store_bytes, uint64_t *answer)
 {
     size_t room;
     for (room = PRINTED_AT_FIRST; room != 0; room *= 2) {
@@ -180,8 +185,8 @@ static uint8_t *print(size_t node_count, size_t rule_count, size_t store_bytes, 
         if (out == NULL) {
             return NULL;
         }
-        flascjuvan_print(nodes, node_count * FLASCJUVAN_RECORD, rules, rule_count * FLASCJUVAN_RECORD, store,
-                         store_bytes, out, room, answer);
+        by(nodes, node_count * FLASCJUVAN_RECORD, rules, rule_count * FLASCJUVAN_RECORD, store, store_bytes, out, room,
+           answer);
         if (answer[FLASCJUVAN_ANSWER_NUMBER] != FLASCJUVAN_REFUSED_OUTPUT_ROOM) {
             return out;
         }
@@ -190,7 +195,7 @@ static uint8_t *print(size_t node_count, size_t rule_count, size_t store_bytes, 
     return NULL;
 }
 
-static int read_and_show(const char *file, size_t length)
+static int read_and_show(const char *file, size_t length, printer *by)
 {
     uint64_t was_read[5], was_printed[3];
     size_t node_count, rule_count;
@@ -201,7 +206,7 @@ static int read_and_show(const char *file, size_t length)
     }
     node_count = (size_t)was_read[FLASCJUVAN_READ_NODES];
     rule_count = (size_t)was_read[FLASCJUVAN_READ_RULES];
-    printed = print(node_count, rule_count, (size_t)was_read[FLASCJUVAN_READ_STORE], was_printed);
+    printed = print(by, node_count, rule_count, (size_t)was_read[FLASCJUVAN_READ_STORE], was_printed);
     if (printed == NULL) {
         return fail("there is no memory for the printed text");
     }
@@ -238,10 +243,11 @@ static int read_file(const char *file, size_t *length)
 
 int main(int argc, char **argv)
 {
-    const char *file = argc == 2 ? argv[1] : "-";
+    int brief = argc > 1 && strcmp(argv[1], "--short") == 0;
+    const char *file = argc > 1 + brief ? argv[1 + brief] : "-";
     size_t length;
-    if (argc > 2) {
-        return fail("usage: rules [FILE]");
+    if (argc > 2 + brief) {
+        return fail("usage: rules [--short] [FILE]");
     }
     if (!stack_is_enough()) {
         return fail("the stack is less than 3 MB");
@@ -250,5 +256,5 @@ int main(int argc, char **argv)
         perror(file);
         return FAILED;
     }
-    return read_and_show(file, length);
+    return read_and_show(file, length, brief ? flascjuvan_print_short : flascjuvan_print);
 }

@@ -4,14 +4,15 @@ use std::fmt;
 use std::hash::{Hash, Hasher};
 use std::iter::FusedIterator;
 
+use crate::grammar::{printer_of, Printer};
 use crate::picture::{self, Opened, Under};
 use crate::shape::{fold, shapes, step_down, Shape};
-use crate::{print, Grammar, Refusal};
+use crate::{Grammar, Refusal};
 
 /// A rule: `name = mark{ expr }`. The type is pest's.
 ///
-/// As text ([`Display`](fmt::Display)) it is what the printer writes, without the line's end, or if that refuses the
-/// rule, what [`Grammar`] shows then. `{:#?}` draws it, a line to each node.
+/// As text ([`Display`](fmt::Display)) it is what the printer writes, without the line's end, by `{:#}` with the fewest
+/// brackets; or if that refuses the rule, what [`Grammar`] shows then. `{:#?}` draws it, a line to each node.
 ///
 /// ```
 /// use flascjuvan::{Expr, Rule, RuleType};
@@ -62,8 +63,9 @@ impl RuleType {
 /// An expression. The type is pest's, but for two things: a range holds characters and not strings, and there is no
 /// `Skip`, which no text spells.
 ///
-/// As text ([`Display`](fmt::Display)) it is what the printer writes, or if that refuses it, what [`Grammar`] shows
-/// then. `{:?}` names every node, and writes strings as the grammar does; `{:#?}` draws the tree, a line to each node.
+/// As text ([`Display`](fmt::Display)) it is what the printer writes, by `{:#}` with the fewest brackets; or if that
+/// refuses it, what [`Grammar`] shows then. `{:?}` names every node, and writes strings as the grammar does; `{:#?}`
+/// draws the tree, a line to each node.
 ///
 /// Nothing here goes down a tree by calling itself, so the depth of a tree takes no stack. What Rust does to drop one
 /// does: 115 bytes for each level were seen in a debug build on 64-bit ARM, so 460 KB for
@@ -76,6 +78,7 @@ impl RuleType {
 /// let grammar: Grammar = "r = { a ~ (\"x\" | b)* }".parse()?;
 /// let expr = grammar.rules().remove(0).expr;
 /// assert_eq!(expr.to_string(), r#"(a ~ ("x" | b)*)"#);
+/// assert_eq!(format!("{expr:#}"), r#"a ~ ("x" | b)*"#);
 /// assert_eq!(format!("{expr:?}"), r#"Seq(Ident("a"), Rep(Choice(Str("x"), Ident("b"))))"#);
 /// // what a node is made of can be moved out of it, as of any enum
 /// let first = match expr {
@@ -238,21 +241,21 @@ impl Hash for Expr {
     }
 }
 
-/// What the printer writes for an expression: it prints rules, so a rule is made and what stands around is cut off.
-pub(crate) fn printed(expr: &Expr) -> Result<String, Refusal> {
-    let line = print(&Grammar::of_body(expr))?;
+/// What a printer writes for an expression: it prints rules, so a rule is made and what stands around is cut off.
+pub(crate) fn printed_by(printer: Printer, expr: &Expr) -> Result<String, Refusal> {
+    let line = printer(&Grammar::of_body(expr))?;
     Ok(line["r = { ".len()..line.len() - " }\n".len()].to_owned())
 }
 
 impl fmt::Display for Expr {
     fn fmt(&self, f: &mut fmt::Formatter<'_>) -> fmt::Result {
-        f.pad(&printed(self).unwrap_or_else(picture::refused))
+        f.pad(&printed_by(printer_of(f), self).unwrap_or_else(picture::refused))
     }
 }
 
 impl fmt::Display for Rule {
     fn fmt(&self, f: &mut fmt::Formatter<'_>) -> fmt::Result {
-        let shown = Grammar::from(std::slice::from_ref(self)).to_string();
+        let shown = printer_of(f)(&Grammar::from(std::slice::from_ref(self))).unwrap_or_else(picture::refused);
         f.pad(shown.trim_end_matches('\n'))
     }
 }

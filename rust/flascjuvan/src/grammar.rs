@@ -5,7 +5,7 @@ use std::str::FromStr;
 
 use crate::picture::{self, Picture};
 use crate::shape::{fold, Shape};
-use crate::{print, read, Expr, Level, ParserExpr, ParserNode, ParserRule, Refusal, Rule, RuleType, Span};
+use crate::{print, print_short, read, Expr, Level, ParserExpr, ParserNode, ParserRule, Refusal, Rule, RuleType, Span};
 
 /// The numbers of a record.
 pub(crate) const RECORD: usize = 6;
@@ -14,17 +14,18 @@ pub(crate) const RECORD: usize = 6;
 ///
 /// It comes from [`read`], from [`parse`](str::parse) (which reads tagged) or from rules. Looked at, it is
 ///
-/// - its text by [`Display`](fmt::Display), as [`print`](fn@print) gives it. One that can't be printed, which only
-///   rules made by hand can be, shows why in the form `<refused 21 at 0: ...>`, which nothing reads as a grammar;
+/// - its text by [`Display`](fmt::Display), as [`print`](fn@print) gives it and, by `{:#}`, as [`print_short`] does.
+///   One that can't be printed, which only rules made by hand can be, shows why in the form `<refused 21 at 0: ...>`,
+///   which nothing reads as a grammar;
 /// - a picture of what belongs to what by [`picture`](Grammar::picture) and `{:#?}`;
 /// - all rules by name on one line, spans included, by `{:?}`.
 ///
 /// `==` compares spans too, [`same`](Grammar::same) doesn't.
 ///
-/// What was printed is read back as the [`same`](Grammar::same) rules, but that a chain to the right comes back grouped
-/// to the left: `a ~ (b ~ c)` prints as `(a ~ b ~ c)`, which reads as `(a ~ b) ~ c`. Not read back are a text of over
-/// 65,536 bytes or with over 1,024 brackets open at once, the empty text of a grammar without rules, and counts of 0
-/// that were put in by hand.
+/// What [`print_short`] printed is read back as the [`same`](Grammar::same) rules. So is what [`print`](fn@print)
+/// printed, but that a chain to the right comes back grouped to the left: `a ~ (b ~ c)` prints as `(a ~ b ~ c)`, which
+/// reads as `(a ~ b) ~ c`. Not read back, of both, are a text of over 65,536 bytes or with over 1,024 brackets open at
+/// once, the empty text of a grammar without rules, and counts of 0 that were put in by hand.
 ///
 /// ```
 /// use flascjuvan::Grammar;
@@ -32,6 +33,7 @@ pub(crate) const RECORD: usize = 6;
 /// let grammar: Grammar = "a = { b ~ c | \"x\"* }".parse()?;
 /// assert_eq!(grammar.to_string(), "a = { ((b ~ c) | \"x\"*) }\n");
 /// assert_eq!(grammar.rules()[0].to_string(), "a = { ((b ~ c) | \"x\"*) }");
+/// assert_eq!(format!("{grammar:#}"), "a = { b ~ c | \"x\"* }\n");
 /// # Ok::<(), flascjuvan::Refusal>(())
 /// ```
 #[derive(Clone, Default, Eq, Hash, PartialEq)]
@@ -40,6 +42,9 @@ pub struct Grammar {
     rules: Vec<u32>,
     store: Vec<u8>,
 }
+
+/// [`print`](fn@print) or [`print_short`].
+pub(crate) type Printer = fn(&Grammar) -> Result<String, Refusal>;
 
 /// A part of the store: offset and length.
 type Part = (u32, u32);
@@ -286,7 +291,7 @@ impl From<&[Rule]> for Grammar {
 
 impl fmt::Display for Grammar {
     fn fmt(&self, f: &mut fmt::Formatter<'_>) -> fmt::Result {
-        f.pad(&print(self).unwrap_or_else(picture::refused))
+        f.pad(&printer_of(f)(self).unwrap_or_else(picture::refused))
     }
 }
 
@@ -296,6 +301,15 @@ impl fmt::Debug for Grammar {
             return f.write_str(self.picture().to_string().trim_end_matches('\n'));
         }
         f.debug_tuple("Grammar").field(&self.parser_rules()).finish()
+    }
+}
+
+/// The printer that a format asks for: `{:#}` is the short text.
+pub(crate) fn printer_of(f: &fmt::Formatter<'_>) -> Printer {
+    if f.alternate() {
+        print_short
+    } else {
+        print
     }
 }
 

@@ -2,7 +2,8 @@
 //!
 //! The work is done by a library in Rattle, a language in which every function is proved to meet its contract. This
 //! crate is its safe face: [`read`] a text into a [`Grammar`], look at its [`Rule`]s as trees under pest's names, edit
-//! them, [`print`](fn@print) them back, run one [over lines](Grammar::match_lines).
+//! them, [`print`](fn@print) them back with every bracket or [with the fewest](print_short), run one
+//! [over lines](Grammar::match_lines).
 //!
 //! ```
 //! use flascjuvan::{Expr, Grammar, Reason};
@@ -21,9 +22,9 @@
 //!
 //! # Stack
 //!
-//! [`read`], [`print`](fn@print), [`tokens`] and matching run on the caller's stack, and so does whatever shows a grammar
-//! or a tree, since the printer writes it. Have 2 MB of stack free. Threads of these sizes were seen to be enough on 64-bit
-//! ARM:
+//! [`read`], [`print`](fn@print), [`print_short`], [`tokens`] and matching run on the caller's stack, and so does
+//! whatever shows a grammar or a tree, since the printer writes it. Have 2 MB of stack free. Threads of these sizes
+//! were seen to be enough on 64-bit ARM:
 //!
 //! | for | stack |
 //! |---|---|
@@ -136,7 +137,7 @@ pub fn read(text: impl AsRef<[u8]>, level: Level) -> Result<Grammar, Refusal> {
     Ok(Grammar::of(nodes, rules, store))
 }
 
-/// Prints a grammar, a rule to a line.
+/// Prints a grammar, a rule to a line, every bracket shown.
 ///
 /// What was read always prints. A grammar of rules that were made by hand may be refused: by 20 if it is too large, by
 /// 21 or 22 if a name or a tag in it is no word, or a name begins with PUSH.
@@ -152,10 +153,40 @@ pub fn read(text: impl AsRef<[u8]>, level: Level) -> Result<Grammar, Refusal> {
 /// assert_eq!((refusal.reason, refusal.place), (Reason::Rule, 1));
 /// ```
 pub fn print(grammar: &Grammar) -> Result<String, Refusal> {
+    printed_by(raw::print, grammar)
+}
+
+/// Prints a grammar, a rule to a line, with the fewest brackets that keep its trees. It refuses what
+/// [`print`](fn@print) refuses, by the same numbers, and wants as much stack.
+///
+/// The text is read back as the [`same`](Grammar::same) rules, within the limits that [`Grammar`] names, and no text
+/// that is read as these rules has fewer opening brackets. Chains grouped to the left are joined flat. One that is
+/// grouped to the right keeps its brackets: from four terms on it is longer here than [`print`](fn@print) has it.
+///
+/// ```
+/// use flascjuvan::{print, print_short, Grammar};
+///
+/// let to_the_left: Grammar = "a = { ((b ~ c) ~ d) | ('0'..'9')* }".parse()?;
+/// assert_eq!(print(&to_the_left)?, "a = { (((b ~ c) ~ d) | ('0'..'9')*) }\n");
+/// assert_eq!(print_short(&to_the_left)?, "a = { b ~ c ~ d | '0'..'9'* }\n");
+/// let to_the_right: Grammar = "a = { b ~ (c ~ (d ~ e)) }".parse()?;
+/// assert_eq!(print(&to_the_right)?, "a = { (b ~ c ~ d ~ e) }\n");
+/// assert_eq!(print_short(&to_the_right)?, "a = { b ~ (c ~ (d ~ e)) }\n");
+/// # Ok::<(), flascjuvan::Refusal>(())
+/// ```
+pub fn print_short(grammar: &Grammar) -> Result<String, Refusal> {
+    printed_by(raw::print_short, grammar)
+}
+
+/// [`raw::print`] or [`raw::print_short`].
+type RawPrinter = fn(&[u32], &[u32], &[u8], &mut [u8]) -> [u64; 3];
+
+/// What a printer writes, given room.
+fn printed_by(printer: RawPrinter, grammar: &Grammar) -> Result<String, Refusal> {
     let (nodes, rules, store) = grammar.tables();
     let mut out = vec![0; 64 + 2 * store.len() + nodes.len() + 2 * rules.len()];
     loop {
-        let [number, place, printed] = raw::print(nodes, rules, store, &mut out);
+        let [number, place, printed] = printer(nodes, rules, store, &mut out);
         if number == Reason::OutputRoom.number() {
             out = vec![0; 2 * out.len()];
             continue;

@@ -1,6 +1,6 @@
 //! Strings and characters as the grammar writes them. The proved printer writes them, so that there is one rule for it.
 
-use crate::{ast, Expr, MAX_TEXT};
+use crate::{ast, print, Expr, MAX_TEXT};
 
 /// A string in its quotes.
 pub(crate) fn string(s: &str) -> String {
@@ -34,5 +34,5 @@ fn piece(s: &str) -> usize {
 }
 
 fn printed(leaf: Expr) -> String {
-    ast::printed(&leaf).expect("any string and any character can be printed")
+    ast::printed_by(print, &leaf).expect("any string and any character can be printed")
 }

@@ -30,6 +30,17 @@ extern "C" {
         out_len: usize,
         answer: *mut u64,
     );
+    fn flascjuvan_print_short(
+        nodes: *const u32,
+        nodes_len: usize,
+        rules: *const u32,
+        rules_len: usize,
+        store: *const u8,
+        store_len: usize,
+        out: *mut u8,
+        out_len: usize,
+        answer: *mut u64,
+    );
     fn flascjuvan_next_token(text: *const u8, text_len: usize, at: usize, answer: *mut u64);
     fn flascjuvan_match(
         nodes: *const u32,
@@ -108,10 +119,28 @@ pub fn read(text: &[u8], tagged: bool, nodes: &mut [u32], rules: &mut [u32], sto
 /// assert_eq!(&out[..10], b"r = { a }\n");
 /// ```
 pub fn print(nodes: &[u32], rules: &[u32], store: &[u8], out: &mut [u8]) -> [u64; 3] {
+    printed_by(flascjuvan_print, nodes, rules, store, out)
+}
+
+/// Prints tables to the front of the lent output, with the fewest brackets that keep the trees. Number, place, bytes.
+///
+/// ```
+/// let (nodes, mut out) = ([3, 0, 0, 97, 122, 0], [0; 20]);
+/// assert_eq!(flascjuvan::raw::print_short(&nodes, &[0, 1, 0, 0, 0, 0], b"r", &mut out), [0, 0, 17]);
+/// assert_eq!(&out[..17], b"r = { 'a'..'z' }\n");
+/// ```
+pub fn print_short(nodes: &[u32], rules: &[u32], store: &[u8], out: &mut [u8]) -> [u64; 3] {
+    printed_by(flascjuvan_print_short, nodes, rules, store, out)
+}
+
+/// `flascjuvan_print` or `flascjuvan_print_short`: they are called alike.
+type Printer = unsafe extern "C" fn(*const u32, usize, *const u32, usize, *const u8, usize, *mut u8, usize, *mut u64);
+
+fn printed_by(printer: Printer, nodes: &[u32], rules: &[u32], store: &[u8], out: &mut [u8]) -> [u64; 3] {
     let mut answer = [u64::MAX; 3];
     // SAFETY: as in `read`; the answer has three numbers.
     unsafe {
-        flascjuvan_print(
+        printer(
             nodes.as_ptr(),
             nodes.len(),
             rules.as_ptr(),

@@ -55,8 +55,8 @@ pub enum Reason {
     /// A rule that can't be printed: a name that is no word, or begins with PUSH; through [`raw`](crate::raw) any
     /// false record. The place is the rule's index.
     Rule = 22,
-    /// The printed text is longer than the lent output: never from [`print`](crate::print), which lends enough. The
-    /// place is 0.
+    /// The printed text is longer than the lent output: never from [`print`](crate::print) and
+    /// [`print_short`](crate::print_short), which lend enough. The place is 0.
     OutputRoom = 23,
     /// Tables that printing refuses by 20, 21 or 22 can't be run either. The place is 0.
     FalseTables = 30,

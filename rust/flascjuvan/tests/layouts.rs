@@ -1,6 +1,6 @@
 //! The repository's own layouts are read and come back the same.
 
-use flascjuvan::{print, read, Grammar, Level};
+use flascjuvan::{print, print_short, read, Grammar, Level};
 
 #[test]
 fn layouts_are_read_and_come_back_the_same() {
@@ -14,10 +14,12 @@ fn layouts_are_read_and_come_back_the_same() {
         }
         let text = std::fs::read(path).expect("a layout's text");
         let grammar = read(&text, Level::Tagged).expect("a layout is read");
-        let once = print(&grammar).expect("what was read prints");
-        let again: Grammar = once.parse().expect("what was printed is read");
-        assert!(again.same(&grammar));
-        assert_eq!(again.to_string(), once);
+        for printer in [print, print_short] {
+            let once = printer(&grammar).expect("what was read prints");
+            let again: Grammar = once.parse().expect("what was printed is read");
+            assert!(again.same(&grammar));
+            assert_eq!(printer(&again), Ok(once));
+        }
         seen += 1;
     }
     assert!(seen >= 3);

@@ -77,6 +77,7 @@ fn a_full_disk_is_told() {
         "tokens good",
         "check bad",
         "print --check good",
+        "print --short good",
         "same good other",
         "explain",
         "explain 3",
@@ -111,7 +112,7 @@ fn unread(folder: &Folder, args: &str, text: &str) -> (Option<i32>, String) {
 #[test]
 fn a_closed_pipe_ends_it_in_silence() {
     let folder = Folder::of(&[("bad", "%")]);
-    for args in ["tree -", "print -", "tokens -"] {
+    for args in ["tree -", "print -", "print --short -", "tokens -"] {
         assert_eq!(unread(&folder, args, "a={b}"), (Some(0), String::new()), "{args}");
     }
     // what was found still counts
@@ -131,7 +132,9 @@ fn deep_texts_take_no_more_stack_than_there_is() {
     ];
     for (index, text) in deep.iter().enumerate() {
         let folder = Folder::new().with("t", text);
-        for args in ["check t", "tree t", "print t", "tokens t", "dropped t", "same t t"] {
+        for args in
+            ["check t", "tree t", "print t", "print --short t", "tokens t", "dropped t", "same t t"]
+        {
             let ran = on_little_stack(&folder, args);
             let status = if index == 4 && args == "dropped t" { 1 } else { 0 };
             assert_eq!((ran.status, &ran.err[..]), (status, ""), "{index}: {args}");

@@ -61,3 +61,54 @@ t:1:1: refused 4: the text ends too early
 ";
     assert_eq!(Folder::of(&[("t", "")]).run("print --check t"), err(1, said));
 }
+
+#[test]
+fn short_has_the_fewest_brackets() {
+    let folder =
+        Folder::of(&[("left", "a={((b~c)~('0'..'9'))|\"x\"*}"), ("right", "a={b~(c~(d~e))}")]);
+    assert_eq!(
+        folder.run("print --short left right"),
+        out(0, "a = { b ~ c ~ '0'..'9' | \"x\"* }\na = { b ~ (c ~ (d ~ e)) }\n")
+    );
+    // the full text of a chain to the right has fewer, and is read back grouped otherwise
+    assert_eq!(folder.run("print right"), out(0, "a = { (b ~ c ~ d ~ e) }\n"));
+    let printed = folder.run("print --short right").out;
+    assert_eq!(folder.feed("same right -", printed), out(0, ""));
+    assert_eq!(folder.feed("same right -", folder.run("print right").out).status, 1);
+}
+
+#[test]
+fn short_where_the_program_has_no_room() {
+    let text = format!("a = {{ {}b }}\n", "!".repeat(4095));
+    assert_eq!(Folder::new().feed("print --short -", &text), out(0, &text));
+    // a chain to the right: names, ` ~ ` between them, and a pair of brackets for all but two
+    let name = "n".repeat(59);
+    let right = format!("a={{{name}{}{}}}", format!("~({name}").repeat(1023), ")".repeat(1023));
+    let ran = Folder::new().feed("print --short -", right);
+    let bytes = 1024 * 59 + 1023 * 3 + 1022 * 2 + "a = {  }\n".len();
+    assert_eq!((ran.status, ran.out.len(), &ran.err[..]), (0, bytes, ""));
+    assert!(bytes > 65536);
+}
+
+#[test]
+fn short_refuses_alike() {
+    let folder = Folder::of(&[("bad", "a = { ~ }"), ("good", "a={(b~c)~d}")]);
+    let ran = folder.run("print --short bad gone good");
+    assert_eq!((ran.status, &ran.out[..]), (2, "a = { b ~ c ~ d }\n"));
+    let refusal = folder.run("print bad").err;
+    assert_eq!(ran.err, refusal + "flascjuvan: gone: there is no such file\n");
+}
+
+/// Each text is unchanged by its own way to print, and changed by the other.
+#[test]
+fn check_goes_by_the_text_that_is_asked_for() {
+    let folder = Folder::of(&[
+        ("full", "a = { ((b ~ c) ~ d) }\n"),
+        ("short", "a = { b ~ c ~ d }\n"),
+        ("both", "a = { b* }\n"),
+    ]);
+    assert_eq!(folder.run("print --check full short both"), out(1, "short\n"));
+    assert_eq!(folder.run("print --check --short full short both"), out(1, "full\n"));
+    assert_eq!(folder.run("print --short --check short both"), out(0, ""));
+    assert_eq!(folder.feed("print --short --check -", "a = {").status, 1);
+}

@@ -44,6 +44,10 @@ fn wrong_usage() {
         "same t t t",
         "tree --color blue t",
         "print --plain t",
+        "print --short",
+        "print --short=yes t",
+        "print --short --short t",
+        "tree --short t",
     ]
     .map(str::to_owned)
     .to_vec();

@@ -7,6 +7,7 @@ mod matching;
 mod pictures;
 mod printing;
 mod refusals;
+mod short;
 mod stack;
 mod tokens;
 mod trees;

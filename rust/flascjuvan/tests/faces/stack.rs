@@ -4,7 +4,7 @@ use std::collections::hash_map::DefaultHasher;
 use std::hash::{Hash, Hasher};
 use std::thread;
 
-use flascjuvan::{print, read, Expr, Grammar, Level, ParserRule, Reason, Rule, MAX_NODES};
+use flascjuvan::{print, print_short, read, Expr, Grammar, Level, ParserRule, Reason, Rule, MAX_NODES};
 
 use crate::{choice, ident, rule, seq};
 
@@ -138,6 +138,15 @@ fn printing() {
 }
 
 #[test]
+fn printing_short() {
+    each("{:#}", |rules| {
+        let text = print_short(&Grammar::from(&rules[..])).expect("printed");
+        assert_eq!(format!("{:#}\n", rules[0]), text);
+        assert_eq!(format!("r = {{ {:#} }}\n", rules[0].expr), text);
+    });
+}
+
+#[test]
 fn walking() {
     each("walk", |rules| {
         let expr = rules[0].expr.clone();
@@ -212,6 +221,7 @@ fn reading_and_printing_the_deepest_texts() {
             let grammar = read(format!("a = {{ {text} }}"), Level::Tagged).expect("read");
             assert_eq!(Grammar::from(grammar.rules()).rules(), grammar.rules());
             assert!(print(&grammar).expect("printed").ends_with(" }\n"));
+            assert!(print_short(&grammar).expect("printed").ends_with(" }\n"));
         });
     }
 }

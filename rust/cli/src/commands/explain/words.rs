@@ -377,8 +377,9 @@ nodes are left over.",
             room: 9,
         },
         usual: "\
-This command prints into as much room as it takes. The desk has 65,536 bytes: a string of
-20,000 characters that print as \\u{01} each is too long for it. A program lends more.",
+This command prints into as much room as it takes. The desk and the program short have
+65,536 bytes: a string of 20,000 characters that print as \\u{01} each is too long for
+them. A program lends more.",
         slips: &[],
     },
     Explanation {

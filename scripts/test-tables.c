@@ -1,7 +1,7 @@
-/* What test-c asks of the functions that run rules: their answers on tables made by hand, each number, and that they
- * touch nothing but what they are lent. Each lent buffer stands alone between pages that can't be touched, right behind
- * the one or right before the other, and what is lent to be read can't be written. It tells each case that goes wrong,
- * then how many there were; it is ended by a signal where it touches what it may not. C that is C++ too. */
+/* What test-c asks of the functions that print tables and run rules: their answers on tables made by hand, each number,
+ * and that they touch nothing but what they are lent. Each lent buffer stands alone between pages that can't be touched,
+ * right behind the one or right before the other, and what is lent to be read can't be written. It tells each case that
+ * goes wrong, then how many there were; it is ended by a signal where it touches what it may not. C that is C++ too. */
 #ifndef _GNU_SOURCE
 #define _GNU_SOURCE /* C++ compilers have it already */
 #endif
@@ -111,7 +111,7 @@ static void compare(const char *what, const char *of, const uint64_t *got, const
         return;
     }
     wrong++;
-    fprintf(stderr, "test-matching: %s, %s:", what, of);
+    fprintf(stderr, "test-tables: %s, %s:", what, of);
     for (i = 0; i < count; i++) {
         fprintf(stderr, " %" PRIu64 "%s%" PRIu64, got[i], got[i] == due[i] ? "=" : " and not ", due[i]);
     }
@@ -123,7 +123,7 @@ static void lone(const char *what, struct lent l, size_t size)
     cases++;
     if (!beside(l, size)) {
         wrong++;
-        fprintf(stderr, "test-matching: %s: written beside what was lent\n", what);
+        fprintf(stderr, "test-tables: %s: written beside what was lent\n", what);
     }
 }
 
@@ -170,6 +170,37 @@ static void match_lines(const char *what, const struct tables *t, size_t start, 
     take_back(records);
 }
 
+/* flascjuvan_print or flascjuvan_print_short */
+typedef void printer(const uint32_t *, size_t, const uint32_t *, size_t, const uint8_t *, size_t, uint8_t *, size_t,
+                     uint64_t *);
+
+/* The output is lent as bytes that stand at 7: after a refusal, or behind the text, they still do. */
+static void print(const char *what, printer *by, const struct tables *t, size_t room, uint64_t number, uint64_t place,
+                  const char *text)
+{
+    const uint64_t filled[3] = {UNTOUCHED, UNTOUCHED, UNTOUCHED};
+    const uint64_t due[3] = {number, place, strlen(text)};
+    uint8_t before[64], after[64];
+    struct lent answer = lend(filled, sizeof filled, 1), out;
+    memset(before, UNTOUCHED, sizeof before);
+    memcpy(after, before, sizeof after);
+    memcpy(after, text, strlen(text));
+    out = lend(before, room, 1);
+    lend_tables(t);
+    by(TABLES(t), (uint8_t *)out.start, room, (uint64_t *)answer.start);
+    compare(what, "answer", (const uint64_t *)answer.start, due, 3);
+    cases++;
+    if (memcmp(out.start, after, room) != 0) {
+        wrong++;
+        fprintf(stderr, "test-tables: %s: %.*s and not %s\n", what, (int)room, (const char *)out.start, text);
+    }
+    lone(what, answer, sizeof filled);
+    lone(what, out, room);
+    take_tables_back();
+    take_back(answer);
+    take_back(out);
+}
+
 static void rule_named(const char *what, const struct tables *t, const char *name, uint64_t number, uint64_t rule)
 {
     const uint64_t filled[3] = {UNTOUCHED, UNTOUCHED, UNTOUCHED};
@@ -199,6 +230,52 @@ static const struct tables unfit = {unfit_nodes, LENGTH(unfit_nodes), unfit_rule
 /* r = { "a"* }  r = { "b" } */
 static const struct tables twice = {good_nodes, LENGTH(good_nodes), good_rules, LENGTH(good_rules), "rrab"};
 static const struct tables nothing = {good_nodes, 0, good_rules, 0, ""};
+
+/* r = { a ~ b ~ c | 'a'..'z' } */
+static const uint32_t left_nodes[] = {NODE(4, 1, 1, 0), NODE(4, 2, 1, 0), NODE(8, 0, 1, 0), NODE(4, 3, 1, 0),
+                                      NODE(8, 2, 3, 0), NODE(3, 'a', 'z', 0), NODE(9, 4, 5, 0)};
+static const uint32_t last_root[] = {RULE(0, 1, 6)};
+static const struct tables left = {left_nodes, LENGTH(left_nodes), last_root, LENGTH(last_root), "rabc"};
+/* r = { a ~ (b ~ (c ~ a)) } */
+static const uint32_t right_nodes[] = {NODE(4, 1, 1, 0), NODE(4, 2, 1, 0), NODE(4, 3, 1, 0), NODE(4, 1, 1, 0),
+                                       NODE(8, 2, 3, 0), NODE(8, 1, 4, 0), NODE(8, 0, 5, 0)};
+static const struct tables right = {right_nodes, LENGTH(right_nodes), last_root, LENGTH(last_root), "rabc"};
+/* a node whose child is not the one before it */
+static const uint32_t childless_nodes[] = {NODE(1, 2, 1, 0), NODE(11, 1, 0, 0), NODE(1, 3, 1, 0)};
+static const struct tables childless = {childless_nodes, LENGTH(childless_nodes), good_rules, LENGTH(good_rules),
+                                        "rsab"};
+/* a rule whose root is no node */
+static const uint32_t rootless_rules[] = {RULE(0, 1, 1), RULE(1, 1, 3)};
+static const struct tables rootless = {good_nodes, LENGTH(good_nodes), rootless_rules, LENGTH(rootless_rules), "rsab"};
+
+/* A text with room to spare, with exactly its room, and with a byte less. */
+static void text(const char *what, printer *by, const struct tables *t, const char *due)
+{
+    print(what, by, t, strlen(due) + 9, 0, 0, due);
+    print(what, by, t, strlen(due), 0, 0, due);
+    print(what, by, t, strlen(due) - 1, 23, 0, "");
+    print(what, by, t, 0, 23, 0, "");
+}
+
+static void texts(void)
+{
+    static printer *const both[] = {flascjuvan_print, flascjuvan_print_short};
+    size_t i;
+    text("a chain to the left", flascjuvan_print, &left, "r = { (((a ~ b) ~ c) | ('a'..'z')) }\n");
+    text("a chain to the left, short", flascjuvan_print_short, &left, "r = { a ~ b ~ c | 'a'..'z' }\n");
+    text("a chain to the right", flascjuvan_print, &right, "r = { (a ~ b ~ c ~ a) }\n");
+    text("a chain to the right, short", flascjuvan_print_short, &right, "r = { a ~ (b ~ (c ~ a)) }\n");
+    for (i = 0; i < LENGTH(both); i++) {
+        text("two rules", both[i], &good, "r = { \"a\"* }\ns = { \"b\" }\n");
+        print("no rule", both[i], &nothing, 0, 0, 0, "");
+        print("20", both[i], &cut, 40, 20, 0, "");
+        print("21", both[i], &childless, 40, 21, 1, "");
+        print("22", both[i], &rootless, 40, 22, 1, "");
+        print("20 before 23", both[i], &cut, 0, 20, 0, "");
+        print("21 before 23", both[i], &childless, 0, 21, 1, "");
+        print("22 before 23", both[i], &rootless, 0, 22, 1, "");
+    }
+}
 
 static void lines_one_by_one(void)
 {
@@ -279,6 +356,7 @@ int main(void)
         lines_one_by_one();
         whole_texts();
         names();
+        texts();
         nested(1024, 0, 1024);
         nested(1025, 34, 0);
     }
