@@ -10,7 +10,7 @@ use second::{read, Refusal};
 /// As they are, for measuring: into buffers of the caller's.
 pub use flascjuvan::raw::{
     match_line as match_into, match_lines as match_lines_into, print as print_into,
-    read as read_into, rule_named,
+    print_short as print_short_into, read as read_into, rule_named,
 };
 
 /// The tables of a text that reads, at the tagged level.

@@ -1,12 +1,12 @@
-//! Printing of random trees, `Display` against the product: eight tables of each size by turns, so
-//! that a processor doesn't learn the branches of one.
+//! Printing of random trees, `Display` against the product, and its short text: eight tables of each
+//! size by turns, so that a processor doesn't learn the branches of one.
 
 use std::hint::black_box;
 use std::time::Instant;
 
 use oracle::{Printable, Tables};
 
-use crate::product::print_into;
+use crate::product::{print_into, print_short_into};
 use crate::tables::Grower;
 use crate::Random;
 
@@ -41,9 +41,11 @@ fn turn(best: &mut f64, rounds: usize, mut work: impl FnMut(usize)) {
     *best = best.min(start.elapsed().as_secs_f64() * 1e6 / (rounds * TABLES) as f64);
 }
 
-fn print(tables: &Tables, out: &mut [u8]) -> usize {
+type Printer = fn(&[u32], &[u32], &[u8], &mut [u8]) -> [u64; 3];
+
+fn print(by: Printer, tables: &Tables, out: &mut [u8]) -> usize {
     let tables = black_box(tables);
-    let answer = print_into(&tables.nodes, &tables.rules, &tables.store, out);
+    let answer = by(&tables.nodes, &tables.rules, &tables.store, out);
     assert_eq!(answer[..2], [0, 0]);
     answer[2] as usize
 }
@@ -56,29 +58,33 @@ fn one(grower: &mut Grower, nodes: usize) {
     let mut out = vec![0; OUTPUT];
     let mut exact: Vec<Vec<u8>> = texts.iter().map(|text| vec![0; text.len()]).collect();
     for k in 0..TABLES {
-        let length = print(&tables[k], &mut out);
+        let length = print(print_into, &tables[k], &mut out);
         assert_eq!(&out[..length], texts[k].as_bytes());
-        print(&tables[k], &mut exact[k]);
+        print(print_into, &tables[k], &mut exact[k]);
         assert_eq!(exact[k], texts[k].as_bytes());
     }
     let rounds = (2_000 / nodes).max(1);
-    let [mut display, mut ample, mut tight] = [f64::MAX; 3];
+    let [mut display, mut ample, mut tight, mut short] = [f64::MAX; 4];
     for _ in 0..REPEATS {
         turn(&mut display, rounds, |k| {
             black_box(black_box(&trees[k]).print());
         });
         turn(&mut ample, rounds, |k| {
-            black_box(print(&tables[k], &mut out));
+            black_box(print(print_into, &tables[k], &mut out));
         });
         turn(&mut tight, rounds, |k| {
-            black_box(print(&tables[k], &mut exact[k]));
+            black_box(print(print_into, &tables[k], &mut exact[k]));
+        });
+        turn(&mut short, rounds, |k| {
+            black_box(print(print_short_into, &tables[k], &mut out));
         });
     }
     let count = tables.iter().map(|t| t.nodes.len() / 6).sum::<usize>() / TABLES;
     let bytes = texts.iter().map(String::len).sum::<usize>() / TABLES;
     print!("  {count:>5} nodes {bytes:>6} bytes  Display {display:>7.1} µs  the product {ample:>6.1} µs");
     print!(" ({:.1} times as fast)", display / ample);
-    println!("  exact output {tight:>6.1} µs ({:.1})", display / tight);
+    print!("  exact output {tight:>6.1} µs ({:.1})", display / tight);
+    println!("  the short text {short:>6.1} µs");
 }
 
 /// Prints a line for each size.

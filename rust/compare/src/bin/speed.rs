@@ -494,10 +494,22 @@ fn one(text: &str, budget: Duration) {
         ),
     ];
     #[cfg(feature = "product")]
+    let mut out3 = out2.clone();
+    #[cfg(feature = "product")]
     works.push((
         "the product",
         Box::new(|| {
             let answer = compare::product::print_into(black_box(nodes), rules, store, &mut out2);
+            assert_eq!(black_box(answer)[0], 0);
+        }),
+    ));
+    // by its own text, which is another: nanoseconds a byte are those of the full text's bytes
+    #[cfg(feature = "product")]
+    works.push((
+        "the product, the short text",
+        Box::new(|| {
+            let answer =
+                compare::product::print_short_into(black_box(nodes), rules, store, &mut out3);
             assert_eq!(black_box(answer)[0], 0);
         }),
     ));
