@@ -476,7 +476,7 @@ fn one(text: &str, budget: Duration) {
     let alike = printed.as_bytes() == &out[..length];
     println!("printing {length} bytes: {n} nodes; `Display` prints alike: {alike}");
     #[cfg(feature = "product")]
-    let mut out2 = out.clone();
+    let (mut out2, mut out3) = (out.clone(), out.clone());
     #[allow(unused_mut)]
     let mut works: Vec<Work<'_>> = vec![
         (
@@ -493,8 +493,6 @@ fn one(text: &str, budget: Duration) {
             }),
         ),
     ];
-    #[cfg(feature = "product")]
-    let mut out3 = out2.clone();
     #[cfg(feature = "product")]
     works.push((
         "the product",
