@@ -175,7 +175,9 @@ fn hold(text: &str, tagged: bool, ways: &mut Tally, faults: &mut Tally) -> &'sta
         (&ours, &rust)
     {
         let how = place_class(bytes, *refusal, *place);
-        ways.add(format!("{level}: ours {number}, the Rust: {rust_label}, {how}"), bytes);
+        let stray = number == 3 && bytes.get(refusal.place as usize) == Some(&b'\\');
+        let at = if stray { " at a backslash" } else { "" };
+        ways.add(format!("{level}: ours {number}{at}, the Rust: {rust_label}, {how}"), bytes);
         if how == OTHER_PLACE && matches!(number, 4 | 5 | 6 | 13) {
             faults.add(format!("{level}: ours {number}, the Rust: {how}"), bytes);
         }
@@ -357,14 +359,15 @@ mod linked {
     /// The reader and the lister.
     pub fn reader(seed: u64, scale: usize) -> bool {
         let mut random = Random(seed);
-        let (mut count, mut reads, mut listed) = (0u64, 0u64, 0u64);
+        let (mut count, mut reads, mut listed, mut broken) = (0u64, 0u64, 0u64, 0u64);
         let mut differences = Differences::default();
         texts::all(seed, scale, &mut |source, text| {
             count += 1;
             let few = source == Source::Exhaustive && !random.one_in(8);
             differences.note(product::check_read(text, true, few, &mut reads));
             differences.note(product::check_read(text, false, few, &mut reads));
-            if text.len() < 12 {
+            broken += u64::from(source == Source::Broken);
+            if text.len() < 12 || source == Source::Broken {
                 for at in 0..text.len() + 2 {
                     differences.note(product::check_next(text, at, &mut listed));
                 }
@@ -374,7 +377,7 @@ mod linked {
                 differences.note(product::check_next(text, usize::MAX, &mut listed));
             }
         });
-        println!("\nproduct and second program: {count} texts: {reads} readings, {listed} calls of the lister, {} different", differences.0);
+        println!("\nproduct and second program: {count} texts, {broken} of them around a broken literal: {reads} readings, {listed} calls of the lister, {} different", differences.0);
         differences.0 == 0
     }
 

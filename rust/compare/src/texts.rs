@@ -1,5 +1,5 @@
-//! Texts: all short ones over small alphabets, random good ones, damaged ones, token soup, and
-//! those at the limits.
+//! Texts: all short ones over small alphabets, random good ones, damaged ones, token soup, broken
+//! literals, and those at the limits.
 
 use crate::Random;
 
@@ -11,6 +11,7 @@ pub enum Source {
     Grown,
     Damaged,
     Soup,
+    Broken,
     Limit,
 }
 
@@ -636,6 +637,11 @@ pub fn limits() -> Vec<Vec<u8>> {
     texts
 }
 
+/// A text around one literal, which mostly has a fault.
+pub fn broken(random: &mut Random) -> Vec<u8> {
+    second::broken::text(&mut |n| random.below(n)).text
+}
+
 /// Every text of a run, in order. `scale` is in hundredths of the full run.
 pub fn all(seed: u64, scale: usize, f: &mut dyn FnMut(Source, &[u8])) {
     for text in CORNERS {
@@ -675,5 +681,9 @@ pub fn all(seed: u64, scale: usize, f: &mut dyn FnMut(Source, &[u8])) {
         f(Source::Grown, &text);
         let text = damaged(&mut random, &text);
         f(Source::Damaged, &text);
+    }
+    let mut random = Random(seed ^ 0xbac5);
+    for _ in 0..11_000 * scale {
+        f(Source::Broken, &broken(&mut random));
     }
 }

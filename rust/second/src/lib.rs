@@ -2,6 +2,7 @@
 //! with nothing of the product's or of pest's: what it answers can be held beside both.
 
 pub mod brackets;
+pub mod broken;
 pub mod matching;
 pub mod print;
 pub mod read;

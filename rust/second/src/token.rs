@@ -89,7 +89,8 @@ pub struct Token {
     pub end: u32,
 }
 
-/// The next token past blanks; or there is none; or the first byte of what is no token.
+/// The next token past blanks; or there is none; or the place of what is no token: the backslash
+/// of a malformed escape, else the first byte.
 #[derive(Clone, Copy, Debug, PartialEq, Eq)]
 pub enum Next {
     Token(Token),
@@ -121,8 +122,8 @@ pub fn next(text: &[u8], place: usize) -> Next {
         return Next::End;
     }
     match token(text, start) {
-        Some((kind, end)) => Next::Token(Token { kind, start: start as u32, end: end as u32 }),
-        None => Next::Bad(start),
+        Ok((kind, end)) => Next::Token(Token { kind, start: start as u32, end: end as u32 }),
+        Err(place) => Next::Bad(place),
     }
 }
 
@@ -185,28 +186,36 @@ fn in_word(byte: u8) -> bool {
     matches!(CLASSES[byte as usize], Class::Letter | Class::Digit)
 }
 
-/// Kind and end of the token whose first byte is at `start`.
-fn token(text: &[u8], start: usize) -> Option<(u8, usize)> {
+/// Kind and end of the token whose first byte is at `start`, or the place of its fault. Only a
+/// literal can have another place than `start`.
+fn token(text: &[u8], start: usize) -> Result<(u8, usize), usize> {
     match CLASSES[text[start] as usize] {
-        Class::Other | Class::Blank => None,
-        Class::OneByte => Some((KINDS[text[start] as usize], start + 1)),
+        Class::Other | Class::Blank => Err(start),
+        Class::OneByte => Ok((KINDS[text[start] as usize], start + 1)),
         Class::Letter => {
             let end = run(text, start, in_word);
             let word = &text[start..end];
             let free = !word.starts_with(b"PUSH") || word == b"PUSH" || word == b"PUSH_LITERAL";
-            free.then_some((WORD, end))
+            free.then_some((WORD, end)).ok_or(start)
         }
-        Class::Digit => Some((NUMBER, run(text, start, |b| b.is_ascii_digit()))),
+        Class::Digit => Ok((NUMBER, run(text, start, |b| b.is_ascii_digit()))),
         Class::Opener => opened(text, start),
     }
 }
 
-fn opened(text: &[u8], start: usize) -> Option<(u8, usize)> {
+fn opened(text: &[u8], start: usize) -> Result<(u8, usize), usize> {
+    match text[start] {
+        b'"' => Ok((STRING, string(text, start, start)?)),
+        b'^' if at(text, start + 1) == Some(b'"') => Ok((INSENS, string(text, start, start + 1)?)),
+        b'\'' => Ok((CHARACTER, character(text, start)?)),
+        _ => no_literal(text, start).ok_or(start),
+    }
+}
+
+/// Kind and end of a token with an opener that isn't a literal's.
+fn no_literal(text: &[u8], start: usize) -> Option<(u8, usize)> {
     let second = at(text, start + 1);
     match text[start] {
-        b'"' => Some((STRING, string(text, start)?)),
-        b'^' if second == Some(b'"') => Some((INSENS, string(text, start + 1)?)),
-        b'\'' => Some((CHARACTER, character(text, start)?)),
         b'#' if second.is_some_and(|b| CLASSES[b as usize] == Class::Letter) => {
             Some((TAG, run(text, start + 1, in_word)))
         }
@@ -225,25 +234,32 @@ fn opened(text: &[u8], start: usize) -> Option<(u8, usize)> {
     }
 }
 
-/// The end of the string whose quote is at `quote`.
-fn string(text: &[u8], quote: usize) -> Option<usize> {
+/// The end of the string whose quote is at `quote`, or the place of the fault met first: the
+/// backslash of a malformed escape, or `start`, the token's first byte, if no quote closes it.
+fn string(text: &[u8], start: usize, quote: usize) -> Result<usize, usize> {
     let mut place = quote + 1;
     loop {
-        match at(text, place)? {
-            b'"' => return Some(place + 1),
-            b'\\' => place = escape(text, place)?.0,
+        match at(text, place).ok_or(start)? {
+            b'"' => return Ok(place + 1),
+            b'\\' => place = escape(text, place).ok_or(place)?.0,
             _ => place += 1,
         }
     }
 }
 
-/// The end of the character literal whose quote is at `quote`.
-fn character(text: &[u8], quote: usize) -> Option<usize> {
-    let end = match at(text, quote + 1)? {
-        b'\\' => escape(text, quote + 1)?.0,
-        first => quote + 1 + width(first),
+/// The end of the character literal whose quote is at `quote`, or the place of the fault. Only
+/// what comes first can be a malformed escape: after it a quote is due, and what stands there
+/// instead is one character too many, even a backslash.
+fn character(text: &[u8], quote: usize) -> Result<usize, usize> {
+    let first = quote + 1;
+    let end = match at(text, first).ok_or(quote)? {
+        b'\\' => escape(text, first).ok_or(first)?.0,
+        byte => first + width(byte),
     };
-    (at(text, end)? == b'\'').then_some(end + 1)
+    if at(text, end) != Some(b'\'') {
+        return Err(quote);
+    }
+    Ok(end + 1)
 }
 
 /// The bytes of a character, by its first.
@@ -256,7 +272,8 @@ pub(crate) fn width(first: u8) -> usize {
     }
 }
 
-/// The end and the value of the escape whose backslash is at `place`.
+/// The end and the value of the escape whose backslash is at `place`; nothing if it is malformed,
+/// for whatever reason, the text's end included.
 pub(crate) fn escape(text: &[u8], place: usize) -> Option<(usize, u32)> {
     let hex = |place: usize| (at(text, place)? as char).to_digit(16);
     let value = match at(text, place + 1)? {

@@ -46,7 +46,7 @@ fn the_twelve() {
     refused(b"r={a{4294967296}}", 5, 5);
     prints(r#"r={"\x80"}"#, "r = { \"\\u{80}\" }\n");
     assert_eq!(tables(br#"r={"\x80"}"#, true).unwrap().store, b"r\xc2\x80");
-    refused(br#"r={"\u{1}"}"#, 3, 3);
+    refused(br#"r={"\u{1}"}"#, 3, 4);
     prints(r#"r={"\x01"}"#, "r = { \"\\u{01}\" }\n");
     refused(br#"r={"\u{d800}"}"#, 8, 4);
     let made = tables(b"r = { (a)* }", true).unwrap();
@@ -67,7 +67,7 @@ fn tokens() {
     lists(b"_PUSH", 0, 18, 0, 5);
     lists(b"pUSH", 0, 18, 0, 4);
     lists(b"#PUSHx = b", 0, 19, 0, 6);
-    no_token(br#""\X41""#, 0, 0);
+    no_token(br#""\X41""#, 0, 1);
     no_token(b"a\r=", 1, 1);
     no_token(b"\r\r\n", 0, 0);
     lists(b"///x\r\n", 0, 27, 0, 4);

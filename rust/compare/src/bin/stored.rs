@@ -356,6 +356,18 @@ fn short(stored: &mut Stored, seed: u64, scale: usize) {
     }
 }
 
+/// Literals that mostly have a fault: the reader at one level, the lister from some places.
+fn broken(stored: &mut Stored, seed: u64, scale: usize) {
+    let mut random = Random(seed ^ 7);
+    for _ in 0..4 * scale {
+        let text = texts::broken(&mut random);
+        stored.text(&text, random.one_in(2), &[(0, 0, 0)]);
+        for _ in 0..2 {
+            stored.token(&text, random.below(text.len() + 2));
+        }
+    }
+}
+
 fn write(folder: &str, seed: u64, scale: usize) {
     let file = |name| BufWriter::new(fs::File::create(format!("{folder}/{name}")).expect(folder));
     let mut stored = Stored {
@@ -440,6 +452,7 @@ fn write(folder: &str, seed: u64, scale: usize) {
     }
     matcher(&mut stored, seed, scale);
     short(&mut stored, seed, scale);
+    broken(&mut stored, seed, scale);
     stored.end();
     println!("seed {seed}");
     for (class, count) in &stored.counts {
