@@ -31,6 +31,8 @@ pub mod Pairs
 pub mod Cuts
 pub mod Short
 pub mod Examples
+-- the place of a 3
+pub mod Places
 -- the twelve examples, uniqueness, wrong programs
 pub mod Sample
 pub mod Twelve

@@ -99,7 +99,7 @@ some-first : (b : ℕ) (xs : List ℕ) → nextIs b xs ≡ true → 0 < length x
 some-first b [] e = let z : _≡_ {A = ℕ} 0 1 = cc in absurd (omega arith)
 some-first b (x ∷ xs) e = omega arith
 
-some-next : (b n : ℕ) (xs : List ℕ) → nextIs b (drop n xs) ≡ true → n < length xs
+pub some-next : (b n : ℕ) (xs : List ℕ) → nextIs b (drop n xs) ≡ true → n < length xs
 some-next b n xs e = omega (arith, some-first b (drop n xs) e, length-drop n xs)
 
 string-by : (kind k : ℕ) (xs : List ℕ) (r : Check) → 1 ≤ kind → kind ≤ 27 → 0 < k → least kind ≤ k + 1 → Before (length xs) r → In (k + length xs) (stringBy kind k xs r)
@@ -120,9 +120,9 @@ module _ (xs : List ℕ) where
   unfolding quoted least
   quoted-in n l = choose-by One (nextIs 39 (drop n xs)) _ _ (λ e. (omega arith, omega arith, omega arith, omega (arith, some-next 39 n xs e))) (λ e. omega arith)
 
-  escaped-in : (r : Escape) → escapeOf xs ≡ r → One (escapedBy xs r)
-  escaped-in (Means c n) e = quoted-in n (omega (arith, meant xs c n e .two))
-  escaped-in Plain e = omega arith
+  escaped-in : (r : Escape) → nextIs 92 xs ≡ true → escapeOf xs ≡ r → One (escapedBy xs r)
+  escaped-in (Means c n) b e = quoted-in n (omega (arith, meant xs c n e .two))
+  escaped-in Plain b e = omega (arith, some-first 92 xs b)
 
   raw-in : (r : Sequence) → charOf xs ≡ r → One (rawBy xs r)
   raw-in (Is c n) e = quoted-in n (decoded xs c n e .some)
@@ -130,7 +130,7 @@ module _ (xs : List ℕ) where
 
   char-in : One (charToken xs)
   unfolding charToken
-  char-in = choose-by One (nextIs 92 xs) _ _ (λ e. escaped-in (escapeOf xs) refl) (λ e. raw-in (charOf xs) refl)
+  char-in = choose-by One (nextIs 92 xs) _ _ (λ e. escaped-in (escapeOf xs) e refl) (λ e. raw-in (charOf xs) refl)
 
   insens-in : One (insensToken xs)
   unfolding insensToken least

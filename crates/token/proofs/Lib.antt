@@ -7,4 +7,5 @@ pub mod Strings
 pub mod Lists
 pub mod Fills
 pub mod Lister
+pub mod Faults
 pub mod Printed

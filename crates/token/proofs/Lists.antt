@@ -7,7 +7,7 @@ use lib.ListN.{length, getD}
 use Rattle.text.specs.declared.Check.{Check}
 use Rattle.text.specs.declared.Check.the-variants.{Good, Bad}
 use Rattle.token.specs.Tokens.{tokenAt}
-use Rattle.token.specs.Lists.{Tok, tok, kindOf, startOf, endOf, Tokens, onto, tokensBy, tokensIn, tokensFrom, tokensOf, each}
+use Rattle.token.specs.Lists.{Tok, tok, kindOf, startOf, endOf, Tokens, onto, tokensBy, tokensIn, tokensFrom, tokensOf, placeFrom, each}
 use Rattle.token.specs.declared.Token.{Token}
 use Rattle.token.specs.declared.Token.the-variants.{Found, End, NoToken}
 use Rattle.token.proofs.Bounds.{Inside, token-in}
@@ -58,12 +58,6 @@ chain-in (suc k) s at = chain-by s at (tokenAt s at) (λ b. tokensIn k s b) refl
 pub chain : (s : List ℕ) → Chain s 0 (tokensOf s .list)
 unfolding tokensOf tokensFrom
 chain s = chain-in (suc (length s - 0)) s 0
-
--- where the token of an index is looked for: at the end of that before it, the first at a place
-abbrev pub placeFrom : ℕ → List Tok → ℕ → ℕ
-placeFrom at ts zero = at
-placeFrom at [] (suc i) = at
-placeFrom at (t ∷ ts) (suc i) = placeFrom (endOf t) ts i
 
 abbrev pub foundAs : Tok → Token
 foundAs (tok k a b) = Found k a b

@@ -37,8 +37,12 @@ found kind at n end e = rw (e, add-zero at)
 pub none : (at : ℕ) → NoToken at ≡ moved at (NoToken 0)
 none at = rw (add-zero at)
 
+-- nor one that begins there, for a fault some bytes further on
+pub none-by : (at n place : ℕ) → place ≡ at + n → NoToken place ≡ moved at (NoToken n)
+none-by at n place e = rw e
+
 -- where the blanks end, with places counted from the text's start
-abbrev landed : List ℕ → Check → Token
+abbrev pub landed : List ℕ → Check → Token
 landed s Good = End
 landed s (Bad i) = moved i (firstToken (drop i s))
 
@@ -47,7 +51,7 @@ landed-later s at Good = refl
 landed-later s at (Bad n) =
     moved-moved at n (firstToken (drop n (drop at s))) ∙ ap (λ (l : List ℕ). moved (at + n) (firstToken l)) (drop-drop n at s)
 
-landed-is : (s : List ℕ) (at : ℕ) → tokenAt s at ≡ landed s (later at (sought blankOf 0 (drop at s)))
+pub landed-is : (s : List ℕ) (at : ℕ) → tokenAt s at ≡ landed s (later at (sought blankOf 0 (drop at s)))
 unfolding tokenAt tokenOf
 landed-is s at = landed-later s at (sought blankOf 0 (drop at s))
 

@@ -1,4 +1,4 @@
--- Laws of strings: the walk over the inside, and where it ends.
+-- Laws of literals: the walk over the inside of a string, where it ends, and the bad escape of a character literal.
 use Prim.Native.Nat.{ℕ, _+_, _-_, _<_}
 use mathlib.Core.Path.{_≡_, refl, sym, ap, _∙_}
 use mathlib.Core.Bool.{Bool, true, false}
@@ -16,11 +16,11 @@ use Rattle.text.proofs.Walks.{sought-past, sought-stop}
 use Rattle.literal.specs.Escapes.{escapeOf}
 use Rattle.literal.specs.declared.Escape.the-variants.{Means, Plain}
 use Rattle.literal.proofs.Escaped.{meant}
-use Rattle.token.specs.Tokens.{moved, insideLook, stringOf}
+use Rattle.token.specs.Tokens.{moved, insideLook, stringOf, charToken}
 use Rattle.token.specs.declared.Token.the-variants.{Found, NoToken}
 use Rattle.token.proofs.Runs.{next-at, next-other}
 use Rattle.token.proofs.Bounds.{stop-at}
-use Rattle.token.proofs.Places.{found, none}
+use Rattle.token.proofs.Places.{found, none, none-by}
 
 module _ (s : List ℕ) (i : ℕ) (h : i < length s) where
   pub inside-quote : getD s i 0 ≡ 34 → later i (sought insideLook 0 (drop i s)) ≡ Bad i
@@ -64,11 +64,12 @@ module _ (s : List ℕ) (at k i : ℕ) (e : later (at + k) (sought insideLook 0 
       let y : i + 1 ≡ at + (k + (n + 1)) = omega arith in
       rw (q, closes-at n true z (next-at s i string-inside 34 c)) (found kind at (k + (n + 1)) (i + 1) y)
 
-  pub string-bad : (kind : ℕ) → (getD s i 0 ≡ 34 → ⊥) → NoToken at ≡ moved at (stringOf kind k (drop (at + k) s))
+  pub string-bad : (kind : ℕ) → (getD s i 0 ≡ 34 → ⊥) → NoToken i ≡ moved at (stringOf kind k (drop (at + k) s))
   unfolding stringOf
   string-bad kind c =
       let (n, q, z, l) = stop-at insideLook s (at + k) i e in
-      rw (q, closes-at n false z (next-other s i string-inside 34 c)) (none at)
+      let y : i ≡ at + (k + n) = omega arith in
+      rw (q, closes-at n false z (next-other s i string-inside 34 c)) (none-by at (k + n) i y)
 
 good-is : (at : ℕ) (r : Check) → later at r ≡ Good → r ≡ Good
 good-is at Good e = refl
@@ -79,3 +80,8 @@ pub string-open : (s : List ℕ) (at k kind : ℕ) → later (at + k) (sought in
     → NoToken at ≡ moved at (stringOf kind k (drop (at + k) s))
 unfolding stringOf
 string-open s at k kind e = rw (good-is (at + k) (sought insideLook 0 (drop (at + k) s)) e) (none at)
+
+-- a character literal whose escape is bad
+pub char-bad : (at : ℕ) (xs : List ℕ) → nextIs 92 xs ≡ true → escapeOf xs ≡ Plain → NoToken (at + 1) ≡ moved at (charToken xs)
+unfolding charToken
+char-bad at xs b e = rw (b, e)

@@ -3,3 +3,4 @@ pub mod Blanks
 pub mod Tokens
 pub mod Lists
 pub mod Lister
+pub mod Faults

@@ -56,6 +56,16 @@ tokensFrom s at = tokensIn (suc (length s - at)) s at
 unfoldable pub tokensOf : List ℕ → Tokens
 tokensOf s = tokensFrom s 0
 
+-- where the token of an index is looked for: at the end of that before it, the first at a place
+abbrev pub placeFrom : ℕ → List Tok → ℕ → ℕ
+placeFrom at ts zero = at
+placeFrom at [] (suc i) = at
+placeFrom at (t ∷ ts) (suc i) = placeFrom (endOf t) ts i
+
+-- and where what follows the last one is
+abbrev pub pastLast : List ℕ → ℕ
+pastLast s = placeFrom 0 (tokensOf s .list) (length (tokensOf s .list))
+
 -- one number of each
 abbrev pub each : (Tok → ℕ) → List Tok → List ℕ
 each f [] = []

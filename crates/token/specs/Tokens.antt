@@ -56,18 +56,15 @@ minusToken xs = choose (ltb (zeros xs) (digits xs)) (λ u. Found 21 0 (digits xs
 unfoldable pub dotsToken : List ℕ → Token
 dotsToken xs = choose (nextIs 46 xs) (λ u. Found 22 0 2) (λ u. NoToken 0)
 
--- the place of a literal with a bad escape that begins n bytes after the literal's first: that first byte
-abbrev pub badEscapeAt : ℕ → ℕ
-badEscapeAt n = 0
-
 -- inside a string: past characters and escapes, up to a `"` or a backslash that begins no escape
 unfoldable pub insideLook : List ℕ → Look
 insideLook xs = choose (nextIs 34 xs) (λ u. Stop) (λ u. strayLook xs)
 
--- `Bad n`: the inside ends n bytes on, at such a byte; `Good`: the text ends first
+-- `Good`: the text ends first, and the string's first byte is told; `Bad n`: the inside ends n bytes on, at its `"`, or at that
+-- backslash, which is told
 abbrev pub stringBy : ℕ → ℕ → List ℕ → Check → Token
 stringBy kind k xs Good = NoToken 0
-stringBy kind k xs (Bad n) = choose (nextIs 34 (drop n xs)) (λ u. Found kind 0 (k + (n + 1))) (λ u. NoToken (badEscapeAt (k + n)))
+stringBy kind k xs (Bad n) = choose (nextIs 34 (drop n xs)) (λ u. Found kind 0 (k + (n + 1))) (λ u. NoToken (k + n))
 
 -- after the k bytes that open it: a string up to its `"`
 unfoldable pub stringOf : ℕ → ℕ → List ℕ → Token
@@ -85,9 +82,9 @@ insensToken xs = choose (nextIs 34 xs) (λ u. stringOf 24 2 (drop 1 xs)) (λ u. 
 unfoldable pub quoted : ℕ → List ℕ → Token
 quoted n xs = choose (nextIs 39 (drop n xs)) (λ u. Found 25 0 (n + 2)) (λ u. NoToken 0)
 
--- by the escape that stands after the `'`
+-- by the escape that stands after the `'`: where none does, the backslash is told
 abbrev pub escapedBy : List ℕ → Escape → Token
-escapedBy xs Plain = NoToken (badEscapeAt 1)
+escapedBy xs Plain = NoToken 1
 escapedBy xs (Means c n) = quoted n xs
 
 -- by the character that stands there

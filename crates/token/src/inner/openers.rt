@@ -128,7 +128,7 @@ fn inside_end(s: &[u8], at: usize) -> Check
     Check::Good
 }
 
-// A string that the k bytes at a place open.
+// A string that the k bytes at a place open. A bad escape is told at its backslash.
 fn string_at(s: &[u8], at: usize, kind: u8, k: usize) -> Token
     requires { ⌜ at + k ≤ length (now s) ⌝ }
     ensures { λ r. ⌜ r ≡ moved at (stringOf kind k (drop (at + k) (now (s .entry)))) ⌝ }
@@ -144,7 +144,7 @@ fn string_at(s: &[u8], at: usize, kind: u8, k: usize) -> Token
                     end: i + 1,
                 };
             }
-            Token::NoToken(at)
+            Token::NoToken(i)
         }
     }
 }
@@ -181,7 +181,7 @@ fn quoted_at(s: &[u8], at: usize, n: usize) -> Token
     Token::NoToken(at)
 }
 
-// A character literal: one escape, or one character but a backslash.
+// A character literal: one escape, or one character but a backslash. A bad escape is told at its backslash.
 fn char_at(s: &[u8], at: usize) -> Token
     requires { ⌜ at < length (now s) ⌝ }
     ensures { λ r. ⌜ r ≡ moved at (charToken (drop (at + 1) (now (s .entry)))) ⌝ }
@@ -194,7 +194,7 @@ fn char_at(s: &[u8], at: usize) -> Token
                 return quoted_at(s, at, n);
             }
             Escape::Plain => {
-                return Token::NoToken(at);
+                return Token::NoToken(j);
             }
         }
     }

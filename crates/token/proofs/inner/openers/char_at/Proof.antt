@@ -5,6 +5,7 @@ use Rattle.text.proofs.Decodes.{decoded}
 use Rattle.literal.proofs.Escaped.{meant}
 use Rattle.token.specs.Tokens.{charToken}
 use Rattle.token.proofs.Places.{none}
+use Rattle.token.proofs.Strings.{char-bad}
 use Rattle.token.proofs.inner.openers.char_at.Statement.{statement}
 use Rattle.token.proofs.inner.openers.char_at.Tie as tie
 
@@ -44,12 +45,11 @@ enum-told : tie.Need-enum-told
 enum-told c = search needs
 
 returns-2 : tie.Need-returns-2
-unfolding charToken
 returns-2 c =
     let next-is = c .before .before .before .before .next-is in
     let if1 = c .before .before .before .if1 in
     let escape-at = c .before .before .escape-at in
-    rw (sym (next-is .ensures) ∙ if1 .taken, sym (escape-at .ensures) ∙ c .enum-told .given .1) (none _)
+    char-bad _ _ (sym (next-is .ensures) ∙ if1 .taken) (sym (escape-at .ensures) ∙ c .enum-told .given .1)
 
 char-at-requires : tie.Need-char-at-requires
 char-at-requires c κs = search needs
