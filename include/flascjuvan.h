@@ -37,7 +37,8 @@ enum flascjuvan_refusal {
     /* from flascjuvan_read and flascjuvan_next_token */
     FLASCJUVAN_REFUSED_TOO_LONG = 1, /* the text has over 65,536 bytes; place 0 */
     FLASCJUVAN_REFUSED_NOT_UTF8 = 2, /* the text is not UTF-8; where the first bad sequence starts */
-    FLASCJUVAN_REFUSED_NO_TOKEN = 3, /* no token can be made of what stands here; its first byte */
+    FLASCJUVAN_REFUSED_NO_TOKEN = 3, /* no token can be made of what stands here, or in a literal no escape; the bad
+                                        escape's backslash, otherwise the token's first byte */
 
     /* from flascjuvan_read alone */
     FLASCJUVAN_REFUSED_NOT_ALLOWED = 4, /* a token that isn't allowed here, or the text ends too early; the token, or

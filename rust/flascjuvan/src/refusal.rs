@@ -22,7 +22,9 @@ pub enum Reason {
     TooLong = 1,
     /// The text is not UTF-8. The place is where the first bad sequence starts.
     NotUtf8 = 2,
-    /// No token can be made of what stands here. The place is its first byte.
+    /// No token can be made of what stands here, or in a literal no escape. The place is the backslash of the bad
+    /// escape, the first that is met in that literal, and otherwise the token's first byte: also of a literal that isn't
+    /// closed, and of a character literal with the wrong number of characters.
     NoToken = 3,
     /// A token that isn't allowed here, or the text ends too early. The place is the token, or the text's length.
     NotAllowed = 4,
@@ -116,7 +118,7 @@ impl Reason {
         match self {
             Reason::TooLong => "the text has over 65,536 bytes",
             Reason::NotUtf8 => "the text is not UTF-8",
-            Reason::NoToken => "no token can be made of what stands here",
+            Reason::NoToken => "no token or escape can be made of what stands here",
             Reason::NotAllowed => "this token isn't allowed here, or the text ends too early",
             Reason::Over => "a repeat number over 4,294,967,295",
             Reason::Zero => "a repeat of exactly 0, or of at most 0",

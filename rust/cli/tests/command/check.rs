@@ -66,12 +66,23 @@ t:2:8: refused 2: the text is not UTF-8
 #[test]
 fn refusal_3() {
     let said = "\
-t:1:9: refused 3: no token can be made of what stands here
+t:1:9: refused 3: no token or escape can be made of what stands here
   |
 1 | a = { b % }
   |         ^
 ";
     assert_eq!(told("a = { b % }"), said);
+}
+
+#[test]
+fn refusal_3_in_a_long_string() {
+    let said = "\
+t:41:5: refused 3: no token or escape can be made of what stands here
+   |
+41 | end \\d\" }
+   |     ^
+";
+    assert_eq!(told(format!("a = {{ \"{}end \\d\" }}", "mm;\n".repeat(40))), said);
 }
 
 #[test]
@@ -154,7 +165,7 @@ fn refusal_13_is_for_plain_reading() {
 #[test]
 fn columns_count_characters_and_tabs_stay() {
     let said = "\
-t:1:12: refused 3: no token can be made of what stands here
+t:1:12: refused 3: no token or escape can be made of what stands here
   |
 1 | \ta = { \"糖Ö\"%
   | \t          ^
@@ -205,7 +216,7 @@ a:1:6: refused 4: the text ends too early
   |
 1 | a = {
   |      ^
-c:1:1: refused 3: no token can be made of what stands here
+c:1:1: refused 3: no token or escape can be made of what stands here
   |
 1 | %
   | ^

@@ -35,7 +35,7 @@ fn something_is_said_exactly_where_plain_reading_differs() {
 #[test]
 fn a_refused_text_drops_nothing() {
     let said = "\
-t:1:1: refused 3: no token can be made of what stands here
+t:1:1: refused 3: no token or escape can be made of what stands here
   |
 1 | #
   | ^

@@ -78,7 +78,7 @@ fn standard_input() {
 #[test]
 fn both_refusals_are_told() {
     let said = "\
-one:1:1: refused 3: no token can be made of what stands here
+one:1:1: refused 3: no token or escape can be made of what stands here
   |
 1 | %
   | ^

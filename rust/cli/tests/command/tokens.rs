@@ -63,7 +63,7 @@ fn a_text_that_is_no_grammar_has_tokens() {
 #[test]
 fn what_is_no_token_is_refused() {
     let said = "\
-t:1:3: refused 3: no token can be made of what stands here
+t:1:3: refused 3: no token or escape can be made of what stands here
   |
 1 | a %
   |   ^

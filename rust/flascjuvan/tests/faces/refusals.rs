@@ -1,6 +1,6 @@
 //! A text for each number that a reading can give, with its place; lines and columns; numbers and reasons.
 
-use flascjuvan::{line_column, print, raw, read, Expr, Grammar, Level, LineColumn, Reason, Refusal};
+use flascjuvan::{line_column, print, raw, read, tokens, Expr, Grammar, Level, LineColumn, Reason, Refusal};
 
 use crate::rule;
 
@@ -27,6 +27,38 @@ fn every_number_of_a_reading() {
     assert_eq!(refused(format!("a = {{ {}b }}", "!".repeat(4096)), t), (Reason::NodesRoom, 0));
     assert_eq!(refused("a={b}".repeat(1025), t), (Reason::RulesRoom, 0));
     assert_eq!(refused("a = { PUSH_LITERAL(\"x\") }", Level::Plain), (Reason::NotPlain, 6));
+}
+
+/// 3 in a literal: at the bad escape that is met first, and otherwise at the literal's first byte.
+#[test]
+fn bad_escapes_and_bad_literals() {
+    let at_backslash = [
+        (r"r={'\q'}", 4),
+        ("r={\"\\", 4),
+        ("r={\"\\x4", 4),
+        (r#"r={^"a\q"}"#, 6),
+        (r"r={'\", 4),
+        (r#"r={"a\qb\w"}"#, 5),
+        (r#"r={"ab\x4g cd"} ""#, 6),
+        ("r={\"a\nb\\\nc\"}", 7),
+        (r#"r = { "\u{1}" }"#, 7),
+        (r#"r={"µ\q"}"#, 6),
+    ];
+    let at_first_byte =
+        [(r"r={'a\q'}", 3), (r#"r={"abc"#, 3), (r"r={'\'}", 3), (r"r={'ab'}", 3), (r#"r={^"\u{d800}"#, 3)];
+    for (text, place) in at_backslash {
+        assert_eq!(text.as_bytes()[place], b'\\', "{text}");
+        assert_eq!(refused(text, Level::Tagged), (Reason::NoToken, place), "{text}");
+        assert_eq!(refused(text, Level::Plain), (Reason::NoToken, place), "{text}");
+        assert_eq!(tokens(text), Err(Refusal { reason: Reason::NoToken, place }), "{text}");
+    }
+    for (text, place) in at_first_byte {
+        assert_eq!(refused(text, Level::Tagged), (Reason::NoToken, place), "{text}");
+        assert_eq!(tokens(text), Err(Refusal { reason: Reason::NoToken, place }), "{text}");
+    }
+    let long = format!("a = {{ \"{}\\d\" }}", "mm;\n".repeat(40));
+    let refusal = read(&long, Level::Tagged).unwrap_err();
+    assert_eq!(refusal.line_column(&long), Some(LineColumn { line: 41, column: 1 }));
 }
 
 /// Numbers that only a caller who lends too little can meet.

@@ -56,10 +56,13 @@ The file was saved in another encoding. Save it as UTF-8, in the editor or by
         reason: Reason::NoToken,
         what: "\
 A text is made of tokens: the signs = { } [ ] ( ) & ! ~ | ? * + , @ $ and .., words,
-tags, numbers, strings, characters and docs. What begins here is none of them.",
+tags, numbers, strings, characters and docs. What begins here is none of them, or it is
+a string or a character with a bad escape: a backslash has to begin one of
+\\\" \\\\ \\r \\n \\t \\0 \\' \\x41 \\u{41}.",
         place: "\
-The first byte of what is no token. For a string, a character or a comment that is
-never closed, or a literal with a bad escape, that is where it opens.",
+The backslash of the bad escape, the first in its literal. Otherwise the first byte of
+what is no token: of a string, a character or a comment that is never closed, that is
+where it opens.",
         order: "After 1 and 2.",
         example: Example::Text(b"%", Level::Tagged),
         usual: "Look at the character above the caret, and at what it opens.",
