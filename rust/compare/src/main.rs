@@ -119,10 +119,53 @@ fn label<T>(answer: &Answer<T>) -> &'static str {
 }
 
 const OTHER_PLACE: &str = "at another place";
+const OTHER_PLACE_OF_3: &str = "at another place of that literal";
+
+/// How the Rust's place stands to ours where ours is 3, by what begins at the bad token. The Rust has no
+/// order of phases, so it may stop before that token.
+fn place_class_of_3(text: &[u8], at: usize, place: usize) -> &'static str {
+    let mut next = 0;
+    while let Next::Token(token) = second::token::next(text, next) {
+        next = token.end as usize;
+    }
+    let start = pest_blanks(text, next);
+    let opened = &text[start.min(text.len())..];
+    let is_string = opened.starts_with(b"\"") || opened.starts_with(b"^\"");
+    if at < start {
+        return "behind a comment that it takes for closed";
+    }
+    if place <= start {
+        return "not behind that token's first byte";
+    }
+    if is_string && at > start {
+        return if place == at { "in a string, at that backslash" } else { OTHER_PLACE_OF_3 };
+    }
+    if is_string {
+        return if place == text.len() {
+            "in a string, at the text's end"
+        } else {
+            OTHER_PLACE_OF_3
+        };
+    }
+    if opened.starts_with(b"'\\") && at > start {
+        return if place == at + 1 {
+            "in a character literal, behind that backslash"
+        } else {
+            OTHER_PLACE_OF_3
+        };
+    }
+    if opened.starts_with(b"'\\") && place <= start + 2 {
+        return OTHER_PLACE_OF_3;
+    }
+    "further on"
+}
 
 /// How the Rust's place of a refusal stands to ours.
 fn place_class(text: &[u8], ours: second::Refusal, place: usize) -> &'static str {
     let at = ours.place as usize;
+    if ours.number == 3 {
+        return place_class_of_3(text, at, place);
+    }
     if at == place {
         return "at the same place";
     }
@@ -175,10 +218,8 @@ fn hold(text: &str, tagged: bool, ways: &mut Tally, faults: &mut Tally) -> &'sta
         (&ours, &rust)
     {
         let how = place_class(bytes, *refusal, *place);
-        let stray = number == 3 && bytes.get(refusal.place as usize) == Some(&b'\\');
-        let at = if stray { " at a backslash" } else { "" };
-        ways.add(format!("{level}: ours {number}{at}, the Rust: {rust_label}, {how}"), bytes);
-        if how == OTHER_PLACE && matches!(number, 4 | 5 | 6 | 13) {
+        ways.add(format!("{level}: ours {number}, the Rust: {rust_label}, {how}"), bytes);
+        if how == OTHER_PLACE_OF_3 || how == OTHER_PLACE && matches!(number, 4 | 5 | 6 | 13) {
             faults.add(format!("{level}: ours {number}, the Rust: {how}"), bytes);
         }
     }
