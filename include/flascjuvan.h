@@ -1,22 +1,26 @@
-/* Flascjuvan: reading and printing of pest grammars, and running their rules over lines, for C and whatever calls C.
+/* Flascjuvan: reading and printing of pest grammars, their tokens as a text arrives, and running their rules over lines,
+ * for C and whatever calls C.
  *
- * Seven functions over lent memory. None of them allocates, keeps anything between calls, reads or writes a file, or
- * fails to return; any number of threads may call them at once. Each is proved to answer every input as the rules say
- * (crates/exports/src/lib.rt has the promises). What no proof can see is this side of the call, so see to it that
+ * Nine functions over lent memory. None of them allocates, keeps anything between calls (what there is to keep of a text
+ * that arrives, its caller keeps), reads or writes a file, or fails to return; any number of threads may call them at
+ * once. Each is proved to answer every input as the rules say (crates/exports/src/lib.rt has the promises). What no proof
+ * can see is this side of the call, so see to it that
  *
  *   - each pointer is aligned and points to as many elements as the length behind it says (elements, not bytes);
  *     with a length of 0 nothing is read or written, but the pointer should still not be null: lend any object;
- *   - `answer` points to as many numbers as its declaration says;
+ *   - `answer` and `state` point to as many numbers as their declarations say;
  *   - what is written (not const) overlaps nothing else that is lent to the same call, and no other thread touches it
  *     until the call returns;
  *   - 2 MB of stack are free (the most that was seen to be needed: 1,400 KB to read rules of 1,024 brackets inside one
  *     another, 1,440 KB to print tables 4,096 nodes deep, 326 KB to run a rule 1,024 visits deep).
  *
  * Every function writes all of `answer`. answer[0] is a number of enum flascjuvan_refusal, answer[1] its place. A place
- * counts bytes of the text from 0; an index counts records. After any number but 0 every lent buffer but `answer` is as
- * it was, and every count in `answer` is 0. After 0 only what is reported as used has changed. If several faults are
- * there, the reader gives the first of this order: 1; 2; 3; 4 and 9, the leftmost; 5, 6, 7, 8 and 13, the leftmost; 12;
- * 10; 11. The printers give the first of 20, 21, 22, 23; the functions that run rules the first of 30, 31, 32, 33, 34.
+ * counts bytes of the text from 0; an index counts records. After any number but 0 every lent buffer is as it was,
+ * but `answer`, in which every count is 0, and `state`, which holds the refusal. After 0 only what is reported as used
+ * has changed. If several faults are there, the reader gives the first of this order: 1; 2; 3; 4 and 9, the leftmost; 5,
+ * 6, 7, 8 and 13, the leftmost; 12; 10; 11. The printers give the first of 20, 21, 22, 23; the functions that run rules
+ * the first of 30, 31, 32, 33, 34. Of a text that arrives it is what shows first, and at one byte the first of 1, 2, 3,
+ * 14.
  *
  * examples/c has programs that use all of it.
  */
@@ -30,11 +34,11 @@
 extern "C" {
 #endif
 
-/* answer[0]. The numbers between 13 and 20, those between 23 and 30, and those above 34 are never given. */
+/* answer[0]. The numbers between 14 and 20, those between 23 and 30, and those above 34 are never given. */
 enum flascjuvan_refusal {
     FLASCJUVAN_DONE = 0, /* nothing is refused; place 0 */
 
-    /* from flascjuvan_read and flascjuvan_next_token */
+    /* from flascjuvan_read, flascjuvan_next_token, flascjuvan_feed and flascjuvan_feed_end */
     FLASCJUVAN_REFUSED_TOO_LONG = 1, /* the text has over 65,536 bytes; place 0 */
     FLASCJUVAN_REFUSED_NOT_UTF8 = 2, /* the text is not UTF-8; where the first bad sequence starts */
     FLASCJUVAN_REFUSED_NO_TOKEN = 3, /* no token can be made of what stands here, or in a literal no escape; the bad
@@ -52,6 +56,9 @@ enum flascjuvan_refusal {
     FLASCJUVAN_REFUSED_STORE_ROOM = 11, /* more store bytes than lent; place 0 */
     FLASCJUVAN_REFUSED_RULES_ROOM = 12, /* more rules than 1,024, or than whole records lent; place 0 */
     FLASCJUVAN_REFUSED_NOT_PLAIN = 13,  /* plain reading only: PUSH_LITERAL; the word */
+
+    /* from flascjuvan_feed and flascjuvan_feed_end */
+    FLASCJUVAN_REFUSED_LIST_ROOM = 14, /* a token that ends with the lent list full; its first byte */
 
     /* from flascjuvan_print and flascjuvan_print_short */
     FLASCJUVAN_REFUSED_SHAPE = 20,       /* a table that isn't whole records or has too many (4,096 nodes, 1,024 rules),
@@ -90,8 +97,13 @@ enum flascjuvan_answer {
     FLASCJUVAN_MATCH_STEPS = 4,
     FLASCJUVAN_LINES_RUN = 2,  /* of flascjuvan_match_lines: how many lines have a record */
     FLASCJUVAN_LINES_NEXT = 3, /* the place where the next line begins */
-    FLASCJUVAN_NAMED_RULE = 2  /* of flascjuvan_rule_named: the index of a rule record */
+    FLASCJUVAN_NAMED_RULE = 2,  /* of flascjuvan_rule_named: the index of a rule record */
+    FLASCJUVAN_FEED_RECORDS = 2 /* of flascjuvan_feed and flascjuvan_feed_end: records in the list */
 };
+
+/* Numbers in the record of a token that arrived: kind, start, end. And numbers of its stream's state. */
+#define FLASCJUVAN_TOKEN_RECORD 3
+#define FLASCJUVAN_STATE 10
 
 /* Numbers in the record of a line. */
 #define FLASCJUVAN_LINE_RECORD 5
@@ -104,6 +116,9 @@ enum flascjuvan_answer {
 #define FLASCJUVAN_NODES (4096 * FLASCJUVAN_RECORD)
 #define FLASCJUVAN_RULES (1024 * FLASCJUVAN_RECORD)
 #define FLASCJUVAN_TEXT 65536
+
+/* The most numbers of a list of tokens: a token has a byte at least. With such a list 14 is never given. */
+#define FLASCJUVAN_LIST (FLASCJUVAN_TEXT * FLASCJUVAN_TOKEN_RECORD)
 
 /* Where the numbers of a node record stand. Start and end are the bytes of the text that the node spans; the end is the
  * byte after the last. */
@@ -302,6 +317,35 @@ void flascjuvan_rule_named(const uint32_t *nodes, size_t nodes_len,
                            const uint8_t *store, size_t store_len,
                            const uint8_t *name, size_t name_len,
                            uint64_t answer[3]);
+
+/* Feeds a packet of a text to its stream: its next bytes, any number of them, cut anywhere, inside a character too. The
+ * tokens whose end is known now are put into the list, behind those of the calls before. A record has three numbers:
+ * kind, start, end. Start and end count from the text's first byte.
+ *
+ * state: what is kept of the stream between calls. All zeros is a stream of which nothing has come. What the numbers are
+ * is the library's own. Any are answered: those that don't fit one another as if they were zeros.
+ * list: lend the same one to every call of a text, or a longer one with the records so far at its front. Whole records
+ * count. FLASCJUVAN_LIST numbers are enough for any text.
+ *
+ * A refusal shows at the first byte after which no continuation of the text would be free of it. So a faulty text is
+ * refused as early as can be; where a token could still become good, or a sequence whole, nothing shows yet. 3 doesn't
+ * wait for a character to be whole, so a text that is not UTF-8 may get 3 here and 2 from flascjuvan_read. 14 shows where
+ * the end of the token is known: at the byte after a word, a tag or a number, at the last byte of most others.
+ *
+ * A refused call leaves the list as it found it, without the tokens of its packet before the fault. Every later call with
+ * that state answers the refusal again; put zeros there to begin anew.
+ *
+ * answer: number (0, 1, 2, 3 or 14), place, records in the list (0 if refused). */
+void flascjuvan_feed(uint64_t state[10],
+                     const uint8_t *packet, size_t packet_len,
+                     uint32_t *list, size_t list_len,
+                     uint64_t answer[3]);
+
+/* Ends a stream's text, and puts the token that stood at its end into the list. What was open is refused now: an open
+ * string by 3, a character that is cut by 2. After a good end the state is all zeros, for the next text.
+ *
+ * answer: number (0, 2, 3 or 14; 1 if it is repeated), place, records in the list (0 if refused). */
+void flascjuvan_feed_end(uint64_t state[10], uint32_t *list, size_t list_len, uint64_t answer[3]);
 
 #ifdef __cplusplus
 }

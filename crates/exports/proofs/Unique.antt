@@ -11,7 +11,8 @@ use Rattle.token.specs.Lister.{lister}
 use Rattle.matcher.specs.Answers as Match
 use Rattle.matcher.specs.Lines.{fields, linesOf, recordsOf, tallied}
 use Rattle.matcher.specs.Sought.{foundOf, finding}
-use Rattle.exports.specs.Numbers.{levelOf, readNumbers, printNumbers, tokenNumbers, tallyNumbers, findingNumbers}
+use Rattle.stream.specs.Feed.{feedOf, feedIn, endOf, endIn}
+use Rattle.exports.specs.Numbers.{levelOf, readNumbers, printNumbers, tokenNumbers, tallyNumbers, findingNumbers, callNumbers, feedNumbers, feedFrom}
 
 -- flascjuvan_read: the answer, and what the three buffers hold
 pub record Read (s : List ℕ) (tagged : ℕ) (ns rs st answer ns′ rs′ st′ : List ℕ) : Type 0 where
@@ -53,3 +54,21 @@ match-lines-unique v u = (v .answered ∙ sym (u .answered), v .written ∙ sym 
 pub rule-named-unique : (ns rs st name : List ℕ) {a b : List ℕ} → a ≡ findingNumbers (finding (foundOf ns rs st name))
     → b ≡ findingNumbers (finding (foundOf ns rs st name)) → a ≡ b
 rule-named-unique ns rs st name v u = v ∙ sym u
+
+-- flascjuvan_feed: the answer, what is kept of the stream, and what the list holds
+pub record Fed (state packet o answer state′ o′ : List ℕ) : Type 0 where
+  pub answered : answer ≡ callNumbers (feedOf (feedFrom state) packet o)
+  pub kept : state′ ≡ feedNumbers (feedOf (feedFrom state) packet o .next)
+  pub held : o′ ≡ feedIn (feedFrom state) packet o
+
+pub feed-unique : {state packet o a b c x y z : List ℕ} → Fed state packet o a b c → Fed state packet o x y z → (a ≡ x) × (b ≡ y) × (c ≡ z)
+feed-unique v u = (v .answered ∙ sym (u .answered), v .kept ∙ sym (u .kept), v .held ∙ sym (u .held))
+
+-- flascjuvan_feed_end: the same
+pub record Ended (state o answer state′ o′ : List ℕ) : Type 0 where
+  pub answered : answer ≡ callNumbers (endOf (feedFrom state) o)
+  pub kept : state′ ≡ feedNumbers (endOf (feedFrom state) o .next)
+  pub held : o′ ≡ endIn (feedFrom state) o
+
+pub feed-end-unique : {state o a b c x y z : List ℕ} → Ended state o a b c → Ended state o x y z → (a ≡ x) × (b ≡ y) × (c ≡ z)
+feed-end-unique v u = (v .answered ∙ sym (u .answered), v .kept ∙ sym (u .kept), v .held ∙ sym (u .held))

@@ -1,7 +1,9 @@
--- The answers as the numbers that are put into a caller's array, in their order; and the number that names a level.
+-- The answers as the numbers that are put into a caller's array, in their order; the number that names a level; and a stream that a caller
+-- keeps in an array.
 use Prim.Native.Nat.{ℕ}
 use mathlib.Core.List.{List, [], _∷_}
 use lib.Dec.{eqb}
+use lib.ListN.{getD}
 use Rattle.text.specs.Choice.{choose}
 use Rattle.structure.specs.declared.Level.{Level}
 use Rattle.structure.specs.declared.Level.the-variants.{Tagged, Plain}
@@ -10,6 +12,8 @@ use Rattle.token.specs.Lister.{Numbers}
 use Rattle.printer.specs.Answers.{Numbered}
 use Rattle.matcher.specs.declared.Tally.{Tally}
 use Rattle.matcher.specs.declared.Finding.{Finding}
+use Rattle.stream.specs.declared.Feed.{Feed}
+use Rattle.stream.specs.declared.Call.{Call}
 
 -- 0 is plain, every other number is tagged
 unfoldable pub levelOf : ℕ → Level
@@ -34,3 +38,27 @@ tallyNumbers t = t .number ∷ t .place ∷ t .lines ∷ t .next ∷ []
 -- number, place, the rule's index
 abbrev pub findingNumbers : Finding → List ℕ
 findingNumbers f = f .number ∷ f .place ∷ f .rule ∷ []
+
+-- number, place, records
+abbrev pub callNumbers : Call → List ℕ
+callNumbers c = c .number ∷ c .place ∷ c .records ∷ []
+
+-- what is kept of a stream: ten numbers
+abbrev pub feedNumbers : Feed → List ℕ
+feedNumbers f =
+    f .state ∷ f .start ∷ f .seen ∷ f .backslash ∷ f .kind ∷ f .depth ∷ f .utf ∷ f .sequence ∷ f .count ∷ f .number ∷ []
+
+abbrev pub feedFrom : List ℕ → Feed
+feedFrom ns =
+    record {
+      state = getD ns 0 0;
+      start = getD ns 1 0;
+      seen = getD ns 2 0;
+      backslash = getD ns 3 0;
+      kind = getD ns 4 0;
+      depth = getD ns 5 0;
+      utf = getD ns 6 0;
+      sequence = getD ns 7 0;
+      count = getD ns 8 0;
+      number = getD ns 9 0;
+    }

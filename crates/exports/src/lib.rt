@@ -1,4 +1,5 @@
-// The C interface: reading, printing, listing tokens and matching lines, on numbers and slices.
+// The C interface: reading, printing, listing tokens, tokens as they arrive and matching lines, on numbers
+// and slices.
 //
 // Each function answers every input and asks nothing of its caller but memory that is as the types
 // say. include/flascjuvan.h declares them for C.
@@ -8,6 +9,8 @@ use matcher::Tally;
 use printer::Printed;
 use printer::Style;
 use reader::Reading;
+use stream::Call;
+use stream::Feed;
 use structure::Level;
 use token::Listed;
 ghost use mathlib.Core.Path.{_≡_};
@@ -22,7 +25,8 @@ ghost use Rattle.matcher.specs.Answers.{matchOf};
 ghost use Rattle.matcher.specs.Answers.{numbered as lineNumbered};
 ghost use Rattle.matcher.specs.Lines.{fields, linesOf, recordsOf, tallied};
 ghost use Rattle.matcher.specs.Sought.{foundOf, finding};
-ghost use Rattle.exports.specs.Numbers.{levelOf, readNumbers, printNumbers, tokenNumbers, tallyNumbers, findingNumbers};
+ghost use Rattle.stream.specs.Feed.{feedOf, feedIn, endOf, endIn};
+ghost use Rattle.exports.specs.Numbers.{levelOf, readNumbers, printNumbers, tokenNumbers, tallyNumbers, findingNumbers, callNumbers, feedNumbers, feedFrom};
 
 // The level that a number names: 0 is plain, every other is tagged.
 fn level_of(tagged: u32) -> Level
@@ -102,6 +106,49 @@ fn finding_numbers(finding: Finding) -> [u64; 3]
     ensures { λ r. ⌜ r ≡ findingNumbers finding ⌝ }
 {
     [finding.number, finding.place, finding.rule]
+}
+
+// What a stream answers to a packet or the end, in numbers.
+fn call_numbers(call: Call) -> [u64; 3]
+    ensures { λ r. ⌜ r ≡ callNumbers call ⌝ }
+{
+    [call.number as u64, call.place as u64, call.records as u64]
+}
+
+// What is kept of a stream, in numbers.
+fn feed_numbers(feed: Feed) -> [u64; 10]
+    ensures { λ r. ⌜ r ≡ feedNumbers feed ⌝ }
+{
+    [
+        feed.state as u64,
+        feed.start as u64,
+        feed.seen as u64,
+        feed.backslash as u64,
+        feed.kind as u64,
+        feed.depth as u64,
+        feed.utf as u64,
+        feed.sequence as u64,
+        feed.count as u64,
+        feed.number as u64,
+    ]
+}
+
+// The stream of which such numbers were kept.
+fn feed_from(state: &[u64; 10]) -> Feed
+    ensures { λ r. ⌜ r ≡ feedFrom (now (state .entry)) ⌝ }
+{
+    Feed {
+        state: state[0] as usize,
+        start: state[1] as usize,
+        seen: state[2] as usize,
+        backslash: state[3] as usize,
+        kind: state[4] as usize,
+        depth: state[5] as usize,
+        utf: state[6] as usize,
+        sequence: state[7] as usize,
+        count: state[8] as usize,
+        number: state[9] as usize,
+    }
 }
 
 // Reads a text into the fronts of three buffers. The answer: number, place, nodes, rules, store bytes.
@@ -227,4 +274,38 @@ pub extern "C" fn flascjuvan_rule_named(
 {
     let found = matcher::rule_named(nodes, rules, store, name);
     *answer = finding_numbers(matcher::finding_of(found));
+}
+
+// Feeds a packet to a stream, and puts the tokens whose end is known behind the list's records. All zeros is a
+// fresh stream. The answer: number, place, records in the list.
+#[no_mangle]
+pub extern "C" fn flascjuvan_feed(
+    state: &mut [u64; 10],
+    packet: &[u8],
+    list: &mut [u32],
+    answer: &mut [u64; 3],
+)
+    ensures answered { λ _. ⌜ now (answer .exit) ≡ callNumbers (feedOf (feedFrom (now (state .entry))) (now (packet .entry)) (now (list .entry))) ⌝ }
+    ensures kept { λ _. ⌜ now (state .exit) ≡ feedNumbers (feedOf (feedFrom (now (state .entry))) (now (packet .entry)) (now (list .entry)) .next) ⌝ }
+    ensures held { λ _. ⌜ now (list .exit) ≡ feedIn (feedFrom (now (state .entry))) (now (packet .entry)) (now (list .entry)) ⌝ }
+{
+    let call = stream::feed_packet(feed_from(state), packet, list);
+    *state = feed_numbers(call.next);
+    *answer = call_numbers(call);
+}
+
+// Ends a stream's text. After a good end the stream is fresh. The answer: as above.
+#[no_mangle]
+pub extern "C" fn flascjuvan_feed_end(
+    state: &mut [u64; 10],
+    list: &mut [u32],
+    answer: &mut [u64; 3],
+)
+    ensures answered { λ _. ⌜ now (answer .exit) ≡ callNumbers (endOf (feedFrom (now (state .entry))) (now (list .entry))) ⌝ }
+    ensures kept { λ _. ⌜ now (state .exit) ≡ feedNumbers (endOf (feedFrom (now (state .entry))) (now (list .entry)) .next) ⌝ }
+    ensures held { λ _. ⌜ now (list .exit) ≡ endIn (feedFrom (now (state .entry))) (now (list .entry)) ⌝ }
+{
+    let call = stream::feed_end(feed_from(state), list);
+    *state = feed_numbers(call.next);
+    *answer = call_numbers(call);
 }

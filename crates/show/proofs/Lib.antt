@@ -6,4 +6,5 @@ pub mod Shows
 pub mod Records
 pub mod Layouts
 pub mod Blocks
+pub mod Listings
 pub mod Unique

@@ -16,6 +16,7 @@ use Rattle.show.specs.Desk.{deskOf, deskIn}
 use Rattle.show.specs.Layout.{layoutOf}
 use Rattle.show.specs.Rows.{rowPut, rowIn}
 use Rattle.show.specs.Block.{blockOf, blockIn, wholeSize}
+use Rattle.show.specs.Tokens.{tokensPut, tokensIn}
 
 -- refusal: the answer, and what the output holds
 pub record Line (n p : ℕ) (o : List ℕ) (r : Put) (o′ : List ℕ) : Type 0 where
@@ -69,3 +70,13 @@ read-layout-unique v u =
     let x = v .tables in
     let y = u .tables in
     (v .answered ∙ sym (u .answered), x .nodes ∙ sym (y .nodes), x .rules ∙ sym (y .rules), x .store ∙ sym (y .store))
+
+-- token_lines: the answer, and what the output holds
+pub record TokenLines (ts o : List ℕ) (r : Put) (o′ : List ℕ) : Type 0 where
+  pub answered : r ≡ tokensPut ts (length o)
+  pub written : o′ ≡ tokensIn ts o r
+
+pub token-lines-unique : {ts o : List ℕ} {r t : Put} {a b : List ℕ} → TokenLines ts o r a → TokenLines ts o t b → (r ≡ t) × (a ≡ b)
+token-lines-unique {ts} {o} v u =
+    let e = v .answered ∙ sym (u .answered) in
+    (e, v .written ∙ (ap (tokensIn ts o) e ∙ sym (u .written)))

@@ -5,3 +5,4 @@ pub mod Desk
 pub mod Rows
 pub mod Block
 pub mod Layout
+pub mod Tokens

@@ -2,6 +2,7 @@
 // output that it is lent. They ask nothing of their callers.
 mod line;
 mod row;
+mod tokens;
 
 use matcher::Found;
 use matcher::Lines;
@@ -11,7 +12,7 @@ use text::Put;
 ghost use mathlib.Core.Path.{_≡_};
 ghost use lib.ListN.{length};
 ghost use Rattle.show.specs.Line.{refusalPut, refusalIn};
-ghost use Rattle.show.specs.Shown.{refusedBy};
+ghost use Rattle.show.specs.Shown.{PutFits, refusedBy};
 ghost use Rattle.show.specs.Desk.{answerOf, answerIn, deskOf, deskIn};
 ghost use Rattle.structure.specs.declared.Level.the-variants.{Tagged};
 ghost use Rattle.reader.specs.Read.{roomForNodes, roomForRules, readOf, Leaves};
@@ -19,6 +20,7 @@ ghost use Rattle.matcher.specs.Answers.{numbered};
 ghost use Rattle.show.specs.Layout.{refusedLayout, layoutOf};
 ghost use Rattle.show.specs.Rows.{rowPut, rowIn};
 ghost use Rattle.show.specs.Block.{refusedBlock, blockOf, blockIn, Inside, wholeSize};
+ghost use Rattle.show.specs.Tokens.{tokensPut, tokensIn};
 
 // The bytes of a text or of a refusal's line; or not even the line has room.
 pub enum Shown {
@@ -257,4 +259,18 @@ pub fn read_layout(
         Found::FalseTables => refused_layout(matcher::Answer::FalseTables),
         Found::NoRule => Layout::NoRule,
     }
+}
+
+// Writes a line for each whole record of a list of tokens: `KIND START END`. An output of 33 bytes for each
+// is enough; a smaller one has no room.
+pub fn token_lines(list: &[u32], out: &mut [u8]) -> Put
+    ensures answered { λ r. ⌜ r ≡ tokensPut (now (list .entry)) (length (now (out .entry))) ⌝ }
+    ensures written { λ r. ⌜ now (out .exit) ≡ tokensIn (now (list .entry)) (now (out .entry)) r ⌝ }
+    ensures inside { λ r. ⌜ PutFits r (length (now (out .entry))) ⌝ }
+{
+    let k = list.len() / 3;
+    if out.len() / 33 < k {
+        return Put::NoRoom;
+    }
+    Put::Wrote(tokens::put_tokens(list, k, out))
 }

@@ -1,6 +1,6 @@
 // The token at a place, and all tokens of a text. The table of classes is lent.
 mod blanks;
-mod openers;
+pub mod openers;
 mod runs;
 
 use crate::Filled;

@@ -1,5 +1,5 @@
 //! The comparison. `--seed N` (default 1); `--scale N`, hundredths of the full run (default
-//! 100); `--only PART`: texts, tables, characters (the Rust and the second program), reader, printer,
+//! 100); `--only PART`: texts, tables, characters (the Rust and the second program), reader, stream, printer,
 //! matcher (the product and the second program). Ends with 1 if anything is different and not explained.
 
 use std::collections::BTreeMap;
@@ -381,6 +381,7 @@ mod linked {
     use super::{texts, Source};
     use compare::printing::Style;
     use compare::{product, tables, Random};
+    use second::arrive;
 
     pub use compare::matching::compare as matcher;
 
@@ -422,6 +423,30 @@ mod linked {
         differences.0 == 0
     }
 
+    /// Tokens as they arrive: short texts, texts around a broken literal, and long ones, cut at random.
+    pub fn stream(seed: u64, scale: usize) -> bool {
+        let mut random = Random(seed ^ 0xfeed);
+        let mut differences = Differences::default();
+        let (mut calls, mut by_number) = (0u64, [0u64; 15]);
+        let mut hold = |made: &arrive::Arrival| match product::check_arrival(made, &mut calls) {
+            Ok(number) => by_number[number as usize] += 1,
+            Err(difference) => differences.note(Err(difference)),
+        };
+        for i in 0..10_000 * scale {
+            let mut below = |n| random.below(n);
+            hold(&arrive::short(&mut below));
+            if i % 2 == 0 {
+                let text = second::broken::text(&mut below).text;
+                hold(&arrive::cut(text, &mut below));
+            }
+            if i % 10_000 == 0 {
+                hold(&arrive::long(&mut below));
+            }
+        }
+        println!("\nproduct and second program: {} texts as they arrive, in {calls} calls; by number of the answer: {by_number:?}; {} different", by_number.iter().sum::<u64>(), differences.0);
+        differences.0 == 0
+    }
+
     /// The printer, both its texts; and the reader over the short ones.
     pub fn printer(seed: u64, scale: usize) -> bool {
         let (mut count, mut trees, mut prints, mut reads) = (0u64, 0u64, 0u64, 0u64);
@@ -450,6 +475,10 @@ mod linked {
         is_not("reader")
     }
 
+    pub fn stream(_: u64, _: usize) -> bool {
+        is_not("stream")
+    }
+
     pub fn printer(_: u64, _: usize) -> bool {
         is_not("printer")
     }
@@ -463,12 +492,13 @@ fn main() {
     let (seed, scale) = (argument("--seed", 1), argument("--scale", 100) as usize);
     println!("seed {seed}, scale {scale} of 100");
     quiet_panics();
-    let parts: [(&str, usize, Box<dyn Fn() -> bool + Send + Sync>); 6] = [
+    let parts: [(&str, usize, Box<dyn Fn() -> bool + Send + Sync>); 7] = [
         ("texts", 4 << 30, Box::new(move || compare_texts(seed, scale))),
         ("tables", 1 << 30, Box::new(move || printing::compare(seed, scale))),
         ("characters", 8 << 20, Box::new(compare_characters)),
         // The product gets the stack that a program has.
         ("reader", 8 << 20, Box::new(move || linked::reader(seed, scale))),
+        ("stream", 8 << 20, Box::new(move || linked::stream(seed, scale))),
         ("printer", 8 << 20, Box::new(move || linked::printer(seed, scale))),
         ("matcher", 8 << 20, Box::new(move || linked::matcher(seed, scale))),
     ];

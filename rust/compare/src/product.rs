@@ -2,9 +2,11 @@
 
 use crate::printing::{is_small, without_pairs, Style};
 use crate::shown;
-use flascjuvan::raw::{next_token, print_short};
+use flascjuvan::raw::{feed, feed_end, next_token, print_short};
 use oracle::Tables;
+use second::arrive::Arrival;
 use second::read::Used;
+use second::stream::Feed;
 use second::{read, Refusal};
 
 /// As they are, for measuring: into buffers of the caller's.
@@ -187,4 +189,41 @@ pub fn check_short(tables: &Tables, calls: &mut u64) -> Result<(), Difference> {
         check_read(&less, true, true, calls)?;
     }
     Ok(())
+}
+
+/// A text as it arrives: every call's answer and the whole list after it, over one state, and two calls more,
+/// which repeat a refusal or find a fresh state.
+pub fn check_arrival(made: &Arrival, calls: &mut u64) -> Result<u64, Difference> {
+    let most = made.lists.iter().copied().max().unwrap_or(0);
+    let (mut list, mut wanted_list) = (Lent::new(most, NUMBER), vec![NUMBER; most]);
+    let (mut state, mut wanted_state) = ([0; 10], Feed::default());
+    let mut shown_number = 0;
+    let packets = made.packets().map(Some).chain([None, Some(&b"a="[..]), None]);
+    for (call, packet) in packets.enumerate() {
+        let length = *made.lists.get(call).unwrap_or(&most);
+        let (lent, wanted_lent) = (&mut list.lent()[..length], &mut wanted_list[..length]);
+        let (answer, wanted) = match packet {
+            Some(packet) => {
+                (feed(&mut state, packet, lent), wanted_state.feed(packet, wanted_lent))
+            }
+            None => (feed_end(&mut state, lent), wanted_state.end(wanted_lent)),
+        };
+        *calls += 1;
+        let wanted = [wanted.number, wanted.place, wanted.count as u64];
+        if answer != wanted || !list.holds(&wanted_list, NUMBER) {
+            return Err(format!(
+                "call {call} of {:?} {:?}: {answer:?} for {wanted:?}: {}",
+                made.ends,
+                made.lists,
+                shown(&made.text)
+            ));
+        }
+        if call <= made.ends.len() {
+            shown_number = answer[0];
+        }
+        if packet.is_none() && answer[0] == 0 && state != [0; 10] {
+            return Err(format!("a good end leaves {state:?}: {}", shown(&made.text)));
+        }
+    }
+    Ok(shown_number)
 }

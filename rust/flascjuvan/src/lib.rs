@@ -3,7 +3,7 @@
 //! The work is done by a library in Rattle, a language in which every function is proved to meet its contract. This
 //! crate is its safe face: [`read`] a text into a [`Grammar`], look at its [`Rule`]s as trees under pest's names, edit
 //! them, [`print`](fn@print) them back with every bracket or [with the fewest](print_short), run one
-//! [over lines](Grammar::match_lines).
+//! [over lines](Grammar::match_lines). A text that comes in packets gives its tokens [as it arrives](TokenFeed).
 //!
 //! ```
 //! use flascjuvan::{Expr, Grammar, Reason};
@@ -64,6 +64,7 @@
 #[doc = include_str!("../README.md")]
 struct Readme;
 
+mod arriving;
 mod ast;
 mod grammar;
 mod literal;
@@ -77,6 +78,7 @@ mod same;
 mod shape;
 mod token;
 
+pub use arriving::{Arriving, Failure, TokenFeed};
 pub use ast::{Expr, ExprTopDownIterator, Rule, RuleType};
 pub use grammar::Grammar;
 pub use matching::{Line, Lines, Matcher, Run};
@@ -197,7 +199,7 @@ fn printed_by(printer: RawPrinter, grammar: &Grammar) -> Result<String, Refusal>
     }
 }
 
-/// All tokens of a text, blanks and comments left out.
+/// All tokens of a text, blanks and comments left out. [`TokenFeed`] gives those of a text that comes in packets.
 ///
 /// ```
 /// use flascjuvan::{tokens, Reason, TokenKind};

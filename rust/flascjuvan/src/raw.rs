@@ -81,6 +81,15 @@ extern "C" {
         name_len: usize,
         answer: *mut u64,
     );
+    fn flascjuvan_feed(
+        state: *mut u64,
+        packet: *const u8,
+        packet_len: usize,
+        list: *mut u32,
+        list_len: usize,
+        answer: *mut u64,
+    );
+    fn flascjuvan_feed_end(state: *mut u64, list: *mut u32, list_len: usize, answer: *mut u64);
 }
 
 /// Reads a text into the fronts of the lent buffers. Number, place, nodes, rules, store bytes.
@@ -265,5 +274,46 @@ pub fn rule_named(nodes: &[u32], rules: &[u32], store: &[u8], name: &[u8]) -> [u
             answer.as_mut_ptr(),
         );
     }
+    answer
+}
+
+/// Feeds a packet to a stream, which all zeros begin, and puts the tokens whose end is known behind the records that
+/// stand in the list: kind, start, end of each. Number, place, records in the list.
+///
+/// ```
+/// let (mut state, mut list) = ([0; 10], [0; 6]);
+/// assert_eq!(flascjuvan::raw::feed(&mut state, b"ab", &mut list), [0, 0, 0]);
+/// assert_eq!(flascjuvan::raw::feed(&mut state, b"c=", &mut list), [0, 0, 2]);
+/// assert_eq!(list, [18, 0, 3, 1, 3, 4]);
+/// assert_eq!(flascjuvan::raw::feed(&mut state, b" {", &mut list), [14, 5, 0]);
+/// ```
+pub fn feed(state: &mut [u64; 10], packet: &[u8], list: &mut [u32]) -> [u64; 3] {
+    let mut answer = [u64::MAX; 3];
+    // SAFETY: as in `read`; the state has ten numbers, the answer three.
+    unsafe {
+        flascjuvan_feed(
+            state.as_mut_ptr(),
+            packet.as_ptr(),
+            packet.len(),
+            list.as_mut_ptr(),
+            list.len(),
+            answer.as_mut_ptr(),
+        );
+    }
+    answer
+}
+
+/// Ends a stream's text. After a good end the state is all zeros. Number, place, records in the list.
+///
+/// ```
+/// let (mut state, mut list) = ([0; 10], [0; 3]);
+/// assert_eq!(flascjuvan::raw::feed(&mut state, b"abc", &mut list), [0, 0, 0]);
+/// assert_eq!(flascjuvan::raw::feed_end(&mut state, &mut list), [0, 0, 1]);
+/// assert_eq!((list, state), ([18, 0, 3], [0; 10]));
+/// ```
+pub fn feed_end(state: &mut [u64; 10], list: &mut [u32]) -> [u64; 3] {
+    let mut answer = [u64::MAX; 3];
+    // SAFETY: as in `feed`.
+    unsafe { flascjuvan_feed_end(state.as_mut_ptr(), list.as_mut_ptr(), list.len(), answer.as_mut_ptr()) };
     answer
 }

@@ -1,17 +1,18 @@
-//! Why nothing was read, printed or matched.
+//! Why nothing was read, printed, given or matched.
 
 use std::fmt;
 
 use crate::{line_column, LineColumn};
 
-/// Why a text was not read, tables were not printed, or a line was not run. Its number is the C interface's.
+/// Why a text was not read, tables were not printed, a packet gave no tokens, or a line was not run. Its number is the C
+/// interface's.
 ///
 /// ```
 /// use flascjuvan::Reason;
 ///
 /// assert_eq!(Reason::TooDeep.number(), 9);
 /// assert_eq!(Reason::from_number(9), Some(Reason::TooDeep));
-/// assert_eq!(Reason::from_number(14), None);
+/// assert_eq!(Reason::from_number(15), None);
 /// assert_eq!(Reason::TooDeep.to_string(), "a ( that would make 1,025 open at once");
 /// ```
 #[derive(Clone, Copy, Debug, Eq, Hash, PartialEq)]
@@ -47,6 +48,9 @@ pub enum Reason {
     RulesRoom = 12,
     /// PUSH_LITERAL, which [`Level::Plain`](crate::Level::Plain) has not. The place is the word.
     NotPlain = 13,
+    /// A token of a text that arrives ends, and the lent list is full: never from [`TokenFeed`](crate::TokenFeed), which
+    /// lends enough. The place is the token's first byte.
+    ListRoom = 14,
     /// Tables that are too large to print: over [`MAX_NODES`](crate::MAX_NODES), [`MAX_RULES`](crate::MAX_RULES), or
     /// [`MAX_TEXT`](crate::MAX_TEXT) bytes of names and strings; through [`raw`](crate::raw) also tables that aren't
     /// whole records. The place is 0.
@@ -92,6 +96,7 @@ impl Reason {
         Reason::StoreRoom,
         Reason::RulesRoom,
         Reason::NotPlain,
+        Reason::ListRoom,
         Reason::Shape,
         Reason::Node,
         Reason::Rule,
@@ -103,7 +108,8 @@ impl Reason {
         Reason::Overrun,
     ];
 
-    /// Its number: 1 to 13 from reading (1 to 3 from listing tokens too), 20 to 23 from printing, 30 to 34 from matching.
+    /// Its number: 1 to 13 from reading (1 to 3 from listing tokens and from tokens as they arrive too), 14 from tokens as
+    /// they arrive, 20 to 23 from printing, 30 to 34 from matching.
     pub fn number(self) -> u64 {
         self as u64
     }
@@ -129,6 +135,7 @@ impl Reason {
             Reason::StoreRoom => "no room for names and strings",
             Reason::RulesRoom => "more than 1,024 rules",
             Reason::NotPlain => "PUSH_LITERAL, which plain reading has not",
+            Reason::ListRoom => "no room for a token in the lent list",
             Reason::Shape => "tables that are too large to print",
             Reason::Node => {
                 "a node that can't be printed: a name or a tag that is no word, or a name that begins with PUSH"
@@ -159,7 +166,7 @@ impl fmt::Display for Reason {
     }
 }
 
-/// Why nothing was read, printed or matched, and where.
+/// Why nothing was read, printed, given or matched, and where.
 ///
 /// As text it is the desk's line, `refused N at P`; [`meaning`](Refusal::meaning) says it in words.
 ///
@@ -236,8 +243,8 @@ mod tests {
     }
 
     #[test]
-    #[should_panic(expected = "libflascjuvan answered 14, which this crate doesn't know")]
+    #[should_panic(expected = "libflascjuvan answered 15, which this crate doesn't know")]
     fn an_unknown_number_is_told() {
-        let _ = judged(14, 3);
+        let _ = judged(15, 3);
     }
 }

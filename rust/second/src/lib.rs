@@ -1,11 +1,14 @@
-//! A second reader, printer, token lister and line matcher, written from docs' rules alone and
-//! with nothing of the product's or of pest's: what it answers can be held beside both.
+//! A second reader, printer, token lister (of whole texts and of packets) and line matcher, written
+//! from docs' rules alone and with nothing of the product's or of pest's: what it answers can be
+//! held beside both.
 
+pub mod arrive;
 pub mod brackets;
 pub mod broken;
 pub mod matching;
 pub mod print;
 pub mod read;
+pub mod stream;
 pub mod token;
 
 /// The longest text, and the longest store that prints.

@@ -251,7 +251,7 @@ pub(crate) fn opener_at(t: &[u8; 256], s: &[u8], at: usize, b: u8) -> Token
 }
 
 // The kind of a one-byte token.
-pub(crate) fn one_kind(b: u8) -> u8
+pub fn one_kind(b: u8) -> u8
     ensures { λ r. ⌜ r ≡ oneKind b ⌝ }
 {
     match b {

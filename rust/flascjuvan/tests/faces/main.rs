@@ -1,5 +1,6 @@
 //! The crate as a user meets it, a module to each part of its face.
 
+mod arriving;
 mod differences;
 mod limits;
 mod literals;

@@ -44,6 +44,8 @@ enum Example {
     Made(&'static str, fn() -> Vec<u8>),
     /// a text that is read with room for one node, one rule and one byte of names and strings
     Lent(&'static str),
+    /// a text that arrives, with no room in the list of its tokens
+    Fed(&'static str),
     /// tables that are printed with room for so many bytes
     Tables { nodes: &'static [u32], rules: &'static [u32], store: &'static str, room: usize },
     /// tables whose first rule is run over an empty line
@@ -170,6 +172,10 @@ impl Example {
                 let answer = raw::read(text.as_bytes(), true, &mut [0; 6], &mut [0; 6], &mut [0]);
                 Answer(answer[0], answer[1])
             }
+            Example::Fed(text) => {
+                let answer = raw::feed(&mut [0; 10], text.as_bytes(), &mut []);
+                Answer(answer[0], answer[1])
+            }
             Example::Tables { nodes, rules, store, room } => {
                 let answer = raw::print(nodes, rules, store.as_bytes(), &mut vec![0; *room]);
                 Answer(answer[0], answer[1])
@@ -193,6 +199,7 @@ impl Example {
             Example::Lent(text) => {
                 format!("{text}\nread with room for 1 byte of names and strings: {answer}")
             }
+            Example::Fed(text) => format!("{text}\nfed with a list without room: {answer}"),
             Example::Tables { nodes, rules, store, room } => {
                 let tables = format!("nodes {nodes:?}, rules {rules:?}, store {store:?}");
                 format!("{tables}\nprinted with room for {room} bytes: {answer}")
@@ -232,6 +239,7 @@ mod tests {
         (11, 0, &[]),
         (12, 0, &[]),
         (13, 3, &[]),
+        (14, 0, &[]),
         (20, 0, &[]),
         (21, 0, &[]),
         (22, 0, &[]),

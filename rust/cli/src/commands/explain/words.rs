@@ -324,6 +324,20 @@ that a desk without tags refuses, and the tags that it drops without a word.",
         slips: &[],
     },
     Explanation {
+        reason: Reason::ListRoom,
+        what: "\
+A text comes in packets, one of its tokens ends, and the list that was lent for them is
+full.",
+        place: "The token's first byte.",
+        order: "Where the token's end is known; at one byte after 1, 2 and 3.",
+        example: Example::Fed("a="),
+        usual: "\
+Neither this command nor `./arrive` gives it: they have room for every text. It is for
+programs that lend the library a list of their own. Lend three numbers for each byte of
+the text.",
+        slips: &[],
+    },
+    Explanation {
         reason: Reason::Shape,
         what: "\
 Tables that aren't whole records of six numbers, or that hold over 4,096 nodes, 1,024

@@ -1,0 +1,2 @@
+-- The program for texts that arrive: what its proofs cite.
+pub mod Puts

@@ -1,0 +1,159 @@
+-- What the code's contracts ask, from what the numbers of a stream say, and a step in the words of the code.
+use Prim.Native.Nat.{ℕ, zero, suc, _+_, _≤_, _<_}
+use mathlib.Core.Path.{_≡_, refl, sym, ap, _∙_}
+use mathlib.Core.Bool.{Bool, true, false}
+use mathlib.Core.List.{List, _++_}
+use native.Mathlib.Numerals.{add-one}
+use native.Mathlib.Omega.{arith}
+use lib.Dec.{eqb, ltb, leb}
+use lib.ListN.{length}
+use borrow.Author.Tests.{eqb-true, leb-true}
+use Rattle.text.specs.Choice.{or}
+use Rattle.text.specs.declared.Check.{Check}
+use Rattle.text.specs.declared.Check.the-variants.{Good, Bad}
+use Rattle.token.specs.Lists.{Tok, Tokens}
+use Rattle.stream.specs.declared.Lit.{Lit}
+use Rattle.stream.specs.declared.Tail.{Tail}
+use Rattle.stream.specs.declared.Tail.the-variants.{T1, T2, T3, TE0, TED, TF0, TF4}
+use Rattle.stream.specs.declared.State.the-variants.{Str, Un, Doc}
+use Rattle.stream.specs.declared.Utf.{Utf}
+use Rattle.stream.specs.declared.Stand.{Stand}
+use Rattle.stream.specs.declared.Given.{Given}
+use Rattle.stream.specs.declared.Given.the-variants.{No, Yes}
+use Rattle.stream.specs.declared.Row.{Row}
+use Rattle.stream.specs.declared.Stepped.the-variants.{Moves}
+use Rattle.stream.specs.declared.Finish.{Finish}
+use Rattle.stream.specs.Machine.{Out, step, finish}
+use Rattle.stream.specs.Utf.{utfStep, utfEnd}
+use Rattle.stream.specs.Keep.{tailCode, isText, isDoc, escFits, comFits, stateFits}
+use Rattle.stream.specs.Steps.{Step, Goes, Faults, unless, longAt, brokenAt, refusedAt, overAt, movedTo, stepBy, stepOf, lastOf, begin}
+use Rattle.stream.specs.Shapes.{listOf, outOf, takenBy, steppedOf, finishBy, Sound}
+use Rattle.stream.proofs.Fits.{both, esc-in, com-in}
+use Rattle.stream.proofs.Keeps.{Fitting}
+
+-- ---- a sound stream
+
+pub to-fitting : (c : Stand) → Sound c → Fitting c
+to-fitting c h = record { short = h .short; fit = record { sum = h .sum; count = h .count; state = h .state }; sound = h .utf }
+
+pub to-sound : (c : Stand) → Fitting c → Sound c
+to-sound c h = record { short = h .short; sum = h .fit .sum; count = h .fit .count; state = h .fit .state; utf = h .sound }
+
+-- ---- what a state's numbers are at most
+
+one-of : (k m n : ℕ) (b : Bool) → eqb k m ≡ b → or b (eqb k n) ≡ true → m ≤ 255 → n ≤ 255 → k ≤ 255
+one-of k m n true e f h g = let z : k ≡ m = eqb-true k m e in omega arith
+one-of k m n false e f h g = let z : k ≡ n = eqb-true k n f in omega arith
+
+pub text-small : (k n : ℕ) → stateFits (Str k) n ≡ true → k ≤ 255
+text-small k n e = one-of k 23 24 (eqb k 23) refl (both (isText k) (ltb 0 n) e .0) (omega arith) (omega arith)
+
+pub doc-small : (k n : ℕ) → stateFits (Doc k) n ≡ true → k ≤ 255
+doc-small k n e = one-of k 26 27 (eqb k 26) refl (both (isDoc k) (ltb 0 n) e .0) (omega arith) (omega arith)
+
+pub esc-small : (l : Lit) (b n : ℕ) → escFits l b n ≡ true → b ≤ n
+esc-small l b n e = let h : b < n = esc-in l b n e .1 in omega arith
+
+pub un-small : (l : Lit) (b j n : ℕ) → stateFits (Un l b j) n ≡ true → (j ≤ 6) × (b ≤ n)
+un-small l b j n e = let h = both (leb j 6) (escFits l b n) e in (leb-true j 6 (h .0), esc-small l b n (h .1))
+
+pub bar-small : (d n : ℕ) → comFits d n ≡ true → d ≤ n
+bar-small d n e = com-in d n e .1
+
+pub tail-small : (t : Tail) → tailCode t ≤ 6
+tail-small T1 = omega arith
+tail-small T2 = omega arith
+tail-small T3 = omega arith
+tail-small TE0 = omega arith
+tail-small TED = omega arith
+tail-small TF0 = omega arith
+tail-small TF4 = omega arith
+
+pub many-small : (g : Given) → length (listOf g) ≤ 1
+many-small No = omega arith
+many-small (Yes k a b) = omega arith
+
+two-long : (g : Given) (ts : List Tok) → length (listOf g ++ ts) ≡ length (listOf g) + length ts
+two-long No ts = omega arith
+two-long (Yes k a b) ts = omega arith
+
+pub many-two : (k m n : ℕ) (g h : Given) → m ≡ length (listOf g) → n ≡ length (listOf h) → k + m + n ≡ k + length (listOf g ++ listOf h)
+many-two k m n g h v w = let l : length (listOf g ++ listOf h) ≡ length (listOf g) + length (listOf h) = two-long g (listOf h) in omega arith
+
+-- ---- a number that is none of the first n
+
+abbrev pub NoneOf : Type 0 → ℕ → ℕ → Type 0
+NoneOf T zero c = T
+NoneOf T (suc n) c = NoneOf T n c × (c ≡ n → ⊥)
+
+pub beyond : (T : Type 0) (n c : ℕ) → NoneOf T n c → n ≤ c
+beyond T zero c h = omega arith
+beyond T (suc n) c h =
+    let l : n ≤ c = beyond T n c (h .0) in
+    let e : c ≡ n → ⊥ = h .1 in
+    omega arith
+
+-- ---- a step
+
+unless-bad : (n : ℕ) (k : Check) (f : Unit {0} → Step) (p : ℕ) → k ≡ Bad p → unless n k f ≡ Faults n p
+unless-bad n k f p e = rw e
+
+unless-good : (n : ℕ) (k : Check) (f : Unit {0} → Step) → k ≡ Good → unless n k f ≡ f tt
+unless-good n k f e = rw e
+
+module _ (room : ℕ) (c : Stand) (x p : ℕ) where
+  pub stops-1 : longAt (suc (c .seen)) ≡ Bad p → Faults 1 p ≡ stepOf room c x
+  unfolding stepOf
+  stops-1 e = sym (unless-bad 1 (longAt (suc (c .seen))) _ p e)
+
+  pub stops-2 : (u : Utf) → longAt (suc (c .seen)) ≡ Good → u ≡ utfStep (c .utf) (c .seen) x → brokenAt u ≡ Bad p → Faults 2 p ≡ stepOf room c x
+  unfolding stepOf
+  stops-2 u e f g =
+      let h : stepBy room c u (step (c .conf) x) ≡ stepOf room c x = ap (λ (v : Utf). stepBy room c v (step (c .conf) x)) f in
+      sym (unless-bad 2 (brokenAt u) _ p g) ∙ sym (unless-good 1 (longAt (suc (c .seen))) _ e) ∙ h
+
+-- UTF-8 took the byte
+pub stops-later : (room : ℕ) (c : Stand) (x : ℕ) (u : Utf) (o : Out) → longAt (suc (c .seen)) ≡ Good → u ≡ utfStep (c .utf) (c .seen) x → brokenAt u ≡ Good → o ≡ step (c .conf) x → takenBy room c u o ≡ stepOf room c x
+unfolding stepOf
+stops-later room c x u o e f g h =
+    sym (unless-good 1 (longAt (suc (c .seen))) _ e ∙ unless-good 2 (brokenAt u) _ g) ∙ ap (λ (v : Utf). stepBy room c v o) f ∙ ap (stepBy room c (utfStep (c .utf) (c .seen) x)) h
+
+module _ (room : ℕ) (c : Stand) (u : Utf) (r : Row) where
+  pub takes-3 : (p : ℕ) → refusedAt (r .conf) ≡ Bad p → Faults 3 p ≡ takenBy room c u (outOf r)
+  takes-3 p h = sym (unless-bad 3 (refusedAt (r .conf)) _ p h)
+
+  module _ (h : refusedAt (r .conf) ≡ Good) where
+    pub takes-14 : (p : ℕ) → overAt room (c .count) (outOf r .gives) ≡ Bad p → Faults 14 p ≡ takenBy room c u (outOf r)
+    takes-14 p k = sym (unless-good 3 (refusedAt (r .conf)) _ h ∙ unless-bad 14 (overAt room (c .count) (outOf r .gives)) _ p k)
+
+    pub takes-on : (m n : ℕ) → m ≡ length (listOf (r .before)) → n ≡ length (listOf (r .here)) → overAt room (c .count) (outOf r .gives) ≡ Good
+        → steppedOf (Moves (r .before) (r .here) (record { conf = r .conf; utf = u; seen = c .seen + 1; count = c .count + m + n })) ≡ takenBy room c u (outOf r)
+    takes-on m n v w k =
+        let s : c .count + m + n ≡ c .count + length (outOf r .gives) = many-two (c .count) m n (r .before) (r .here) v w in
+        let i : c .seen + 1 ≡ suc (c .seen) = add-one (c .seen) in
+        let d : record { conf = r .conf; utf = u; seen = c .seen + 1; count = c .count + m + n } ≡ movedTo c u (outOf r) = (λ z. record { conf = r .conf; utf = u; seen = i z; count = s z }) in
+        ap (Goes (outOf r .gives)) d ∙ sym (unless-good 3 (refusedAt (r .conf)) _ h ∙ unless-good 14 (overAt room (c .count) (outOf r .gives)) _ k)
+
+-- ---- the end
+
+module _ (room : ℕ) (c : Stand) where
+  pub last-2 : (p : ℕ) → utfEnd (c .utf) ≡ Bad p → Faults 2 p ≡ lastOf room c
+  unfolding lastOf
+  last-2 p e = sym (unless-bad 2 (utfEnd (c .utf)) _ p e)
+
+  module _ (e : utfEnd (c .utf) ≡ Good) (f : Finish) (o : finishBy f ≡ finish (c .conf)) where
+    abbrev behind : Tokens → Step
+    behind t = unless 3 (t .fault) (λ _. unless 14 (overAt room (c .count) (t .list)) (λ _. Goes (t .list) begin))
+
+    last-by : behind (finishBy f) ≡ lastOf room c
+    unfolding lastOf
+    last-by = ap behind o ∙ sym (unless-good 2 (utfEnd (c .utf)) (λ _. behind (finish (c .conf))) e)
+
+    pub last-3 : (p : ℕ) → f .fault ≡ Bad p → Faults 3 p ≡ lastOf room c
+    last-3 p g = sym (unless-bad 3 (f .fault) _ p g) ∙ last-by
+
+    pub last-14 : (p : ℕ) → f .fault ≡ Good → overAt room (c .count) (listOf (f .token)) ≡ Bad p → Faults 14 p ≡ lastOf room c
+    last-14 p g h = sym (unless-bad 14 (overAt room (c .count) (listOf (f .token))) _ p h) ∙ sym (unless-good 3 (f .fault) _ g) ∙ last-by
+
+    pub last-goes : f .fault ≡ Good → overAt room (c .count) (listOf (f .token)) ≡ Good → Goes (listOf (f .token)) begin ≡ lastOf room c
+    last-goes g h = sym (unless-good 14 (overAt room (c .count) (listOf (f .token))) _ h) ∙ sym (unless-good 3 (f .fault) _ g) ∙ last-by

@@ -1,0 +1,93 @@
+-- What the code computes, in the words of the table: a byte ends at most two tokens.
+use Prim.Native.Nat.{ℕ, _+_, _≤_}
+use mathlib.Core.Path.{_≡_}
+use mathlib.Core.Bool.{Bool, true, false}
+use mathlib.Core.List.{List, [], _∷_, _++_}
+use Rattle.token.specs.Lists.{Tok, tok, Tokens}
+use Rattle.stream.specs.declared.State.{State}
+use Rattle.stream.specs.declared.State.the-variants.{Start}
+use Rattle.stream.specs.declared.Stand.{Stand}
+use Rattle.stream.specs.declared.Utf.{Utf}
+use Rattle.stream.specs.declared.Given.{Given}
+use Rattle.stream.specs.declared.Given.the-variants.{No, Yes}
+use Rattle.stream.specs.declared.Row.{Row}
+use Rattle.stream.specs.declared.Packed.{Packed}
+use Rattle.stream.specs.declared.Stepped.{Stepped}
+use Rattle.stream.specs.declared.Stepped.the-variants.{Moves, Stops}
+use Rattle.stream.specs.declared.Ran.{Ran}
+use Rattle.stream.specs.declared.Ran.the-variants.{Stands, Refuses}
+use Rattle.stream.specs.declared.Finish.{Finish}
+use Rattle.stream.specs.declared.Status.the-variants.{Open, Held}
+use Rattle.stream.specs.declared.Call.{Call}
+use Rattle.stream.specs.Machine.{Out}
+use Rattle.stream.specs.Keep.{Parts, parts, waiting, stateFits, utfFits}
+use Rattle.stream.specs.Steps.{Step, Goes, Faults, unless, refusedAt, overAt, movedTo}
+use Rattle.stream.specs.Feed.{numbered}
+
+abbrev pub listOf : Given → List Tok
+listOf No = []
+listOf (Yes k a b) = tok k a b ∷ []
+
+abbrev pub outOf : Row → Out
+outOf r = record { gives = listOf (r .before) ++ listOf (r .here); next = r .conf }
+
+-- no token, and a state
+abbrev pub going : State → ℕ → ℕ → Row
+going q a n = record { before = No; here = No; conf = record { state = q; start = a; size = n } }
+
+-- a token up to b that ends with this byte, and Start at c
+abbrev pub giving : ℕ → ℕ → ℕ → ℕ → Row
+giving k a b c = record { before = No; here = Yes k a b; conf = record { state = Start; start = c; size = 0 } }
+
+-- a row that gives one token at most, none of them before its byte
+abbrev pub hereOf : List Tok → Given
+hereOf [] = No
+hereOf (tok k a b ∷ ts) = Yes k a b
+
+abbrev pub rowBy : Out → Row
+rowBy o = record { before = No; here = hereOf (o .gives); conf = o .next }
+
+-- a state in numbers
+abbrev pub partsBy : Packed → Parts
+partsBy p = parts (p .code) (p .kind) (p .backslash) (p .depth)
+
+-- what a byte or the end does
+abbrev pub steppedOf : Stepped → Step
+steppedOf (Moves g h c) = Goes (listOf g ++ listOf h) c
+steppedOf (Stops n p) = Faults n p
+
+-- a byte that UTF-8's machine took to u and the tokens' machine to o: 3, then 14
+abbrev pub takenBy : ℕ → Stand → Utf → Out → Step
+takenBy room c u o = unless 3 (refusedAt (o .next)) (λ _. unless 14 (overAt room (c .count) (o .gives)) (λ _. Goes (o .gives) (movedTo c u o)))
+
+-- where a stream stands after a packet
+abbrev pub ranBy : Step → Ran
+ranBy (Goes ts c) = Stands c
+ranBy (Faults n p) = Refuses n p
+
+-- the tokens that are given, and whether the call is good
+abbrev pub givesOf : Step → List Tok
+givesOf (Goes ts c) = ts
+givesOf (Faults n p) = []
+
+abbrev pub isGood : Step → Bool
+isGood (Goes ts c) = true
+isGood (Faults n p) = false
+
+abbrev pub finishBy : Finish → Tokens
+finishBy f = record { list = listOf (f .token); fault = f .fault }
+
+-- a stream whose numbers fit one another
+pub record Sound (c : Stand) : Type 0 where
+  pub short : c .seen ≤ 65536
+  pub sum : c .conf .start + (c .conf .size + waiting (c .conf .state)) ≡ c .seen
+  pub count : c .count ≤ c .conf .start
+  pub state : stateFits (c .conf .state) (c .conf .size) ≡ true
+  pub utf : utfFits (c .utf) (c .seen) ≡ true
+
+-- a call that is refused, with so many records in the list, of which it reports none, and one that is good
+abbrev pub refusing : ℕ → ℕ → ℕ → Call
+refusing number place n = record { number = number; place = place; records = 0; next = numbered (Held number place n) }
+
+abbrev pub standing : Stand → ℕ → Call
+standing c n = record { number = 0; place = 0; records = n; next = numbered (Open c) }

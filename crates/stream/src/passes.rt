@@ -1,0 +1,151 @@
+// A byte, a packet and the end: what is refused, where the stream stands then, and the tokens.
+mod ends;
+pub(crate) mod rooms;
+
+use crate::Ran;
+use crate::Row;
+use crate::Stand;
+use crate::Stepped;
+use crate::Utf;
+use text::Check;
+ghost use mathlib.Core.Path.{_≡_};
+ghost use mathlib.Core.Bool.{true};
+ghost use Prim.Native.Nat.{suc, _*_, _≤_};
+ghost use lib.Seq.{sets};
+ghost use Rattle.text.specs.Classes.{classes};
+ghost use Rattle.stream.specs.Steps.{longAt, stepOf, ranOf, lastOf};
+ghost use Rattle.stream.specs.Feed.{flat, roomOf};
+ghost use Rattle.stream.specs.Shapes.{outOf, takenBy, steppedOf, ranBy, givesOf, isGood, Sound};
+
+// One byte more is too many.
+fn long(seen: usize) -> Check
+    ensures { λ r. ⌜ r ≡ longAt (suc seen) ⌝ }
+{
+    if 65536 <= seen {
+        return Check::Bad(0);
+    }
+    Check::Good
+}
+
+// A byte that UTF-8 took to a state and the table to a row: 3, then 14.
+fn take(room: usize, c: Stand, utf: Utf, row: Row) -> Stepped
+    requires { ⌜ c .seen ≤ 65536 ⌝ }
+    requires { ⌜ c .count ≤ 65536 ⌝ }
+    ensures { λ r. ⌜ steppedOf r ≡ takenBy room c utf (outOf row) ⌝ }
+{
+    let conf = row.conf;
+    let refused = crate::kept::refused(conf);
+    if let Check::Bad(place) = refused {
+        return Stepped::Stops(3, place);
+    }
+    let before = row.before;
+    let here = row.here;
+    let over = rooms::over_two(room, c.count, before, here);
+    if let Check::Bad(place) = over {
+        return Stepped::Stops(14, place);
+    }
+    let count = c.count + rooms::many(before) + rooms::many(here);
+    Stepped::Moves(
+        before,
+        here,
+        Stand {
+            conf,
+            utf,
+            seen: c.seen + 1,
+            count,
+        },
+    )
+}
+
+// A byte: its faults in the order 1, 2, 3, 14.
+fn step(t: &[u8; 256], room: usize, c: Stand, x: u8) -> Stepped
+    requires { ⌜ now t ≡ classes ⌝ }
+    requires { ⌜ Sound c ⌝ }
+    ensures { λ r. ⌜ steppedOf r ≡ stepOf room c x ⌝ }
+{
+    let too_long = long(c.seen);
+    if let Check::Bad(place) = too_long {
+        return Stepped::Stops(1, place);
+    }
+    let u = c.utf;
+    let utf = crate::utf8::step(u, c.seen, x);
+    let broken = crate::utf8::broken(utf);
+    if let Check::Bad(place) = broken {
+        return Stepped::Stops(2, place);
+    }
+    let conf = c.conf;
+    let row = crate::table::step(t, conf, x);
+    take(room, c, utf, row)
+}
+
+// The first pass over a packet writes nothing.
+pub(crate) fn run(t: &[u8; 256], room: usize, from: Stand, packet: &[u8]) -> Ran
+    requires { ⌜ now t ≡ classes ⌝ }
+    requires { ⌜ Sound from ⌝ }
+    ensures { λ r. ⌜ r ≡ ranBy (ranOf room from (now (packet .entry))) ⌝ }
+{
+    let mut c = from;
+    let mut i = 0;
+    while i < packet.len() {
+        let stepped = step(t, room, c, packet[i]);
+        match stepped {
+            Stepped::Stops(number, place) => {
+                return Ran::Refuses(number, place);
+            }
+            Stepped::Moves(_, _, next) => {
+                c = next;
+            }
+        }
+        i += 1;
+    }
+    Ran::Stands(c)
+}
+
+// The second writes the tokens of a packet that is good.
+pub(crate) fn write(t: &[u8; 256], from: Stand, packet: &[u8], list: &mut [u32])
+    requires { ⌜ now t ≡ classes ⌝ }
+    requires { ⌜ Sound from ⌝ }
+    requires { ⌜ isGood (ranOf (roomOf (now list)) from (now packet)) ≡ true ⌝ }
+    ensures { λ _. ⌜ now (list .exit) ≡ sets (now (list .entry)) (from .count * 3) (flat (givesOf (ranOf (roomOf (now (list .entry))) from (now (packet .entry))))) ⌝ }
+{
+    let room = list.len() / 3;
+    let mut c = from;
+    let mut i = 0;
+    while i < packet.len() {
+        let stepped = step(t, room, c, packet[i]);
+        match stepped {
+            Stepped::Stops(_, _) => {
+                return;
+            }
+            Stepped::Moves(before, here, next) => {
+                rooms::put_two(list, c.count, before, here);
+                c = next;
+            }
+        }
+        i += 1;
+    }
+}
+
+// The text's end.
+pub(crate) fn last(room: usize, c: Stand) -> Stepped
+    requires { ⌜ Sound c ⌝ }
+    ensures { λ r. ⌜ steppedOf r ≡ lastOf room c ⌝ }
+{
+    let u = c.utf;
+    let cut = crate::utf8::ended(u);
+    if let Check::Bad(place) = cut {
+        return Stepped::Stops(2, place);
+    }
+    let conf = c.conf;
+    let finish = ends::finish(conf);
+    let fault = finish.fault;
+    if let Check::Bad(place) = fault {
+        return Stepped::Stops(3, place);
+    }
+    let token = finish.token;
+    let over = rooms::over(room, c.count, token);
+    if let Check::Bad(place) = over {
+        return Stepped::Stops(14, place);
+    }
+    Stepped::Moves(crate::Given::No, token, crate::opened::fresh())
+}
