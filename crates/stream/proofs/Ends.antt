@@ -10,13 +10,13 @@ use Rattle.text.specs.Utf8.{firstBad}
 use Rattle.text.specs.declared.Check.the-variants.{Good, Bad}
 use Rattle.token.specs.Lists.{Tok, tok, Tokens, tokensOf}
 use Rattle.stream.specs.declared.Stand.{Stand}
-use Rattle.stream.specs.declared.Utf.the-variants.{Whole}
-use Rattle.stream.specs.Machine.{feed, finish, fresh}
-use Rattle.stream.specs.Utf.{utfEnd, utfFeed}
+use Rattle.states.specs.declared.Utf.the-variants.{Whole}
+use Rattle.states.specs.Machine.{feed, finish, fresh}
+use Rattle.states.specs.Utf.{utfEnd, utfFeed}
 use Rattle.stream.specs.Steps.{Step, Goes, Faults, unless, overAt, begin, lastOf}
 use Rattle.stream.specs.Packets.{Last}
-use Rattle.stream.proofs.Main.{machine}
-use Rattle.stream.proofs.Utfs.{machine-2}
+use Rattle.states.proofs.Main.{machine}
+use Rattle.states.proofs.Utfs.{machine-2}
 use Rattle.stream.proofs.Known.{at-right}
 use Rattle.stream.proofs.Runs.{unless-goes, unless-faults, gave, standAt}
 use Rattle.stream.proofs.Shown.{Over, over-bad}

@@ -7,17 +7,17 @@ use Rattle.text.specs.Digits.{hexOf}
 use Rattle.literal.specs.Escapes.{simpleOf}
 use Rattle.token.specs.Tokens.{oneKind}
 use Rattle.token.specs.Lists.{tok}
-use Rattle.stream.specs.declared.Conf.{Conf}
-use Rattle.stream.specs.declared.Utf.{Utf}
+use Rattle.states.specs.declared.Conf.{Conf}
+use Rattle.states.specs.declared.Utf.{Utf}
 use Rattle.stream.specs.declared.Status.{Status}
 use Rattle.stream.specs.declared.Status.the-variants.{Open, Held}
 use Rattle.stream.specs.declared.Feed.{Feed}
-use Rattle.stream.specs.Machine.{classRow, pushRow, leadRow}
-use Rattle.stream.specs.Utf.{utfLead}
-use Rattle.stream.specs.Keep.{litOf, stateOf, utfOf, fits}
+use Rattle.states.specs.Machine.{classRow, pushRow, leadRow}
+use Rattle.states.specs.Utf.{utfLead}
+use Rattle.states.specs.Keep.{litOf, stateOf, utfOf}
+use Rattle.stream.specs.Feed.{fits, standOf, opened, numberOf, reported, written, feedOf, feedIn, endOf, endIn}
 use Rattle.stream.specs.Steps.{Faults, longAt, refusedAt, overAt, stepOf, ranOf, begin, lastOf, fedOf, doneOf}
 use Rattle.stream.proofs.Numbers.{zeros}
-use Rattle.stream.specs.Feed.{standOf, opened, numberOf, reported, written, feedOf, feedIn, endOf, endIn}
 
 -- a stream after a text, with room for so many records
 abbrev after : ℕ → List ℕ → Status

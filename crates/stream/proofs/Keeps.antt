@@ -6,30 +6,29 @@ use mathlib.Core.List.{List, [], _∷_}
 use mathlib.Core.Logic.{_⊎_, inl, inr}
 use native.Mathlib.Omega.{arith}
 use lib.Dec.{leb, ltb, eqb}
-use lib.ListN.{length, getD}
-use borrow.Author.Tests.{ltb-true, ltb-false, leb-true, eqb-true, lt-ltb, le-leb, ne-eqb}
-use Rattle.text.specs.Choice.{choose, or, among}
+use lib.ListN.{length}
+use borrow.Author.Tests.{ltb-true, ltb-false, leb-true, lt-ltb, le-leb, ne-eqb}
+use Rattle.text.specs.Choice.{choose, among}
 use Rattle.text.specs.declared.Check.the-variants.{Good, Bad}
 use Rattle.text.proofs.Tests.{choose-by}
 use Rattle.token.specs.Lists.{Tok}
-use Rattle.stream.specs.declared.Lit.{Lit}
-use Rattle.stream.specs.declared.Lit.the-variants.{Text, One}
-use Rattle.stream.specs.declared.Tail.{Tail}
-use Rattle.stream.specs.declared.Tail.the-variants.{T1, T2, T3, TE0, TED, TF0, TF4}
-use Rattle.stream.specs.declared.State.{State}
-use Rattle.stream.specs.declared.State.the-variants.{Start, Word, Push, Num, Hash, Tag, Dot, Caret, Minus, Zeros, Negative, Str, Esc, X0, X1, U, Un, Chr, More, Quote, Slash, Slash2, Line, Doc, DocCr, Cr, Com, Star, Bar, Refused}
-use Rattle.stream.specs.declared.Conf.{Conf}
-use Rattle.stream.specs.declared.Utf.{Utf}
-use Rattle.stream.specs.declared.Utf.the-variants.{Whole, Mid, Broke}
+use Rattle.states.specs.declared.Tail.{Tail}
+use Rattle.states.specs.declared.Tail.the-variants.{T1, T2, T3, TE0, TED, TF0, TF4}
+use Rattle.states.specs.declared.State.{State}
+use Rattle.states.specs.declared.Conf.{Conf}
+use Rattle.states.specs.declared.Utf.{Utf}
+use Rattle.states.specs.declared.Utf.the-variants.{Whole, Mid, Broke}
 use Rattle.stream.specs.declared.Stand.{Stand}
 use Rattle.stream.specs.declared.Status.the-variants.{Open, Held}
 use Rattle.stream.specs.declared.Feed.{Feed}
-use Rattle.stream.specs.Machine.{Out, step, tailOk}
-use Rattle.stream.specs.Utf.{utfLead, utfNext, utfStep}
-use Rattle.stream.specs.Keep.{litKind, litOf, partsOf, codeOf, refusedCode, stateOf, utfOf, utfCode, utfStart, waiting, tails, tailCode, isText, isDoc, isLit, escFits, stateFits, utfFits, fits}
-use Rattle.stream.specs.Steps.{Goes, longAt, brokenAt, refusedAt, stepOf, ranOf, begin}
-use Rattle.stream.specs.Feed.{numbered, standBy, standOf, refusals, opened}
-use Rattle.stream.proofs.Fits.{never, both, and-yes, esc-in, com-in, Fit, FitO, row-fits}
+use Rattle.states.specs.Machine.{Out, step, tailOk}
+use Rattle.states.specs.Utf.{utfLead, utfNext, utfStep, brokenAt}
+use Rattle.states.specs.Keep.{codeOf, refusedCode, stateOf, utfOf, utfCode, utfStart, waiting, stateFits, utfFits}
+use Rattle.stream.specs.Feed.{fits, numbered, standBy, standOf, refusals, opened}
+use Rattle.stream.specs.Steps.{Goes, longAt, refusedAt, stepOf, ranOf, begin}
+use Rattle.states.proofs.Small.{wait-some}
+use Rattle.states.proofs.Back.{stateBack, state-back, utf-back}
+use Rattle.states.proofs.Fits.{never, both, and-yes, Fit, FitO, row-fits}
 use Rattle.stream.proofs.Runs.{took, followed-goes}
 
 -- ---- a stream whose numbers fit one another
@@ -132,39 +131,6 @@ fitting-test c h =
     (and-yes (leb (c .conf .start) (c .seen)) _ (le-leb (c .conf .start) (c .seen) (omega arith))
     (and-yes (leb (c .count) (c .conf .start)) _ (le-leb (c .count) (c .conf .start) (h .fit .count)) (and-yes (stateFits (c .conf .state) (c .conf .size)) (utfFits (c .utf) (c .seen)) (h .fit .state) (h .sound))))
 
--- where a byte waits, another was counted
-wait-some : (q : State) (n : ℕ) → stateFits q n ≡ true → (waiting q ≡ 0) ⊎ ((waiting q ≡ 1) × (0 < n))
-wait-some Start n e = inl refl
-wait-some Word n e = inl refl
-wait-some Push n e = inl refl
-wait-some Num n e = inl refl
-wait-some Hash n e = inl refl
-wait-some Tag n e = inl refl
-wait-some Dot n e = inl refl
-wait-some Caret n e = inl refl
-wait-some Minus n e = inl refl
-wait-some Zeros n e = inl refl
-wait-some Negative n e = inl refl
-wait-some (Str k) n e = inl refl
-wait-some (Esc l b) n e = inl refl
-wait-some (X0 l b) n e = inl refl
-wait-some (X1 l b) n e = inl refl
-wait-some (U l b) n e = inl refl
-wait-some (Un l b j) n e = inl refl
-wait-some Chr n e = inl refl
-wait-some (More t) n e = inl refl
-wait-some Quote n e = inl refl
-wait-some Slash n e = inl refl
-wait-some Slash2 n e = inl refl
-wait-some Line n e = inl refl
-wait-some (Doc k) n e = inl refl
-wait-some (DocCr k) n e = inr (refl, ltb-true 0 n (both (isDoc k) (ltb 0 n) e .1))
-wait-some Cr n e = inl refl
-wait-some (Com d) n e = inl refl
-wait-some (Star d) n e = let h = com-in d n e in let g : 0 < d = h .0 in let f : d ≤ n = h .1 in inr (refl, omega arith)
-wait-some (Bar d) n e = let h = com-in d n e in let g : 0 < d = h .0 in let f : d ≤ n = h .1 in inr (refl, omega arith)
-wait-some Refused n e = inl refl
-
 sum-by : (a s w : ℕ) → a ≤ s → (w ≡ 0) ⊎ ((w ≡ 1) × (0 < s - a - w)) → a + (s - a - w + w) ≡ s
 sum-by a s w h (inl e) = omega arith
 sum-by a s w h (inr e) =
@@ -197,75 +163,6 @@ unfolding standOf
 test-fitting f e = fitting-by f (stateOf (f .state) (f .kind) (f .backslash) (f .depth)) e
 
 -- ---- and back
-
-text-not : (k : ℕ) → isText k ≡ true → eqb k 25 ≡ false
-text-not k e = text-by k (eqb k 23) refl e
-  where
-    text-by : (k : ℕ) (b : Bool) → eqb k 23 ≡ b → or b (eqb k 24) ≡ true → eqb k 25 ≡ false
-    text-by k true f e = let z : k ≡ 23 = eqb-true k 23 f in rw z
-    text-by k false f e = let z : k ≡ 24 = eqb-true k 24 e in rw z
-
-lit-back : (l : Lit) → isLit l ≡ true → litOf (litKind l) ≡ l
-unfolding litOf
-lit-back (Text k) e = rw (text-not k e)
-lit-back One e = refl
-
-tail-back : (t : Tail) → getD tails (tailCode t) T1 ≡ t
-tail-back T1 = refl
-tail-back T2 = refl
-tail-back T3 = refl
-tail-back TE0 = refl
-tail-back TED = refl
-tail-back TF0 = refl
-tail-back TF4 = refl
-
-abbrev stateBack : State → State
-stateBack q = stateOf (partsOf q .code) (partsOf q .kind) (partsOf q .backslash) (partsOf q .depth)
-
-state-back : (q : State) (n : ℕ) → stateFits q n ≡ true → stateBack q ≡ q
-unfolding stateOf
-state-back Start n e = refl
-state-back Word n e = refl
-state-back Push n e = refl
-state-back Num n e = refl
-state-back Hash n e = refl
-state-back Tag n e = refl
-state-back Dot n e = refl
-state-back Caret n e = refl
-state-back Minus n e = refl
-state-back Zeros n e = refl
-state-back Negative n e = refl
-state-back (Str k) n e = refl
-state-back (Esc l b) n e = ap (λ (z : Lit). Esc z b) (lit-back l (esc-in l b n e .0))
-state-back (X0 l b) n e = ap (λ (z : Lit). X0 z b) (lit-back l (esc-in l b n e .0))
-state-back (X1 l b) n e = ap (λ (z : Lit). X1 z b) (lit-back l (esc-in l b n e .0))
-state-back (U l b) n e = ap (λ (z : Lit). U z b) (lit-back l (esc-in l b n e .0))
-state-back (Un l b j) n e = ap (λ (z : Lit). Un z b j) (lit-back l (esc-in l b n (both (leb j 6) (escFits l b n) e .1) .0))
-state-back Chr n e = refl
-state-back (More t) n e = ap More (tail-back t)
-state-back Quote n e = refl
-state-back Slash n e = refl
-state-back Slash2 n e = refl
-state-back Line n e = refl
-state-back (Doc k) n e = refl
-state-back (DocCr k) n e = refl
-state-back Cr n e = refl
-state-back (Com d) n e = refl
-state-back (Star d) n e = refl
-state-back (Bar d) n e = refl
-state-back Refused n e = refl
-
-utf-back : (u : Utf) (n : ℕ) → utfFits u n ≡ true → utfOf (utfCode u) (utfStart u) ≡ u
-unfolding utfOf
-utf-back Whole n e = refl
-utf-back (Mid T1 s) n e = refl
-utf-back (Mid T2 s) n e = refl
-utf-back (Mid T3 s) n e = refl
-utf-back (Mid TE0 s) n e = refl
-utf-back (Mid TED s) n e = refl
-utf-back (Mid TF0 s) n e = refl
-utf-back (Mid TF4 s) n e = refl
-utf-back (Broke p) n e = refl
 
 stand-back : (c : Stand) → Fitting c → standOf (numbered (Open c)) ≡ c
 unfolding standOf

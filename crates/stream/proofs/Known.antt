@@ -13,13 +13,14 @@ use borrow.Author.Tests.{le-ltb, ne-eqb, eqb-true, eqb-false}
 use Rattle.text.specs.Classes.{classOf}
 use Rattle.text.proofs.Tests.{lt-or-ge}
 use Rattle.token.specs.Lists.{Tok, tok, Tokens, tokensOf}
-use Rattle.stream.specs.declared.State.{State}
-use Rattle.stream.specs.declared.State.the-variants.{Start, Word, Push, Num, Hash, Tag, Dot, Caret, Minus, Zeros, Negative, Str, Esc, X0, X1, U, Un, Chr, More, Quote, Slash, Slash2, Line, Doc, DocCr, Cr, Com, Star, Bar, Refused}
-use Rattle.stream.specs.declared.Conf.{Conf}
-use Rattle.stream.specs.Machine.{pushRow, endRow, finish, feed, fresh}
-use Rattle.stream.specs.Packets.{At, Bytes, Lacks}
-use Rattle.stream.proofs.Bytes.{no-bytes, digit-byte}
-use Rattle.stream.proofs.Main.{whole, left-whole, continued}
+use Rattle.states.specs.declared.State.{State}
+use Rattle.states.specs.declared.State.the-variants.{Start, Word, Push, Num, Hash, Tag, Dot, Caret, Minus, Zeros, Negative, Str, Esc, X0, X1, U, Un, Chr, More, Quote, Slash, Slash2, Line, Doc, DocCr, Cr, Com, Star, Bar, Refused}
+use Rattle.states.specs.declared.Conf.{Conf}
+use Rattle.states.specs.Machine.{pushRow, endRow, finish, feed, fresh}
+use Rattle.stream.specs.Packets.{At, Lacks}
+use Rattle.states.specs.Free.{Bytes}
+use Rattle.states.proofs.Bytes.{no-bytes, digit-byte}
+use Rattle.states.proofs.Main.{whole, left-whole, continued}
 use Rattle.stream.proofs.Runs.{gave}
 
 -- ---- lists at an index

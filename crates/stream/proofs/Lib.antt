@@ -1,17 +1,4 @@
--- The laws of the machine, and the theorems over packets.
-pub mod From
-pub mod Left
-pub mod Rows
-pub mod Strs
-pub mod Sequences
-pub mod Chars
-pub mod Words
-pub mod Pushes
-pub mod Main
-pub mod Fits
-pub mod Bytes
-pub mod Waits
-pub mod Utfs
+-- The laws of calls, and the theorems over packets.
 pub mod Runs
 pub mod Keeps
 pub mod Known
@@ -25,7 +12,6 @@ pub mod Stores
 pub mod Calls
 pub mod OneList
 pub mod Loops
-pub mod Turns
 pub mod Sounds
 pub mod Writes
 pub mod Examples

@@ -14,19 +14,18 @@ use Rattle.text.specs.declared.Check.{Check}
 use Rattle.text.specs.declared.Check.the-variants.{Good, Bad}
 use Rattle.text.proofs.Tests.{choose-by}
 use Rattle.token.specs.Lists.{Tok}
-use Rattle.stream.specs.declared.Utf.{Utf}
+use Rattle.states.specs.declared.Utf.{Utf}
 use Rattle.stream.specs.declared.Stand.{Stand}
 use Rattle.stream.specs.declared.Status.{Status}
 use Rattle.stream.specs.declared.Status.the-variants.{Open, Held}
 use Rattle.stream.specs.declared.Feed.{Feed}
 use Rattle.stream.specs.declared.Call.{Call}
-use Rattle.stream.specs.Machine.{Out, step, finish}
-use Rattle.stream.specs.Utf.{utfStep, utfEnd}
-use Rattle.stream.specs.Keep.{fits}
-use Rattle.stream.specs.Steps.{Step, Goes, Faults, unless, longAt, brokenAt, refusedAt, overAt, movedTo, stepOf, ranOf, lastOf, begin, movedBy, fedOf, doneOf}
-use Rattle.stream.specs.Feed.{numbered, standOf, refusals, opened, recordsOf, numberOf, flat, unlessHeld, roomOf, reported, written, feedOf, feedIn, endOf, endIn}
+use Rattle.states.specs.Machine.{Out, step, finish}
+use Rattle.states.specs.Utf.{utfStep, utfEnd, brokenAt}
+use Rattle.stream.specs.Feed.{fits, numbered, standOf, refusals, opened, recordsOf, numberOf, flat, unlessHeld, roomOf, reported, written, feedOf, feedIn, endOf, endIn}
+use Rattle.stream.specs.Steps.{Step, Goes, Faults, unless, longAt, refusedAt, overAt, movedTo, stepOf, ranOf, lastOf, begin, movedBy, fedOf, doneOf}
 use Rattle.stream.proofs.Keeps.{Fitting, fitting-begin, test-fitting, fitting-ran, kept-open, kept-held}
-use Rattle.stream.proofs.Fits.{never}
+use Rattle.states.proofs.Fits.{never}
 use Rattle.stream.proofs.Runs.{unless-goes, followed-faults}
 
 -- ---- the numbers of refusals, from anywhere

@@ -13,9 +13,10 @@ use Rattle.text.specs.declared.Check.the-variants.{Good, Bad}
 use Rattle.token.specs.Lists.{Tok, tok, startOf, tokensOf}
 use Rattle.stream.specs.declared.Stand.{Stand}
 use Rattle.stream.specs.declared.Status.the-variants.{Open, Held}
-use Rattle.stream.specs.Machine.{step, feed}
+use Rattle.states.specs.Machine.{step, feed}
 use Rattle.stream.specs.Steps.{Step, Goes, Faults, overAt, stepOf, ranOf, begin, Moved, movedBy, fedOf}
-use Rattle.stream.specs.Packets.{Packet, joined, fedAll, lent, At, Bytes}
+use Rattle.stream.specs.Packets.{Packet, joined, fedAll, lent, At}
+use Rattle.states.specs.Free.{Bytes}
 use Rattle.stream.proofs.Known.{at-below}
 use Rattle.stream.proofs.Runs.{took, followed-goes, gave, standAt}
 use Rattle.stream.proofs.Packets.{stays-held, Shown}

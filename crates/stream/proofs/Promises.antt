@@ -15,11 +15,12 @@ use Rattle.token.specs.Lists.{Tok, tok, tokensOf}
 use Rattle.stream.specs.declared.Stand.{Stand}
 use Rattle.stream.specs.declared.Status.{Status}
 use Rattle.stream.specs.declared.Status.the-variants.{Open, Held}
-use Rattle.stream.specs.Machine.{feed, finish, fresh}
+use Rattle.states.specs.Machine.{feed, finish, fresh}
 use Rattle.stream.specs.Steps.{Step, Goes, Faults, begin, lastOf, movedBy, Moved, doneOf}
 use Rattle.stream.specs.Feed.{refusals, numberOf, placeOf}
-use Rattle.stream.specs.Packets.{Packet, joined, fedAll, Roomy, At, Bytes, Free-1, Free-2, Free-3, Waits, Full, Spot, textBefore, First, Last}
-use Rattle.stream.proofs.Fits.{never}
+use Rattle.stream.specs.Packets.{Packet, joined, fedAll, Roomy, At, Waits, Full, Spot, textBefore, First, Last}
+use Rattle.states.specs.Free.{Bytes, Free-1, Free-2, Free-3}
+use Rattle.states.proofs.Fits.{never}
 use Rattle.stream.proofs.Known.{at-below, known, known-only}
 use Rattle.stream.proofs.Runs.{gave, standAt, stand-nil}
 use Rattle.stream.proofs.Shown.{Sound, sound-nil, byte-says, sound-waits}

@@ -10,14 +10,14 @@ use lib.Seq.{append-snoc}
 use Rattle.text.specs.declared.Check.{Check}
 use Rattle.text.specs.declared.Check.the-variants.{Good, Bad}
 use Rattle.token.specs.Lists.{Tok}
-use Rattle.stream.specs.declared.Utf.{Utf}
-use Rattle.stream.specs.declared.Utf.the-variants.{Whole}
+use Rattle.states.specs.declared.Utf.{Utf}
+use Rattle.states.specs.declared.Utf.the-variants.{Whole}
 use Rattle.stream.specs.declared.Stand.{Stand}
-use Rattle.stream.specs.Machine.{Out, step, feed, fresh}
-use Rattle.stream.specs.Utf.{utfStep, utfFeed}
-use Rattle.stream.specs.Steps.{Step, Goes, Faults, unless, longAt, brokenAt, refusedAt, overAt, movedTo, stepOf, given, followed, ranOf, begin}
-use Rattle.stream.proofs.Main.{feed-cuts}
-use Rattle.stream.proofs.Utfs.{utf-cuts}
+use Rattle.states.specs.Machine.{Out, step, feed, fresh}
+use Rattle.states.specs.Utf.{utfStep, utfFeed, brokenAt}
+use Rattle.stream.specs.Steps.{Step, Goes, Faults, unless, longAt, refusedAt, overAt, movedTo, stepOf, given, followed, ranOf, begin}
+use Rattle.states.proofs.Main.{feed-cuts}
+use Rattle.states.proofs.Utfs.{utf-cuts}
 
 -- ---- a step is taken apart
 

@@ -14,22 +14,23 @@ use Rattle.text.specs.declared.Check.{Check}
 use Rattle.text.specs.declared.Check.the-variants.{Good, Bad}
 use Rattle.text.proofs.Tests.{choose-by}
 use Rattle.token.specs.Lists.{Tok, tok, startOf}
-use Rattle.stream.specs.declared.State.the-variants.{Refused}
-use Rattle.stream.specs.declared.Conf.{Conf}
-use Rattle.stream.specs.declared.Utf.{Utf}
-use Rattle.stream.specs.declared.Utf.the-variants.{Whole, Mid, Broke}
+use Rattle.states.specs.declared.State.the-variants.{Refused}
+use Rattle.states.specs.declared.Conf.{Conf}
+use Rattle.states.specs.declared.Utf.{Utf}
+use Rattle.states.specs.declared.Utf.the-variants.{Whole, Mid, Broke}
 use Rattle.stream.specs.declared.Stand.{Stand}
-use Rattle.stream.specs.Machine.{feed, fresh}
-use Rattle.stream.specs.Utf.{utfFeed}
-use Rattle.stream.specs.Keep.{codeOf, refusedCode}
-use Rattle.stream.specs.Steps.{Step, Goes, Faults, unless, longAt, brokenAt, refusedAt, overAt, movedTo, stepOf, ranOf}
-use Rattle.stream.specs.Packets.{At, Free-1, Free-2, Free-3, Waits, Full, Byte}
-use Rattle.stream.proofs.Main.{refused-3}
-use Rattle.stream.proofs.Waits.{complete-3}
-use Rattle.stream.proofs.Utfs.{refused-2, complete-2}
-use Rattle.stream.proofs.Fits.{code-refused}
+use Rattle.states.specs.Machine.{feed, fresh}
+use Rattle.states.specs.Utf.{utfFeed, brokenAt}
+use Rattle.states.specs.Keep.{codeOf, refusedCode}
+use Rattle.stream.specs.Steps.{Step, Goes, Faults, unless, longAt, refusedAt, overAt, movedTo, stepOf, ranOf}
+use Rattle.stream.specs.Packets.{At, Waits, Full, Byte}
+use Rattle.states.specs.Free.{Free-1, Free-2, Free-3}
+use Rattle.states.proofs.Main.{refused-3}
+use Rattle.states.proofs.Waits.{complete-3}
+use Rattle.states.proofs.Utfs.{refused-2, complete-2}
+use Rattle.states.proofs.Fits.{code-refused}
 use Rattle.stream.proofs.Keeps.{long-good, refused-good}
-use Rattle.stream.proofs.Bytes.{no-bytes}
+use Rattle.states.proofs.Bytes.{no-bytes}
 use Rattle.stream.proofs.Known.{at-right, known, unknown}
 use Rattle.stream.proofs.Runs.{unless-faults, followed-goes, gave, standAt, took, stands-one, outAt, utfAt, next-one, gave-one, utf-one, length-one}
 

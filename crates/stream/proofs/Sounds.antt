@@ -1,34 +1,25 @@
 -- What the code's contracts ask, from what the numbers of a stream say, and a step in the words of the code.
-use Prim.Native.Nat.{ℕ, zero, suc, _+_, _≤_, _<_}
-use mathlib.Core.Path.{_≡_, refl, sym, ap, _∙_}
-use mathlib.Core.Bool.{Bool, true, false}
+use Prim.Native.Nat.{ℕ, zero, suc, _+_, _≤_}
+use mathlib.Core.Path.{_≡_, sym, ap, _∙_}
 use mathlib.Core.List.{List, _++_}
 use native.Mathlib.Numerals.{add-one}
 use native.Mathlib.Omega.{arith}
-use lib.Dec.{eqb, ltb, leb}
 use lib.ListN.{length}
-use borrow.Author.Tests.{eqb-true, leb-true}
-use Rattle.text.specs.Choice.{or}
 use Rattle.text.specs.declared.Check.{Check}
 use Rattle.text.specs.declared.Check.the-variants.{Good, Bad}
 use Rattle.token.specs.Lists.{Tok, Tokens}
-use Rattle.stream.specs.declared.Lit.{Lit}
-use Rattle.stream.specs.declared.Tail.{Tail}
-use Rattle.stream.specs.declared.Tail.the-variants.{T1, T2, T3, TE0, TED, TF0, TF4}
-use Rattle.stream.specs.declared.State.the-variants.{Str, Un, Doc}
-use Rattle.stream.specs.declared.Utf.{Utf}
+use Rattle.states.specs.declared.Utf.{Utf}
 use Rattle.stream.specs.declared.Stand.{Stand}
-use Rattle.stream.specs.declared.Given.{Given}
-use Rattle.stream.specs.declared.Given.the-variants.{No, Yes}
-use Rattle.stream.specs.declared.Row.{Row}
+use Rattle.states.specs.declared.Given.{Given}
+use Rattle.states.specs.declared.Given.the-variants.{No, Yes}
+use Rattle.states.specs.declared.Row.{Row}
 use Rattle.stream.specs.declared.Stepped.the-variants.{Moves}
-use Rattle.stream.specs.declared.Finish.{Finish}
-use Rattle.stream.specs.Machine.{Out, step, finish}
-use Rattle.stream.specs.Utf.{utfStep, utfEnd}
-use Rattle.stream.specs.Keep.{tailCode, isText, isDoc, escFits, comFits, stateFits}
-use Rattle.stream.specs.Steps.{Step, Goes, Faults, unless, longAt, brokenAt, refusedAt, overAt, movedTo, stepBy, stepOf, lastOf, begin}
-use Rattle.stream.specs.Shapes.{listOf, outOf, takenBy, steppedOf, finishBy, Sound}
-use Rattle.stream.proofs.Fits.{both, esc-in, com-in}
+use Rattle.states.specs.declared.Finish.{Finish}
+use Rattle.states.specs.Machine.{Out, step, finish}
+use Rattle.states.specs.Utf.{utfStep, utfEnd, brokenAt}
+use Rattle.stream.specs.Steps.{Step, Goes, Faults, unless, longAt, refusedAt, overAt, movedTo, stepBy, stepOf, lastOf, begin}
+use Rattle.states.specs.Shapes.{listOf, outOf, finishBy}
+use Rattle.stream.specs.Shapes.{takenBy, steppedOf, Sound}
 use Rattle.stream.proofs.Keeps.{Fitting}
 
 -- ---- a sound stream
@@ -38,36 +29,6 @@ to-fitting c h = record { short = h .short; fit = record { sum = h .sum; count =
 
 pub to-sound : (c : Stand) → Fitting c → Sound c
 to-sound c h = record { short = h .short; sum = h .fit .sum; count = h .fit .count; state = h .fit .state; utf = h .sound }
-
--- ---- what a state's numbers are at most
-
-one-of : (k m n : ℕ) (b : Bool) → eqb k m ≡ b → or b (eqb k n) ≡ true → m ≤ 255 → n ≤ 255 → k ≤ 255
-one-of k m n true e f h g = let z : k ≡ m = eqb-true k m e in omega arith
-one-of k m n false e f h g = let z : k ≡ n = eqb-true k n f in omega arith
-
-pub text-small : (k n : ℕ) → stateFits (Str k) n ≡ true → k ≤ 255
-text-small k n e = one-of k 23 24 (eqb k 23) refl (both (isText k) (ltb 0 n) e .0) (omega arith) (omega arith)
-
-pub doc-small : (k n : ℕ) → stateFits (Doc k) n ≡ true → k ≤ 255
-doc-small k n e = one-of k 26 27 (eqb k 26) refl (both (isDoc k) (ltb 0 n) e .0) (omega arith) (omega arith)
-
-pub esc-small : (l : Lit) (b n : ℕ) → escFits l b n ≡ true → b ≤ n
-esc-small l b n e = let h : b < n = esc-in l b n e .1 in omega arith
-
-pub un-small : (l : Lit) (b j n : ℕ) → stateFits (Un l b j) n ≡ true → (j ≤ 6) × (b ≤ n)
-un-small l b j n e = let h = both (leb j 6) (escFits l b n) e in (leb-true j 6 (h .0), esc-small l b n (h .1))
-
-pub bar-small : (d n : ℕ) → comFits d n ≡ true → d ≤ n
-bar-small d n e = com-in d n e .1
-
-pub tail-small : (t : Tail) → tailCode t ≤ 6
-tail-small T1 = omega arith
-tail-small T2 = omega arith
-tail-small T3 = omega arith
-tail-small TE0 = omega arith
-tail-small TED = omega arith
-tail-small TF0 = omega arith
-tail-small TF4 = omega arith
 
 pub many-small : (g : Given) → length (listOf g) ≤ 1
 many-small No = omega arith

@@ -19,15 +19,15 @@ use Rattle.stream.specs.declared.Stand.{Stand}
 use Rattle.stream.specs.declared.Status.{Status}
 use Rattle.stream.specs.declared.Status.the-variants.{Open, Held}
 use Rattle.stream.specs.declared.Feed.{Feed}
-use Rattle.stream.specs.declared.Given.{Given}
-use Rattle.stream.specs.declared.Given.the-variants.{No, Yes}
+use Rattle.states.specs.declared.Given.{Given}
+use Rattle.states.specs.declared.Given.the-variants.{No, Yes}
 use Rattle.stream.specs.declared.Ran.the-variants.{Stands, Refuses}
-use Rattle.stream.specs.Machine.{step, finish}
-use Rattle.stream.specs.Utf.{utfEnd}
-use Rattle.stream.specs.Keep.{fits}
+use Rattle.states.specs.Machine.{step, finish}
+use Rattle.states.specs.Utf.{utfEnd}
+use Rattle.stream.specs.Feed.{fits, standOf, refusals, opened, flat, roomOf, reported, written, feedOf, feedIn, endOf, endIn}
 use Rattle.stream.specs.Steps.{Step, Goes, Faults, overAt, stepOf, given, ranOf, lastOf, begin, fedOf, doneOf}
-use Rattle.stream.specs.Feed.{standOf, refusals, opened, flat, roomOf, reported, written, feedOf, feedIn, endOf, endIn}
-use Rattle.stream.specs.Shapes.{listOf, ranBy, givesOf, isGood, refusing, standing, Sound}
+use Rattle.states.specs.Shapes.{listOf}
+use Rattle.stream.specs.Shapes.{ranBy, givesOf, isGood, refusing, standing, Sound}
 use Rattle.stream.proofs.Runs.{unless-goes, took}
 use Rattle.stream.proofs.Stores.{flat-append, flat-length, sets-append}
 use Rattle.stream.proofs.Loops.{loop-starts, loop-goes, loop-stops, loop-ends}

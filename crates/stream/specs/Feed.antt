@@ -1,18 +1,19 @@
 -- Calls in numbers: what a packet or the end answers, and what the lent list holds afterwards.
 use Prim.Native.Nat.{ℕ, _+_, _-_, _*_, _/_}
+use mathlib.Core.Bool.{Bool}
 use mathlib.Core.List.{List, [], _∷_}
-use lib.Dec.{eqb}
+use lib.Dec.{leb, eqb}
 use lib.ListN.{length}
 use lib.Seq.{sets}
-use Rattle.text.specs.Choice.{choose, among}
+use Rattle.text.specs.Choice.{choose, and, among}
 use Rattle.token.specs.Lists.{Tok, tok}
-use Rattle.stream.specs.declared.State.{State}
+use Rattle.states.specs.declared.State.{State}
 use Rattle.stream.specs.declared.Stand.{Stand}
 use Rattle.stream.specs.declared.Status.{Status}
 use Rattle.stream.specs.declared.Status.the-variants.{Open, Held}
 use Rattle.stream.specs.declared.Feed.{Feed}
 use Rattle.stream.specs.declared.Call.{Call}
-use Rattle.stream.specs.Keep.{partsOf, stateOf, utfOf, utfCode, utfStart, waiting, fits}
+use Rattle.states.specs.Keep.{partsOf, stateOf, utfOf, utfCode, utfStart, waiting, stateFits, utfFits}
 use Rattle.stream.specs.Steps.{begin, Moved, fedOf, doneOf}
 
 -- ---- a stream in numbers
@@ -57,6 +58,13 @@ standBy f q =
 
 unfoldable pub standOf : Feed → Stand
 standOf f = standBy f (stateOf (f .state) (f .kind) (f .backslash) (f .depth))
+
+-- the numbers of a stream fit one another
+unfoldable pub fits : Stand → Bool
+fits c =
+    and (leb (c .seen) 65536)
+    (and (leb (c .conf .start) (c .seen))
+    (and (leb (c .count) (c .conf .start)) (and (stateFits (c .conf .state) (c .conf .size)) (utfFits (c .utf) (c .seen)))))
 
 -- the numbers of refusals
 abbrev pub refusals : List ℕ

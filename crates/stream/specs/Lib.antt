@@ -1,7 +1,4 @@
 -- Tokens as they arrive.
-pub mod Machine
-pub mod Utf
-pub mod Keep
 pub mod Steps
 pub mod Feed
 pub mod Packets

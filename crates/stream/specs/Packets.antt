@@ -4,15 +4,15 @@ use mathlib.Core.Path.{_≡_}
 use mathlib.Core.Bool.{true}
 use mathlib.Core.List.{List, [], _∷_, _++_}
 use mathlib.Core.Logic.{_⊎_}
-use lib.Dec.{ltb}
 use lib.ListN.{length}
 use Rattle.text.specs.Choice.{all, among}
 use Rattle.text.specs.Utf8.{firstBad}
 use Rattle.text.specs.declared.Check.the-variants.{Good, Bad}
 use Rattle.token.specs.Lists.{Tok, tok, tokensOf}
+use Rattle.states.specs.Free.{Bytes, Free-1, Free-2, Free-3}
 use Rattle.stream.specs.declared.Status.{Status}
 use Rattle.stream.specs.declared.Status.the-variants.{Open, Held}
-use Rattle.stream.specs.Machine.{feed, fresh}
+use Rattle.states.specs.Machine.{feed, fresh}
 use Rattle.stream.specs.Steps.{Moved, fedOf}
 use Rattle.stream.specs.declared.Feed.{Feed}
 use Rattle.stream.specs.Feed.{refusals, feedOf, feedIn}
@@ -66,19 +66,6 @@ callsOf k [] = k
 callsOf k (xs ∷ xss) = callsOf (record { feed = feedOf (k .feed) xs (k .list) .next; list = feedIn (k .feed) xs (k .list) }) xss
 
 -- ---- what shows after a text, and what does not
-
-abbrev pub Bytes : List ℕ → Type 0
-Bytes ys = all (λ b. ltb b 256) ys ≡ true
-
--- some continuation by bytes has no 1; no 2; no 3
-abbrev pub Free-1 : List ℕ → Type 0
-Free-1 s = (ys : List ℕ) × Bytes ys × (length (s ++ ys) ≤ 65536)
-
-abbrev pub Free-2 : List ℕ → Type 0
-Free-2 s = (ys : List ℕ) × Bytes ys × (firstBad (s ++ ys) ≡ Good)
-
-abbrev pub Free-3 : List ℕ → Type 0
-Free-3 s = (ys : List ℕ) × Bytes ys × (tokensOf (s ++ ys) .fault ≡ Good)
 
 -- some continuation has no such token at an index
 abbrev pub Lacks : List ℕ → ℕ → Tok → Type 0

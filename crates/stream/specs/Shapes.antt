@@ -2,50 +2,22 @@
 use Prim.Native.Nat.{ℕ, _+_, _≤_}
 use mathlib.Core.Path.{_≡_}
 use mathlib.Core.Bool.{Bool, true, false}
-use mathlib.Core.List.{List, [], _∷_, _++_}
-use Rattle.token.specs.Lists.{Tok, tok, Tokens}
-use Rattle.stream.specs.declared.State.{State}
-use Rattle.stream.specs.declared.State.the-variants.{Start}
+use mathlib.Core.List.{List, [], _++_}
+use Rattle.token.specs.Lists.{Tok}
 use Rattle.stream.specs.declared.Stand.{Stand}
-use Rattle.stream.specs.declared.Utf.{Utf}
-use Rattle.stream.specs.declared.Given.{Given}
-use Rattle.stream.specs.declared.Given.the-variants.{No, Yes}
-use Rattle.stream.specs.declared.Row.{Row}
+use Rattle.states.specs.declared.Utf.{Utf}
 use Rattle.stream.specs.declared.Packed.{Packed}
 use Rattle.stream.specs.declared.Stepped.{Stepped}
 use Rattle.stream.specs.declared.Stepped.the-variants.{Moves, Stops}
 use Rattle.stream.specs.declared.Ran.{Ran}
 use Rattle.stream.specs.declared.Ran.the-variants.{Stands, Refuses}
-use Rattle.stream.specs.declared.Finish.{Finish}
 use Rattle.stream.specs.declared.Status.the-variants.{Open, Held}
 use Rattle.stream.specs.declared.Call.{Call}
-use Rattle.stream.specs.Machine.{Out}
-use Rattle.stream.specs.Keep.{Parts, parts, waiting, stateFits, utfFits}
+use Rattle.states.specs.Machine.{Out}
+use Rattle.states.specs.Keep.{Parts, parts, waiting, stateFits, utfFits}
+use Rattle.states.specs.Shapes.{listOf}
 use Rattle.stream.specs.Steps.{Step, Goes, Faults, unless, refusedAt, overAt, movedTo}
 use Rattle.stream.specs.Feed.{numbered}
-
-abbrev pub listOf : Given → List Tok
-listOf No = []
-listOf (Yes k a b) = tok k a b ∷ []
-
-abbrev pub outOf : Row → Out
-outOf r = record { gives = listOf (r .before) ++ listOf (r .here); next = r .conf }
-
--- no token, and a state
-abbrev pub going : State → ℕ → ℕ → Row
-going q a n = record { before = No; here = No; conf = record { state = q; start = a; size = n } }
-
--- a token up to b that ends with this byte, and Start at c
-abbrev pub giving : ℕ → ℕ → ℕ → ℕ → Row
-giving k a b c = record { before = No; here = Yes k a b; conf = record { state = Start; start = c; size = 0 } }
-
--- a row that gives one token at most, none of them before its byte
-abbrev pub hereOf : List Tok → Given
-hereOf [] = No
-hereOf (tok k a b ∷ ts) = Yes k a b
-
-abbrev pub rowBy : Out → Row
-rowBy o = record { before = No; here = hereOf (o .gives); conf = o .next }
 
 -- a state in numbers
 abbrev pub partsBy : Packed → Parts
@@ -73,9 +45,6 @@ givesOf (Faults n p) = []
 abbrev pub isGood : Step → Bool
 isGood (Goes ts c) = true
 isGood (Faults n p) = false
-
-abbrev pub finishBy : Finish → Tokens
-finishBy f = record { list = listOf (f .token); fault = f .fault }
 
 -- a stream whose numbers fit one another
 pub record Sound (c : Stand) : Type 0 where

@@ -7,15 +7,15 @@ use Rattle.text.specs.Choice.{choose}
 use Rattle.text.specs.declared.Check.{Check}
 use Rattle.text.specs.declared.Check.the-variants.{Good, Bad}
 use Rattle.token.specs.Lists.{Tok, startOf}
-use Rattle.stream.specs.declared.Conf.{Conf}
-use Rattle.stream.specs.declared.Utf.{Utf}
-use Rattle.stream.specs.declared.Utf.the-variants.{Whole, Mid, Broke}
+use Rattle.states.specs.declared.Conf.{Conf}
+use Rattle.states.specs.declared.Utf.{Utf}
+use Rattle.states.specs.declared.Utf.the-variants.{Whole}
 use Rattle.stream.specs.declared.Stand.{Stand}
 use Rattle.stream.specs.declared.Status.{Status}
 use Rattle.stream.specs.declared.Status.the-variants.{Open, Held}
-use Rattle.stream.specs.Machine.{Out, step, finish, fresh}
-use Rattle.stream.specs.Utf.{utfStep, utfEnd}
-use Rattle.stream.specs.Keep.{refusedCode, codeOf}
+use Rattle.states.specs.Machine.{Out, step, finish, fresh}
+use Rattle.states.specs.Utf.{utfStep, utfEnd, brokenAt}
+use Rattle.states.specs.Keep.{refusedCode, codeOf}
 
 -- tokens, and where the stream stands then; or a refusal's number and place
 pub data Step : Type 0 where
@@ -30,12 +30,6 @@ unless number Good f = f tt
 -- 1: over 65,536 bytes
 unfoldable pub longAt : ℕ → Check
 longAt n = choose (ltb 65536 n) (λ u. Bad 0) (λ u. Good)
-
--- 2: a sequence is broken
-abbrev pub brokenAt : Utf → Check
-brokenAt Whole = Good
-brokenAt (Mid t s) = Good
-brokenAt (Broke p) = Bad p
 
 -- 3: the tokens' machine refused
 unfoldable pub refusedAt : Conf → Check

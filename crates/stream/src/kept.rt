@@ -1,16 +1,16 @@
 // A stream in the numbers that a caller keeps.
-use crate::Conf;
+use states::Conf;
 use crate::Feed;
-use crate::Lit;
+use states::Lit;
 use crate::Packed;
 use crate::Stand;
-use crate::State;
+use states::State;
 use crate::Status;
-use crate::Tail;
-use crate::Utf;
+use states::Tail;
+use states::Utf;
 use text::Check;
 ghost use mathlib.Core.Path.{_≡_};
-ghost use Rattle.stream.specs.Keep as Keep;
+ghost use Rattle.states.specs.Keep as Keep;
 ghost use Rattle.stream.specs.Steps.{refusedAt};
 ghost use Rattle.stream.specs.Feed.{numbered};
 ghost use Rattle.stream.specs.Shapes.{partsBy};

@@ -1,17 +1,17 @@
 // Numbers from anywhere: those that don't fit one another are taken for a fresh stream.
-use crate::Conf;
+use states::Conf;
 use crate::Feed;
-use crate::Lit;
+use states::Lit;
 use crate::Stand;
-use crate::State;
+use states::State;
 use crate::Status;
-use crate::Tail;
-use crate::Utf;
+use states::Tail;
+use states::Utf;
 ghost use mathlib.Core.Path.{_≡_};
 ghost use Prim.Native.Nat.{_-_};
 ghost use lib.ListN.{getD};
 ghost use Rattle.text.specs.Choice.{and, among};
-ghost use Rattle.stream.specs.Keep as Keep;
+ghost use Rattle.states.specs.Keep as Keep;
 ghost use Rattle.stream.specs.Steps.{begin};
 ghost use Rattle.stream.specs.Feed as Feeds;
 
@@ -224,7 +224,7 @@ fn utf_fits(u: Utf, n: usize) -> bool
 
 // The numbers of a stream fit one another.
 fn fits(c: Stand) -> bool
-    ensures { λ r. ⌜ r ≡ Keep.fits c ⌝ }
+    ensures { λ r. ⌜ r ≡ Feeds.fits c ⌝ }
 {
     let conf = c.conf;
     let u = c.utf;

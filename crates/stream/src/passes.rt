@@ -1,12 +1,11 @@
 // A byte, a packet and the end: what is refused, where the stream stands then, and the tokens.
-mod ends;
 pub(crate) mod rooms;
 
 use crate::Ran;
-use crate::Row;
+use states::Row;
 use crate::Stand;
 use crate::Stepped;
-use crate::Utf;
+use states::Utf;
 use text::Check;
 ghost use mathlib.Core.Path.{_≡_};
 ghost use mathlib.Core.Bool.{true};
@@ -15,7 +14,8 @@ ghost use lib.Seq.{sets};
 ghost use Rattle.text.specs.Classes.{classes};
 ghost use Rattle.stream.specs.Steps.{longAt, stepOf, ranOf, lastOf};
 ghost use Rattle.stream.specs.Feed.{flat, roomOf};
-ghost use Rattle.stream.specs.Shapes.{outOf, takenBy, steppedOf, ranBy, givesOf, isGood, Sound};
+ghost use Rattle.states.specs.Shapes.{outOf};
+ghost use Rattle.stream.specs.Shapes.{takenBy, steppedOf, ranBy, givesOf, isGood, Sound};
 
 // One byte more is too many.
 fn long(seen: usize) -> Check
@@ -68,13 +68,13 @@ fn step(t: &[u8; 256], room: usize, c: Stand, x: u8) -> Stepped
         return Stepped::Stops(1, place);
     }
     let u = c.utf;
-    let utf = crate::utf8::step(u, c.seen, x);
-    let broken = crate::utf8::broken(utf);
+    let utf = states::inner::utf8::step(u, c.seen, x);
+    let broken = states::inner::utf8::broken(utf);
     if let Check::Bad(place) = broken {
         return Stepped::Stops(2, place);
     }
     let conf = c.conf;
-    let row = crate::table::step(t, conf, x);
+    let row = states::inner::table::step(t, conf, x);
     take(room, c, utf, row)
 }
 
@@ -132,12 +132,12 @@ pub(crate) fn last(room: usize, c: Stand) -> Stepped
     ensures { λ r. ⌜ steppedOf r ≡ lastOf room c ⌝ }
 {
     let u = c.utf;
-    let cut = crate::utf8::ended(u);
+    let cut = states::inner::utf8::ended(u);
     if let Check::Bad(place) = cut {
         return Stepped::Stops(2, place);
     }
     let conf = c.conf;
-    let finish = ends::finish(conf);
+    let finish = states::inner::ends::finish(conf);
     let fault = finish.fault;
     if let Check::Bad(place) = fault {
         return Stepped::Stops(3, place);
@@ -147,5 +147,5 @@ pub(crate) fn last(room: usize, c: Stand) -> Stepped
     if let Check::Bad(place) = over {
         return Stepped::Stops(14, place);
     }
-    Stepped::Moves(crate::Given::No, token, crate::opened::fresh())
+    Stepped::Moves(states::Given::No, token, crate::opened::fresh())
 }

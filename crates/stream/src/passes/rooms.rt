@@ -1,5 +1,5 @@
 // Room in the list, and records into it.
-use crate::Given;
+use states::Given;
 use text::Check;
 ghost use mathlib.Core.Path.{_≡_};
 ghost use mathlib.Core.List.{_++_};
@@ -8,7 +8,7 @@ ghost use lib.ListN.{length};
 ghost use lib.Seq.{sets};
 ghost use Rattle.stream.specs.Steps.{overAt};
 ghost use Rattle.stream.specs.Feed.{flat, roomOf};
-ghost use Rattle.stream.specs.Shapes.{listOf};
+ghost use Rattle.states.specs.Shapes.{listOf};
 
 pub(crate) fn many(g: Given) -> usize
     ensures { λ r. ⌜ r ≡ length (listOf g) ⌝ }

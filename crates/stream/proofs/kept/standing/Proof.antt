@@ -1,6 +1,6 @@
 use mathlib.Core.Path.{ap}
 use borrow.Author.Needs.{needs}
-use Rattle.stream.specs.Keep.{Parts}
+use Rattle.states.specs.Keep.{Parts}
 use Rattle.stream.proofs.kept.standing.Statement.{statement}
 use Rattle.stream.proofs.kept.standing.Tie as tie
 

@@ -1,6 +1,6 @@
 use native.Mathlib.Omega.{arith}
 use borrow.Author.Needs.{needs}
-use Rattle.stream.proofs.Sounds.{tail-small}
+use Rattle.states.proofs.Small.{tail-small}
 use Rattle.stream.proofs.kept.utf_code.Statement.{statement}
 use Rattle.stream.proofs.kept.utf_code.Tie as tie
 

@@ -1,5 +1,5 @@
 use borrow.Author.Tests.{ne-eqb}
-use Rattle.stream.specs.Keep.{litOf}
+use Rattle.states.specs.Keep.{litOf}
 use Rattle.stream.proofs.opened.lit_of.Statement.{statement}
 use Rattle.stream.proofs.opened.lit_of.Tie as tie
 

@@ -1,8 +1,8 @@
 use lib.ListN.{List·getD-eq-default}
 use mathlib.Core.Path.{sym}
 use borrow.Author.Needs.{needs}
-use Rattle.stream.specs.declared.State.the-variants.{Refused}
-use Rattle.stream.specs.Keep.{stateOf, states}
+use Rattle.states.specs.declared.State.the-variants.{Refused}
+use Rattle.states.specs.Keep.{stateOf, states}
 use Rattle.stream.proofs.Sounds.{beyond}
 use Rattle.stream.proofs.opened.state_of.Statement.{statement}
 use Rattle.stream.proofs.opened.state_of.Tie as tie

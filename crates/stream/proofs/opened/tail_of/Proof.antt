@@ -1,8 +1,8 @@
 use lib.ListN.{List·getD-eq-default}
 use mathlib.Core.Path.{sym}
 use borrow.Author.Needs.{needs}
-use Rattle.stream.specs.declared.Tail.the-variants.{T1}
-use Rattle.stream.specs.Keep.{tails}
+use Rattle.states.specs.declared.Tail.the-variants.{T1}
+use Rattle.states.specs.Keep.{tails}
 use Rattle.stream.proofs.Sounds.{beyond}
 use Rattle.stream.proofs.opened.tail_of.Statement.{statement}
 use Rattle.stream.proofs.opened.tail_of.Tie as tie

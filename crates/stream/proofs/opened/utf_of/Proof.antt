@@ -1,7 +1,7 @@
 use lib.ListN.{List·getD-eq-default}
 use mathlib.Core.Path.{sym}
-use Rattle.stream.specs.Keep.{utfs, utfOf}
-use Rattle.stream.specs.declared.Utf.the-variants.{Broke}
+use Rattle.states.specs.Keep.{utfs, utfOf}
+use Rattle.states.specs.declared.Utf.the-variants.{Broke}
 use Rattle.stream.proofs.Sounds.{beyond}
 use Rattle.stream.proofs.opened.utf_of.Statement.{statement}
 use Rattle.stream.proofs.opened.utf_of.Tie as tie

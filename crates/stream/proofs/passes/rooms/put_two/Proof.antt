@@ -3,7 +3,7 @@ use lib.ListN.{length}
 use native.Mathlib.Omega.{arith}
 use mathlib.Core.Path.{_∙_, ap}
 use borrow.Author.Needs.{needs}
-use Rattle.stream.specs.Shapes.{listOf}
+use Rattle.states.specs.Shapes.{listOf}
 use Rattle.stream.specs.Feed.{roomOf}
 use Rattle.stream.proofs.Writes.{over-first, over-second, put-more}
 use Rattle.stream.proofs.Sounds.{many-small}
