@@ -31,8 +31,9 @@ pub mod Pairs
 pub mod Cuts
 pub mod Short
 pub mod Examples
--- the place of a 3
+-- the place of a 3, in a text and in packets
 pub mod Places
+pub mod Arrives
 -- the twelve examples, uniqueness, wrong programs
 pub mod Sample
 pub mod Twelve

@@ -1,10 +1,11 @@
 -- Where the reader's 3 stands: only the list of tokens gives one, and its place is known.
-use Prim.Native.Nat.{ℕ}
+use Prim.Native.Nat.{ℕ, _≤_}
 use mathlib.Core.Path.{_≡_, refl}
 use mathlib.Core.List.{List}
 use native.Mathlib.Omega.{arith}
 use lib.Dec.{leb}
 use lib.ListN.{length}
+use borrow.Author.Tests.{le-leb}
 use Rattle.text.specs.Utf8.{firstBad}
 use Rattle.text.specs.declared.Check.{Check}
 use Rattle.text.specs.declared.Check.the-variants as Check
@@ -87,3 +88,8 @@ module _ (level : Level) (s : List ℕ) (n r b : ℕ) where
     -- and stands where what follows the last token begins, or at its bad escape
     pub reader-place : readOf level s n r b ≡ Reading.NoToken p → FaultFrom s (pastLast s) p
     reader-place e = text-place s p (reader-3 e)
+
+    -- and the other way: where nothing comes before it, the list's 3 is the reader's
+    pub reads-3 : length s ≤ 65536 → firstBad s ≡ Check.Good → tokensOf s .fault ≡ Check.Bad p → readOf level s n r b ≡ Reading.NoToken p
+    unfolding readOf listedOf
+    reads-3 l u e = rw (le-leb (length s) 65536 l, u, e) refl

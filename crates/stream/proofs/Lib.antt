@@ -15,3 +15,4 @@ pub mod Loops
 pub mod Sounds
 pub mod Writes
 pub mod Examples
+pub mod Wrong
