@@ -9,8 +9,8 @@ use borrow.Author.Tests.{leb-true}
 use Rattle.text.specs.Choice.{choose}
 use Rattle.text.specs.declared.Put.{Put}
 use Rattle.text.specs.declared.Put.the-variants.{Wrote, NoRoom}
-use Rattle.show.specs.Line.{refusalLine, refusalPut}
-use Rattle.show.specs.Shown.{PutFits}
+use Rattle.rows.specs.Line.{refusalLine, refusalPut}
+use Rattle.rows.specs.Put.{PutFits}
 
 pub put-within : (k : ℕ) {r : Put} {n : ℕ} → r ≡ Wrote n → PutFits r k → n ≤ k
 put-within k e h = subst (λ (r : Put). PutFits r k) e h

@@ -2,7 +2,7 @@
 // its end is known. Where the text is refused it writes the line `refused N at P`, and ends.
 //
 // What one read gives is a packet, so nothing waits for a buffer to fill. What a packet adds to the list of
-// tokens is the promise of `stream::feed_packet`, and what is written of it that of `show::token_lines`; the rest
+// tokens is the promise of `stream::feed_packet`, and what is written of it that of `rows::token_lines`; the rest
 // moves bytes. The list has room for every text, so 14 is never given.
 use stream::Call;
 use stream::Feed;
@@ -42,7 +42,7 @@ fn write(out: &[u8]) -> bool {
 // Writes the line of a refusal.
 fn refuse(number: usize, place: usize) {
     let mut out = [0u8; 64];
-    let put = show::refusal(number as u64, place as u64, &mut out);
+    let put = rows::refusal(number as u64, place as u64, &mut out);
     let Put::Wrote(n) = put else {
         program::fail(b"arrive", b": the refusal has no room\n");
         return;
@@ -63,7 +63,7 @@ fn write_new(list: &[u32], from: usize, to: usize) -> bool {
     if to <= from {
         return true;
     }
-    let put = show::token_lines(&list[3 * from..3 * to], &mut out);
+    let put = rows::token_lines(&list[3 * from..3 * to], &mut out);
     let Put::Wrote(n) = put else {
         program::fail(b"arrive", b": the tokens have no room\n");
         return false;

@@ -2,18 +2,18 @@
 // the output are lent, and
 //     d   a text in pieces: how many times, and what in hex; `show::desk` is run on it in the full style
 //     s   the same, in the short style
-//     r   a number and a place; `show::refusal` is run on them
-//     l   an answer's five numbers; `show::answer_line` is run on them
-//     w   a text in pieces; `show::whole_lines` is run on it
+//     r   a number and a place; `rows::refusal` is run on them
+//     l   an answer's five numbers; `rows::answer_line` is run on them
+//     w   a text in pieces; `rows::whole_lines` is run on it
 //     b   the steps allowed, a rule's name, a layout in hex, and camera lines in pieces; `show::read_layout` and
-//         then `show::answer_block` are run on them
+//         then `rows::answer_block` are run on them
 // It is written again with what came of it: `text`, `line`, `refused` or `no room`; of a block `lines`, the
 // place of the next line and the refused lines; of a layout `no rule`, or `not read` with a number and a place.
 // Then the bytes put, and how many bytes of the whole output behind them still stand at what was there before;
 // then of more than 300 bytes a sum, and of others, on lines of their own, all.
 use matcher::Row;
 use printer::Style;
-use show::Block;
+use rows::Block;
 use show::Layout;
 use show::Shown;
 use text::Put;
@@ -57,7 +57,7 @@ fn run_refusal(number: u64, place: u64, room: usize, out: &mut [u8]) {
     if out.len() < room {
         return;
     }
-    let line = show::refusal(number, place, &mut out[..room]);
+    let line = rows::refusal(number, place, &mut out[..room]);
     match line {
         Put::Wrote(n) => answer(b" refused", n, out),
         Put::NoRoom => answer(b" no room", 0, out),
@@ -68,7 +68,7 @@ fn run_answer(row: Row, room: usize, out: &mut [u8]) {
     if out.len() < room {
         return;
     }
-    let line = show::answer_line(row, &mut out[..room]);
+    let line = rows::answer_line(row, &mut out[..room]);
     match line {
         Put::Wrote(n) => answer(b" line", n, out),
         Put::NoRoom => answer(b" no room", 0, out),
@@ -95,7 +95,7 @@ fn run_block(
     if out.len() < room {
         return;
     }
-    let block = show::answer_block(nodes, rules, store, start, camera, steps, &mut out[..room]);
+    let block = rows::answer_block(nodes, rules, store, start, camera, steps, &mut out[..room]);
     match block {
         Block::Lines {
             size,
@@ -165,7 +165,7 @@ fn run_row(line: &[u8], from: usize, room: usize, out: &mut [u8]) {
 fn run_whole(line: &[u8], from: usize) {
     let mut text = [0u8; 65600];
     let n = vectors::pieces(line, from, &mut text);
-    vectors::write_number(show::whole_lines(&text[..n]));
+    vectors::write_number(rows::whole_lines(&text[..n]));
     vectors::write(b"\n");
 }
 

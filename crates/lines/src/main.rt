@@ -1,13 +1,13 @@
 // The program for camera lines: reads a layout on descriptor 7, at the tagged level, and runs a rule of it over
 // each line of standard input. It writes a line for each: `LENGTH STEPS`, `none STEPS` or `refused N at P`. A
-// line may take 1,000,000 steps. All of that is the promise of `show::read_layout` and `show::answer_block`;
+// line may take 1,000,000 steps. All of that is the promise of `show::read_layout` and `rows::answer_block`;
 // the rest moves bytes.
 //
 // Its arguments are the layout's name, for its complaints, and the rule's. It works in blocks: the whole lines
 // that have come are answered at once, and of the last one what has come is kept until its end does. That this
-// changes nothing is proved beside them (`answers-first` and `answers-after` in crates/show/proofs/Blocks.antt).
+// changes nothing is proved beside them (`answers-first` and `answers-after` in crates/rows/proofs/Blocks.antt).
 use program::Input;
-use show::Block;
+use rows::Block;
 use show::Layout;
 ghost use Prim.Native.Nat.{_≤_};
 ghost use lib.ListN.{length};
@@ -82,7 +82,7 @@ fn answer_some(
     ensures { λ r. ⌜ Holds r (length (now (text .entry))) ⌝ }
 {
     let mut out = [0u8; 65536];
-    let block = show::answer_block(nodes, rules, store, start, text, STEPS, &mut out);
+    let block = rows::answer_block(nodes, rules, store, start, text, STEPS, &mut out);
     match block {
         Block::Lines {
             size,
@@ -192,7 +192,7 @@ fn take_turn(
         end(nodes, rules, store, start, &text[..have], refused);
         return Turn::Ended;
     }
-    let whole = show::whole_lines(&text[..have]);
+    let whole = rows::whole_lines(&text[..have]);
     if whole == 0 {
         if have == text.len() {
             program::fail(b"lines", b": a line has more than 65,536 bytes\n");

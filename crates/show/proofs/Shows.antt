@@ -23,7 +23,7 @@ use Rattle.show.specs.declared.Answer.{Answer}
 use Rattle.show.specs.declared.Answer.the-variants as Answer
 use Rattle.show.specs.declared.Shown.{Shown}
 use Rattle.show.specs.declared.Shown.the-variants.{Text, Refused, NoRoom}
-use Rattle.show.specs.Line.{refusalLine, refusalPut, refusalIn}
+use Rattle.rows.specs.Line.{refusalLine, refusalPut, refusalIn}
 use Rattle.show.specs.Shown.{Fits, refusedBy}
 use Rattle.show.specs.Desk.{reading, printing, printed, answerOf, answerIn, shownBy, deskOf, leftBy, deskIn}
 

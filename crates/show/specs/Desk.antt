@@ -15,7 +15,7 @@ use Rattle.show.specs.declared.Answer.{Answer}
 use Rattle.show.specs.declared.Answer.the-variants as Answer
 use Rattle.show.specs.declared.Shown.{Shown}
 use Rattle.show.specs.declared.Shown.the-variants.{Text}
-use Rattle.show.specs.Line.{refusalPut, refusalIn}
+use Rattle.rows.specs.Line.{refusalPut, refusalIn}
 use Rattle.show.specs.Shown.{refusedBy}
 
 -- the reading at the tagged level, with room for 2,048 nodes, 1,024 rules and 65,536 store bytes

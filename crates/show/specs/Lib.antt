@@ -1,8 +1,4 @@
--- What programs write: the definitions that the contracts cite.
-pub mod Line
+-- What programs do with a layout: the definitions that the contracts cite.
 pub mod Shown
 pub mod Desk
-pub mod Rows
-pub mod Block
 pub mod Layout
-pub mod Tokens

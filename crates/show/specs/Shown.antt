@@ -11,11 +11,6 @@ Fits (Text n) k = n ≤ k
 Fits (Refused n) k = n ≤ k
 Fits NoRoom k = Unit {0}
 
--- what was put lies in an output of k bytes
-abbrev pub PutFits : Put → ℕ → Type 0
-PutFits (Put.Wrote n) k = n ≤ k
-PutFits Put.NoRoom k = Unit {0}
-
 -- a refusal's line, written or not
 unfoldable pub refusedBy : Put → Shown
 refusedBy (Put.Wrote n) = Refused n

@@ -1,26 +1,16 @@
-// What programs write, as bytes: each entry point puts all that a program is to write at the front of an
-// output that it is lent. They ask nothing of their callers.
-mod line;
-mod row;
-mod tokens;
-
+// What programs do with a layout: all that the desk is to write, at the front of a lent output; and a layout's
+// tables with the rule of a name. The entry points ask nothing of their callers.
 use matcher::Found;
-use matcher::Lines;
-use matcher::Row;
 use printer::Style;
 use text::Put;
 ghost use mathlib.Core.Path.{_≡_};
 ghost use lib.ListN.{length};
-ghost use Rattle.show.specs.Line.{refusalPut, refusalIn};
-ghost use Rattle.show.specs.Shown.{PutFits, refusedBy};
+ghost use Rattle.show.specs.Shown.{refusedBy};
 ghost use Rattle.show.specs.Desk.{answerOf, answerIn, deskOf, deskIn};
 ghost use Rattle.structure.specs.declared.Level.the-variants.{Tagged};
 ghost use Rattle.reader.specs.Read.{roomForNodes, roomForRules, readOf, Leaves};
 ghost use Rattle.matcher.specs.Answers.{numbered};
 ghost use Rattle.show.specs.Layout.{refusedLayout, layoutOf};
-ghost use Rattle.show.specs.Rows.{rowPut, rowIn};
-ghost use Rattle.show.specs.Block.{refusedBlock, blockOf, blockIn, Inside, wholeSize};
-ghost use Rattle.show.specs.Tokens.{tokensPut, tokensIn};
 
 // The bytes of a text or of a refusal's line; or not even the line has room.
 pub enum Shown {
@@ -49,38 +39,6 @@ pub enum Layout {
         place: u64,
     },
     NoRule,
-}
-
-// The bytes of records' lines, and how many of the records are refusals.
-pub struct Rows {
-    pub size: usize,
-    pub refused: usize,
-}
-
-// The bytes of the answers to a block of camera lines, the place where the first line that wasn't run begins
-// and how many lines were refused; or a refusal of the tables or of the rule; or too little room.
-pub enum Block {
-    Lines {
-        size: usize,
-        next: usize,
-        refused: usize,
-    },
-    Refused {
-        number: u64,
-        place: u64,
-    },
-    NoRoom,
-}
-
-// Writes the line `refused N at P`, LF behind it.
-pub fn refusal(number: u64, place: u64, out: &mut [u8]) -> Put
-    ensures answered { λ r. ⌜ r ≡ refusalPut number place (length (now (out .entry))) ⌝ }
-    ensures written { λ r. ⌜ now (out .exit) ≡ refusalIn number place (now (out .entry)) r ⌝ }
-{
-    if line::spend_line(out.len() + 1, number, place) == 0 {
-        return Put::NoRoom;
-    }
-    Put::Wrote(line::put_line(number, place, out, 0))
 }
 
 // Reads a text and prints it in a style, with room for 2,048 nodes, 1,024 rules and 65,536 store bytes.
@@ -138,81 +96,8 @@ pub fn desk(style: Style, text: &[u8], out: &mut [u8]) -> Shown
     let answer = print_back(style, text, out);
     match answer {
         Answer::Printed(n) => Shown::Text(n),
-        Answer::Refused { number, place } => refused(refusal(number, place, out)),
+        Answer::Refused { number, place } => refused(rows::refusal(number, place, out)),
     }
-}
-
-// Writes the line of a camera line's answer: `LENGTH STEPS`, `none STEPS` or `refused N at P`.
-pub fn answer_line(row: Row, out: &mut [u8]) -> Put
-    ensures answered { λ r. ⌜ r ≡ rowPut row (length (now (out .entry))) ⌝ }
-    ensures written { λ r. ⌜ now (out .exit) ≡ rowIn row (now (out .entry)) r ⌝ }
-{
-    if row::spend_row(out.len() + 1, row) == 0 {
-        return Put::NoRoom;
-    }
-    Put::Wrote(row::put_row(row, out, 0))
-}
-
-// A call's refusal.
-fn refused_block(answer: matcher::Answer) -> Block
-    ensures { λ r. ⌜ r ≡ refusedBlock (numbered answer) ⌝ }
-{
-    let row = matcher::row_of(answer);
-    Block::Refused {
-        number: row.number,
-        place: row.place,
-    }
-}
-
-// The answers to the lines of a block by the rule at an index, at most 1,024 of them, a line for each. A
-// caller goes on from where the next line begins. An output of 54,272 bytes is enough for any; a smaller one
-// has no room.
-pub fn answer_block(
-    nodes: &[u32],
-    rules: &[u32],
-    store: &[u8],
-    start: usize,
-    text: &[u8],
-    allowance: u64,
-    out: &mut [u8],
-) -> Block
-    ensures answered { λ r. ⌜ r ≡ blockOf (now (nodes .entry)) (now (rules .entry)) (now (store .entry)) start (now (text .entry)) allowance (length (now (out .entry))) ⌝ }
-    ensures written { λ r. ⌜ now (out .exit) ≡ blockIn (now (nodes .entry)) (now (rules .entry)) (now (store .entry)) start (now (text .entry)) allowance (now (out .entry)) ⌝ }
-    ensures inside { λ r. ⌜ Inside r (length (now (out .entry))) (length (now (text .entry))) ⌝ }
-{
-    if out.len() < 54272 {
-        return Block::NoRoom;
-    }
-    let mut records = [0u64; 5120];
-    let ran = matcher::match_lines(nodes, rules, store, start, text, allowance, &mut records);
-    match ran {
-        Lines::Ran(k, next) => {
-            let rows = row::put_rows(&records, k, out);
-            Block::Lines {
-                size: rows.size,
-                next,
-                refused: rows.refused,
-            }
-        }
-        Lines::FalseTables => refused_block(matcher::Answer::FalseTables),
-        Lines::Unfit(i) => refused_block(matcher::Answer::Unfit(i)),
-        Lines::NoRule => refused_block(matcher::Answer::NoRule),
-    }
-}
-
-// The bytes of a text up to its last LF, that one too. What is behind them is a line whose end hasn't come.
-pub fn whole_lines(text: &[u8]) -> usize
-    ensures { λ r. ⌜ r ≡ wholeSize (now (text .entry)) ⌝ }
-{
-    let mut i = text.len();
-    while 0 < i {
-        let before = i - 1;
-        if text[before] == 10 {
-            return i;
-        }
-        i = before;
-    }
-    0
 }
 
 // The refusal of tables.
@@ -259,18 +144,4 @@ pub fn read_layout(
         Found::FalseTables => refused_layout(matcher::Answer::FalseTables),
         Found::NoRule => Layout::NoRule,
     }
-}
-
-// Writes a line for each whole record of a list of tokens: `KIND START END`. An output of 33 bytes for each
-// is enough; a smaller one has no room.
-pub fn token_lines(list: &[u32], out: &mut [u8]) -> Put
-    ensures answered { λ r. ⌜ r ≡ tokensPut (now (list .entry)) (length (now (out .entry))) ⌝ }
-    ensures written { λ r. ⌜ now (out .exit) ≡ tokensIn (now (list .entry)) (now (out .entry)) r ⌝ }
-    ensures inside { λ r. ⌜ PutFits r (length (now (out .entry))) ⌝ }
-{
-    let k = list.len() / 3;
-    if out.len() / 33 < k {
-        return Put::NoRoom;
-    }
-    Put::Wrote(tokens::put_tokens(list, k, out))
 }

@@ -1,5 +1,5 @@
 -- The answers lie in the output, and the next line in the text.
-use Rattle.show.proofs.Blocks.{size-inside, next-inside}
+use Rattle.rows.proofs.Blocks.{size-inside, next-inside}
 use native.Mathlib.Omega.{arith}
 use lib.Seq.{length-take-le}
 use lib.ListN.{length, replicate, length-replicate}

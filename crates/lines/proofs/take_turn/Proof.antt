@@ -1,6 +1,6 @@
 -- What has come lies in the buffer, and whole lines in what has come.
 use lib.ListN.{length}
-use Rattle.show.proofs.Blocks.{whole-inside}
+use Rattle.rows.proofs.Blocks.{whole-inside}
 use Rattle.program.proofs.Inputs.{bytes-within}
 use native.Mathlib.Omega.{arith}
 use lib.Seq.{length-take-le}
