@@ -1,11 +1,11 @@
 // A stream in the numbers that a caller keeps.
-use states::Conf;
 use crate::Feed;
-use states::Lit;
 use crate::Packed;
 use crate::Stand;
-use states::State;
 use crate::Status;
+use states::Conf;
+use states::Lit;
+use states::State;
 use states::Tail;
 use states::Utf;
 use text::Check;

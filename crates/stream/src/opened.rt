@@ -1,10 +1,10 @@
 // Numbers from anywhere: those that don't fit one another are taken for a fresh stream.
-use states::Conf;
 use crate::Feed;
-use states::Lit;
 use crate::Stand;
-use states::State;
 use crate::Status;
+use states::Conf;
+use states::Lit;
+use states::State;
 use states::Tail;
 use states::Utf;
 ghost use mathlib.Core.Path.{_≡_};

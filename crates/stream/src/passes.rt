@@ -2,9 +2,9 @@
 pub(crate) mod rooms;
 
 use crate::Ran;
-use states::Row;
 use crate::Stand;
 use crate::Stepped;
+use states::Row;
 use states::Utf;
 use text::Check;
 ghost use mathlib.Core.Path.{_≡_};
