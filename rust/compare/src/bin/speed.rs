@@ -1,7 +1,8 @@
 //! Measures, in one run: reading by pest 2.5.2, by the given files of 2.9.5, by the second program
 //! and (feature `product`) by the product; printing by `Display`, by the second program and by
-//! the product; and lines matched by parsers that pest 2.5.2 generates, by a matcher by hand in Rust and
-//! by the product. `--only PART` (tables, lines); `--seed N`; `--ms N`, milliseconds for each line (default 1,000); `--sample N`,
+//! the product; lines matched by parsers that pest 2.5.2 generates, by a matcher by hand in Rust and
+//! by the product; and tokens of a whole text by the second program, of one in packets by the product.
+//! `--only PART` (tables, lines, tokens); `--seed N`; `--ms N`, milliseconds for each line (default 1,000); `--sample N`,
 //! microseconds that a work runs before the next takes its turn (default 5,000). `--instructions`
 //! counts instructions in the place of time, by callgrind.
 
@@ -222,7 +223,79 @@ fn main() {
             }
             names(budget);
         }
+        #[cfg(feature = "product")]
+        if wanted("tokens") {
+            let mut random = Random(seed);
+            for bytes in [1_024, 10_240, 65_536] {
+                tokens(grammar(&mut random, bytes).as_bytes(), budget);
+            }
+        }
     });
+}
+
+/// The tokens of a text into a list of records, by the second program; how many there are.
+#[cfg(feature = "product")]
+fn list_whole(text: &[u8], list: &mut [u32]) -> usize {
+    use second::token::{next, Next};
+    std::str::from_utf8(text).expect("UTF-8");
+    let (mut place, mut count) = (0, 0);
+    loop {
+        match next(text, place) {
+            Next::Token(token) => {
+                let record = [u32::from(token.kind), token.start, token.end];
+                list[3 * count..][..3].copy_from_slice(&record);
+                (place, count) = (token.end as usize, count + 1);
+            }
+            Next::End => return count,
+            Next::Bad(place) => panic!("no token at {place}"),
+        }
+    }
+}
+
+/// The same in packets of so many bytes, by the product.
+#[cfg(feature = "product")]
+fn list_arriving(text: &[u8], size: usize, list: &mut [u32]) -> usize {
+    use flascjuvan::raw::{feed, feed_end};
+    let mut state = [0; 10];
+    for packet in text.chunks(size) {
+        assert_eq!(feed(&mut state, packet, list)[0], 0);
+    }
+    let [number, _, records] = feed_end(&mut state, list);
+    assert_eq!(number, 0);
+    records as usize
+}
+
+/// A text's tokens, whole and in packets.
+#[cfg(feature = "product")]
+fn tokens(text: &[u8], budget: Duration) {
+    let mut wanted = vec![0; 3 * text.len()];
+    let count = list_whole(text, &mut wanted);
+    println!("\ntokens of {} bytes: {count}", text.len());
+    let mut lists = vec![wanted.clone(); 5];
+    let mut works: Vec<Work<'_>> = Vec::new();
+    for ((name, size), list) in [
+        ("second program, whole", 0),
+        ("the product, packets of 4,096", 4_096),
+        ("the product, packets of 512", 512),
+        ("the product, packets of 64", 64),
+        ("the product, packets of 1", 1),
+    ]
+    .into_iter()
+    .zip(&mut lists)
+    {
+        if size == 0 {
+            works.push((name, Box::new(move || assert_eq!(list_whole(black_box(text), list), count))));
+            continue;
+        }
+        list.fill(0);
+        assert_eq!(list_arriving(text, size, list), count);
+        assert_eq!(*list, wanted);
+        works.push((
+            name,
+            Box::new(move || assert_eq!(list_arriving(black_box(text), size, list), count)),
+        ));
+    }
+    measure(budget, text.len(), works);
 }
 
 /// Lines of a text that is matched.
