@@ -215,32 +215,11 @@ fn run_print(
     }
 }
 
-// The text of pieces: how often, a colon, in hex what, a comma.
-fn pieces(s: &[u8], out: &mut [u8]) -> usize
-    ensures { λ r. ⌜ Counts r (now (out .exit)) ⌝ }
-{
-    let mut piece = [0u8; 1024];
-    let mut at = 0;
-    let mut k = 0;
-    while at < s.len() {
-        let colon = vectors::find(s, at, b':', true);
-        if s.len() <= colon {
-            return k;
-        }
-        let from = colon + 1;
-        let comma = vectors::find(s, from, b',', true);
-        let n = vectors::unhex(&s[from..comma], &mut piece);
-        k = vectors::repeat(&piece[..n], vectors::number(&s[at..colon]) as usize, out, k);
-        at = comma + 1;
-    }
-    k
-}
-
 fn text_of(s: &[u8], long: bool, out: &mut [u8]) -> usize
     ensures { λ r. ⌜ Counts r (now (out .exit)) ⌝ }
 {
     if long {
-        pieces(s, out)
+        vectors::parts(s, out)
     } else {
         vectors::unhex(s, out)
     }
