@@ -13,6 +13,8 @@
 //   length, steps.
 // - r ALLOWANCE START HEX NODES RULES STORE ROOM: a rule is run over the lines of a text; the room in
 //   numbers. Number, place, lines, where the next one begins; the records.
+// - f CALLS..: tokens as they arrive, in the words that crates/calls has for them. Number, place and records of
+//   each call; the list's records.
 //
 // The input is read in blocks of 65,536 bytes, and no line lies in two of them: empty lines fill a block up.
 use printer::Printed;
@@ -462,6 +464,7 @@ fn run_line(line: &[u8]) {
         b's' => run_tables(Style::Short, line, b, n as usize),
         b'm' => run_rule(line, b, n, false),
         b'r' => run_rule(line, b, n, true),
+        b'f' => calls::run(line, op.end),
         _ => {}
     }
     vectors::write(b"\n");
