@@ -13,9 +13,10 @@ const UNUSED: u32 = 0xaaaa_aaaa;
 /// is known of them here.
 pub fn answers(line: &str) -> Option<String> {
     let (mut feed, mut list, mut room) = (Feed::default(), [UNUSED; MOST], 0);
-    let (mut shown, mut most) = (String::new(), 0);
+    let (mut shown, mut held, mut most) = (String::new(), 0, 0);
     for word in line.split_ascii_whitespace() {
         let (kind, rest) = word.split_at(1);
+        let before = list;
         let lent = &mut list[..room];
         let answer = match kind {
             "r" => {
@@ -29,8 +30,14 @@ pub fn answers(line: &str) -> Option<String> {
             _ => return None,
         };
         let Answer { number, place, count } = answer;
-        shown.push_str(&format!(" {number} {place} {count};"));
-        most = most.max(count);
+        let may_change = if number == 0 { 3 * held..3 * count } else { 0..0 };
+        let kept = (0..MOST).all(|i| may_change.contains(&i) || list[i] == before[i]);
+        let mark = if kept { "" } else { " CHANGED" };
+        shown.push_str(&format!(" {number} {place} {count}{mark};"));
+        if number == 0 {
+            held = if kind == "e" { 0 } else { count };
+            most = most.max(count);
+        }
     }
     let held: String = list[..3 * most].iter().map(|number| format!("{number},")).collect();
     let held = if held.is_empty() { "-" } else { &held };
