@@ -208,27 +208,6 @@ fn run_word(case: Case, s: &[u8], list: &mut [u32]) -> Case {
     }
 }
 
-fn write_listed(v: u32) {
-    io::print_decimal(1, v as u64);
-    vectors::write(b",");
-}
-
-// So many numbers of a list with a comma behind each, a dash where there are none.
-fn write_list(s: &[u32], count: usize) {
-    vectors::write(b" ");
-    if count == 0 {
-        vectors::write(b"-");
-    }
-    let mut i = 0;
-    while i < count {
-        if s.len() <= i {
-            return;
-        }
-        write_listed(s[i]);
-        i += 1;
-    }
-}
-
 fn run_words(line: &[u8], from: usize, list: &mut [u32]) -> usize {
     let state = state_of(b"");
     let mut case = Case {
@@ -251,5 +230,8 @@ fn run_words(line: &[u8], from: usize, list: &mut [u32]) -> usize {
 pub fn run(line: &[u8], from: usize) {
     let mut list = [2863311530u32; 600];
     let most = run_words(line, from, &mut list);
-    write_list(&list, numbers(most));
+    let n = numbers(most);
+    if n <= 600 {
+        vectors::write_list(&list[..n]);
+    }
 }

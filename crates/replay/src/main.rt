@@ -26,25 +26,6 @@ ghost use Prim.Native.Nat.{_≤_, _+_};
 ghost use lib.ListN.{length};
 ghost use Rattle.io.specs.Counts.{Counts};
 
-fn write_listed(v: u32) {
-    io::print_decimal(1, v as u64);
-    vectors::write(b",");
-}
-
-// Numbers with a comma behind each, a dash where there are none.
-fn write_list(s: &[u32]) {
-    if s.len() == 0 {
-        vectors::write(b" -");
-        return;
-    }
-    vectors::write(b" ");
-    let mut i = 0;
-    while i < s.len() {
-        write_listed(s[i]);
-        i += 1;
-    }
-}
-
 fn write_bytes(s: &[u8]) {
     if s.len() == 0 {
         vectors::write(b" -");
@@ -74,8 +55,8 @@ fn write_tables(long: bool, nodes: &[u32], rules: &[u32], store: &[u8]) {
         vectors::write_small(vectors::bytes_sum(store));
         return;
     }
-    write_list(nodes);
-    write_list(rules);
+    vectors::write_list(nodes);
+    vectors::write_list(rules);
     write_bytes(store);
 }
 

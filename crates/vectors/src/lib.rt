@@ -280,6 +280,25 @@ pub fn write_small(v: u32) {
     write_number(v as usize);
 }
 
+fn write_listed(v: u32) {
+    io::print_decimal(1, v as u64);
+    write(b",");
+}
+
+// Numbers with a comma behind each, a dash where there are none.
+pub fn write_list(s: &[u32]) {
+    if s.len() == 0 {
+        write(b" -");
+        return;
+    }
+    write(b" ");
+    let mut i = 0;
+    while i < s.len() {
+        write_listed(s[i]);
+        i += 1;
+    }
+}
+
 // Bytes in hex, behind a space.
 pub fn write_hex(s: &[u8]) {
     io::write_all(1, b" ");
