@@ -13,6 +13,8 @@
 //   length, steps.
 // - r ALLOWANCE START HEX NODES RULES STORE ROOM: a rule is run over the lines of a text; the room in
 //   numbers. Number, place, lines, where the next one begins; the records.
+// - f CALLS..: tokens as they arrive, in the words that crates/calls has for them. Number, place and records of
+//   each call; the list's records.
 //
 // The input is read in blocks of 65,536 bytes, and no line lies in two of them: empty lines fill a block up.
 use printer::Printed;
@@ -23,25 +25,6 @@ use token::Listed;
 ghost use Prim.Native.Nat.{_≤_, _+_};
 ghost use lib.ListN.{length};
 ghost use Rattle.io.specs.Counts.{Counts};
-
-fn write_listed(v: u32) {
-    io::print_decimal(1, v as u64);
-    vectors::write(b",");
-}
-
-// Numbers with a comma behind each, a dash where there are none.
-fn write_list(s: &[u32]) {
-    if s.len() == 0 {
-        vectors::write(b" -");
-        return;
-    }
-    vectors::write(b" ");
-    let mut i = 0;
-    while i < s.len() {
-        write_listed(s[i]);
-        i += 1;
-    }
-}
 
 fn write_bytes(s: &[u8]) {
     if s.len() == 0 {
@@ -72,8 +55,8 @@ fn write_tables(long: bool, nodes: &[u32], rules: &[u32], store: &[u8]) {
         vectors::write_small(vectors::bytes_sum(store));
         return;
     }
-    write_list(nodes);
-    write_list(rules);
+    vectors::write_list(nodes);
+    vectors::write_list(rules);
     write_bytes(store);
 }
 
@@ -215,32 +198,11 @@ fn run_print(
     }
 }
 
-// The text of pieces: how often, a colon, in hex what, a comma.
-fn pieces(s: &[u8], out: &mut [u8]) -> usize
-    ensures { λ r. ⌜ Counts r (now (out .exit)) ⌝ }
-{
-    let mut piece = [0u8; 1024];
-    let mut at = 0;
-    let mut k = 0;
-    while at < s.len() {
-        let colon = vectors::find(s, at, b':', true);
-        if s.len() <= colon {
-            return k;
-        }
-        let from = colon + 1;
-        let comma = vectors::find(s, from, b',', true);
-        let n = vectors::unhex(&s[from..comma], &mut piece);
-        k = vectors::repeat(&piece[..n], vectors::number(&s[at..colon]) as usize, out, k);
-        at = comma + 1;
-    }
-    k
-}
-
 fn text_of(s: &[u8], long: bool, out: &mut [u8]) -> usize
     ensures { λ r. ⌜ Counts r (now (out .exit)) ⌝ }
 {
     if long {
-        pieces(s, out)
+        vectors::parts(s, out)
     } else {
         vectors::unhex(s, out)
     }
@@ -483,6 +445,7 @@ fn run_line(line: &[u8]) {
         b's' => run_tables(Style::Short, line, b, n as usize),
         b'm' => run_rule(line, b, n, false),
         b'r' => run_rule(line, b, n, true),
+        b'f' => calls::run(line, op.end),
         _ => {}
     }
     vectors::write(b"\n");

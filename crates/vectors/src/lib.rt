@@ -196,6 +196,27 @@ pub fn pieces(line: &[u8], from: usize, out: &mut [u8]) -> usize
     k
 }
 
+// The text of pieces: how often, a colon, in hex what, a comma.
+pub fn parts(s: &[u8], out: &mut [u8]) -> usize
+    ensures { λ r. ⌜ Counts r (now (out .exit)) ⌝ }
+{
+    let mut piece = [0u8; 1024];
+    let mut at = 0;
+    let mut k = 0;
+    while at < s.len() {
+        let colon = find(s, at, b':', true);
+        if s.len() <= colon {
+            return k;
+        }
+        let from = colon + 1;
+        let comma = find(s, from, b',', true);
+        let n = unhex(&s[from..comma], &mut piece);
+        k = repeat(&piece[..n], number(&s[at..colon]) as usize, out, k);
+        at = comma + 1;
+    }
+    k
+}
+
 // How many numbers stand at 2,863,311,530 from a place on.
 pub fn numbers_alone(s: &[u32], from: usize) -> usize {
     let mut n = 0;
@@ -257,6 +278,25 @@ pub fn write_number(n: usize) {
 
 pub fn write_small(v: u32) {
     write_number(v as usize);
+}
+
+fn write_listed(v: u32) {
+    io::print_decimal(1, v as u64);
+    write(b",");
+}
+
+// Numbers with a comma behind each, a dash where there are none.
+pub fn write_list(s: &[u32]) {
+    if s.len() == 0 {
+        write(b" -");
+        return;
+    }
+    write(b" ");
+    let mut i = 0;
+    while i < s.len() {
+        write_listed(s[i]);
+        i += 1;
+    }
 }
 
 // Bytes in hex, behind a space.

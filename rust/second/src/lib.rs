@@ -5,6 +5,7 @@
 pub mod arrive;
 pub mod brackets;
 pub mod broken;
+pub mod calls;
 pub mod matching;
 pub mod print;
 pub mod read;

@@ -20,6 +20,8 @@
 //! - `r ALLOWANCE START HEX NODES RULES STORE ROOM`: run it over the lines of a text; the room in
 //!   numbers. Answer: number, place, lines, where the next one begins; the records' numbers (of a
 //!   refusal none).
+//! - `f CALLS..`: tokens as they arrive, in the words that crates/calls has for them. Answer: number,
+//!   place and records of each call, then the list's records.
 //!
 //! An empty list or hex is `-`; a refusal's answer is its numbers alone.
 //!
@@ -34,9 +36,10 @@ use compare::lines::{self, Liner, Maker};
 use compare::printing::Style;
 use compare::{argument, hex, on_stack, quiet_panics, second_reads, tables, texts, Random};
 use oracle::{Answer, Tables};
+use second::arrive::{self, Arrival};
 use second::matching::{match_line, match_lines, record, Record};
 use second::read::Used;
-use second::{read, Refusal};
+use second::{calls, read, Refusal};
 
 fn or_dash(text: String) -> String {
     if text.is_empty() {
@@ -273,6 +276,30 @@ impl Stored {
         self.put(format!("r, {number:>2}"), &question, &answer);
     }
 
+    /// A text as it arrives, and calls behind its end: another text, unless there is a refusal to repeat.
+    fn arrival(&mut self, made: &Arrival) {
+        let mut words = Vec::new();
+        let mut lent = None;
+        let packets = made.packets().map(Some).chain([None, Some(&b"a="[..]), None]);
+        for (call, packet) in packets.enumerate() {
+            let list = made.lists.get(call).map(|list| *list.min(&calls::MOST)).or(lent);
+            if list != lent {
+                words.extend(list.map(|list| format!("r{list}")));
+                lent = list;
+            }
+            words.push(match packet {
+                None => "e".to_string(),
+                Some(packet) if packet.len() <= 400 => format!("x{}", hex(packet)),
+                Some(packet) => format!("n{}", parts(packet)),
+            });
+        }
+        let line = words.join(" ");
+        let answers = calls::answers(&line).expect("no state");
+        let ended = answers.split(';').nth(made.ends.len()).expect("the end's answer");
+        let number = ended.split_ascii_whitespace().next().expect("a number");
+        self.put(format!("f, {number:>2}"), &format!("f {line}"), answers.trim_start());
+    }
+
     /// Some short lines of a rule, with allowances around what each needs, and a short text.
     fn rule(&mut self, random: &mut Random, made: &Tables, characters: &[char], much: usize) {
         let rules = made.rules.len() / 6;
@@ -368,6 +395,22 @@ fn broken(stored: &mut Stored, seed: u64, scale: usize) {
     }
 }
 
+/// Tokens as they arrive: short texts, texts around a literal that mostly has a fault, and long ones.
+fn arriving(stored: &mut Stored, seed: u64, scale: usize) {
+    let mut random = Random(seed ^ 8);
+    let mut below = |n| random.below(n);
+    for i in 0..10 * scale {
+        stored.arrival(&arrive::short(&mut below));
+        if i % 4 == 0 {
+            let text = second::broken::text(&mut below).text;
+            stored.arrival(&arrive::cut(text, &mut below));
+        }
+        if i % 20 == 0 {
+            stored.arrival(&arrive::long(&mut below));
+        }
+    }
+}
+
 fn write(folder: &str, seed: u64, scale: usize) {
     let file = |name| BufWriter::new(fs::File::create(format!("{folder}/{name}")).expect(folder));
     let mut stored = Stored {
@@ -453,6 +496,7 @@ fn write(folder: &str, seed: u64, scale: usize) {
     matcher(&mut stored, seed, scale);
     short(&mut stored, seed, scale);
     broken(&mut stored, seed, scale);
+    arriving(&mut stored, seed, scale);
     stored.end();
     println!("seed {seed}");
     for (class, count) in &stored.counts {

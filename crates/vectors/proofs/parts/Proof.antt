@@ -4,8 +4,8 @@ use native.Mathlib.Omega.{arith}
 use lib.Seq.{length-take-le}
 use lib.ListN.{length}
 use borrow.Author.Needs.{needs}
-use Rattle.replay.proofs.pieces.Statement.{statement}
-use Rattle.replay.proofs.pieces.Tie as tie
+use Rattle.vectors.proofs.parts.Statement.{statement}
+use Rattle.vectors.proofs.parts.Tie as tie
 
 abbrev Inv-loop : tie.InvT-loop
 Inv-loop s out₀ piece₀ at₀ k₀ out piece at k = (k ≤ length out) × (length out ≡ length out₀) × (length piece ≡ 1024)
@@ -82,8 +82,8 @@ same-length-2 c = c .before .loop .inv .1
 returns-2 : tie.Need-returns-2 Inv-loop μ-loop
 returns-2 c = (c .before .loop .inv .0, sym (length-take-le _ _ (c .before .loop .inv .0)))
 
-pub pieces-spec : {M : Type 1} → statement M
-pieces-spec =
+pub parts-spec : {M : Type 1} → statement M
+parts-spec =
     tie.close
     (tie.spec
     Inv-loop

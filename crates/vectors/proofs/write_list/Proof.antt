@@ -2,8 +2,8 @@ use Prim.Native.Nat.{_≤_, _-_}
 use native.Mathlib.Omega.{arith}
 use lib.ListN.{length}
 use borrow.Author.Needs.{needs}
-use Rattle.replay.proofs.write_list.Statement.{statement}
-use Rattle.replay.proofs.write_list.Tie as tie
+use Rattle.vectors.proofs.write_list.Statement.{statement}
+use Rattle.vectors.proofs.write_list.Tie as tie
 
 abbrev Inv-loop : tie.InvT-loop
 Inv-loop s i₀ i = i ≤ length s
