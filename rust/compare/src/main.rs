@@ -423,7 +423,7 @@ mod linked {
         differences.0 == 0
     }
 
-    /// Tokens as they arrive: short texts, texts around a broken literal, and long ones, cut at random.
+    /// Tokens as they arrive: short texts, texts around a broken literal, some in long packets, and long ones, cut at random.
     pub fn stream(seed: u64, scale: usize) -> bool {
         let mut random = Random(seed ^ 0xfeed);
         let mut differences = Differences::default();
@@ -438,6 +438,9 @@ mod linked {
             if i % 2 == 0 {
                 let text = second::broken::text(&mut below).text;
                 hold(&arrive::cut(text, &mut below));
+            }
+            if i % 200 == 0 {
+                hold(&arrive::middle(&mut below));
             }
             if i % 10_000 == 0 {
                 hold(&arrive::long(&mut below));

@@ -33,6 +33,30 @@ pub fn long(below: &mut dyn FnMut(usize) -> usize) -> Arrival {
     lend(text, ends, below)
 }
 
+/// A text of some thousand bytes in a few packets, most of them long: good, with perhaps a short text
+/// somewhere in it. Lists have room for all, or for some of the tokens.
+pub fn middle(below: &mut dyn FnMut(usize) -> usize) -> Arrival {
+    let mut text = Vec::new();
+    let length = 400 + below(3_000);
+    let place = below(2 * length);
+    let mut odd = Some(short_text(below));
+    while text.len() < length {
+        if place <= text.len() {
+            text.extend(odd.take().unwrap_or_default());
+        }
+        let piece = good(below);
+        text.extend(piece);
+        text.push(b' ');
+    }
+    let ends = (0..below(4)).map(|_| below(text.len() + 1)).collect();
+    let mut made = lend(text, ends, below);
+    if below(2) == 0 {
+        let room = below(made.text.len());
+        made.lists.fill(room);
+    }
+    made
+}
+
 /// Any cuts and lists for a text.
 pub fn cut(text: Vec<u8>, below: &mut dyn FnMut(usize) -> usize) -> Arrival {
     let ends = match below(4) {
