@@ -28,4 +28,6 @@ pub mod Loops
 pub mod Turns
 pub mod Sounds
 pub mod Writes
+pub mod Quick
+pub mod Leaps
 pub mod Examples

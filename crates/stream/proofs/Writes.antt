@@ -42,7 +42,7 @@ module _ (room n a : ℕ) (f : Unit {0} → Check) where
   room-by true e g = (ltb-true n room e, g)
   room-by false e g = let z : _≡_ {A = ℕ} 0 1 = cc in absurd (omega arith)
 
-  has-room : choose (ltb n room) f (λ u. Bad a) ≡ Good → (n < room) × (f tt ≡ Good)
+  pub has-room : choose (ltb n room) f (λ u. Bad a) ≡ Good → (n < room) × (f tt ≡ Good)
   has-room e = room-by (ltb n room) refl e
 
 room-three : (n m : ℕ) → n < m / 3 → n * 3 + 3 ≤ m
@@ -79,15 +79,15 @@ put-three l i k a b =
 
 -- ---- a turn of a loop over a packet
 
-ran-given : (ts : List Tok) (s : Step) → ranBy (given ts s) ≡ ranBy s
+pub ran-given : (ts : List Tok) (s : Step) → ranBy (given ts s) ≡ ranBy s
 ran-given ts (Goes us c) = refl
 ran-given ts (Faults n p) = refl
 
-good-given : (ts : List Tok) (s : Step) → isGood (given ts s) ≡ isGood s
+pub good-given : (ts : List Tok) (s : Step) → isGood (given ts s) ≡ isGood s
 good-given ts (Goes us c) = refl
 good-given ts (Faults n p) = refl
 
-gives-given : (ts : List Tok) (s : Step) → isGood s ≡ true → givesOf (given ts s) ≡ ts ++ givesOf s
+pub gives-given : (ts : List Tok) (s : Step) → isGood s ≡ true → givesOf (given ts s) ≡ ts ++ givesOf s
 gives-given ts (Goes us c) e = refl
 gives-given ts (Faults n p) e = let z : _≡_ {A = ℕ} 0 1 = cc in absurd (omega arith)
 

@@ -1,0 +1,52 @@
+use borrow.Author.Needs.{needs}
+use Rattle.stream.proofs.passes.quick.may_leap.Statement.{statement}
+use Rattle.stream.proofs.passes.quick.may_leap.Tie as tie
+use Rattle.stream.proofs.passes.quick.may_leap.Reads as reads
+use Rattle.stream.proofs.passes.quick.may_leap.Lts as lts
+use Rattle.stream.proofs.passes.quick.between.Reads as between-reads
+use Rattle.text.proofs.first_bad.Reads as first-bad-reads
+
+-- src/passes/quick.rt:128:8
+sub-if1 : tie.Need-sub-if1
+sub-if1 c = search needs
+
+-- src/passes/quick.rt:129:9
+returns : tie.Need-returns
+returns c = ?
+
+-- src/passes/quick.rt:131:9
+first-bad-requires : tie.Need-first-bad-requires
+first-bad-requires c κs = search needs
+
+-- src/passes/quick.rt:133:24
+enum-told : tie.Need-enum-told
+enum-told c = search needs
+
+-- src/passes/quick.rt:133:24
+between-requires : tie.Need-between-requires
+between-requires c κs = search needs
+
+-- src/passes/quick.rt:134:26
+enum-told-2 : tie.Need-enum-told-2
+enum-told-2 c = search needs
+
+-- src/passes/quick.rt:124:1
+returns-2 : tie.Need-returns-2
+returns-2 c = ?
+
+-- src/passes/quick.rt:124:1
+returns-3 : tie.Need-returns-3
+returns-3 c = ?
+
+pub may-leap-spec : {M : Type 1} → statement M
+may-leap-spec =
+    tie.close
+    (tie.spec
+    sub-if1
+    returns
+    first-bad-requires
+    enum-told
+    between-requires
+    enum-told-2
+    returns-2
+    returns-3)
