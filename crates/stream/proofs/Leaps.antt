@@ -1,15 +1,16 @@
 -- From token to token through a packet: what is given on the way stands in the stash, and the rest is as if it was fed from there.
 use Prim.Native.Nat.{ℕ, zero, suc, _+_, _-_, _*_, _/_, _%_, _≤_, _<_}
 use mathlib.Core.Path.{_≡_, refl, sym, ap, _∙_}
-use mathlib.Core.Bool.{Bool, true, false}
+use mathlib.Core.Bool.{Bool, true, false, not}
 use mathlib.Core.List.{List, [], _∷_, _++_}
 use mathlib.Core.Logic.{_⊎_, inl, inr}
 use native.Mathlib.Nat.{add-zero, div-add-mod'}
+use native.Mathlib.Numerals.{add-one}
 use native.Mathlib.Omega.{arith}
 use lib.Dec.{eqb}
-use lib.ListN.{length, drop, take, getD, length-append, length-drop, take-append-drop}
-use lib.Seq.{sets, length-take-le, drop-cons, drop-drop, getD-drop, sets-eq, take-at, take-all}
-use borrow.Author.Tests.{eqb-true}
+use lib.ListN.{length, drop, take, getD, set, length-append, length-drop, take-append-drop}
+use lib.Seq.{sets, take-suc, length-take-le, drop-cons, drop-drop, getD-drop, sets-eq, take-at, take-all}
+use borrow.Author.Tests.{eqb-true, lt-ltb}
 use Rattle.text.specs.Utf8.{firstBad}
 use Rattle.text.specs.declared.Check.{Check}
 use Rattle.text.specs.declared.Check.the-variants.{Good, Bad}
@@ -26,20 +27,23 @@ use Rattle.stream.specs.declared.State.the-variants.{Start, Word, Push, 
 use Rattle.stream.specs.declared.Utf.{Utf}
 use Rattle.stream.specs.declared.Utf.the-variants.{Whole, Mid, Broke}
 use Rattle.stream.specs.declared.Stand.{Stand}
+use Rattle.stream.specs.declared.Given.{Given}
 use Rattle.stream.specs.Utf.{utfStep, utfEnd, utfFeed}
 use Rattle.stream.specs.Keep.{codeOf, utfCode, tailCode, waiting}
-use Rattle.stream.specs.Steps.{Step, Goes, Faults, brokenAt, overAt, given, ranOf}
+use Rattle.stream.specs.Steps.{Step, Goes, Faults, brokenAt, overAt, stepOf, given, ranOf}
 use Rattle.stream.specs.Feed.{flat, roomOf}
-use Rattle.stream.specs.Shapes.{ranBy, givesOf, isGood, Sound}
+use Rattle.stream.specs.Shapes.{listOf, ranBy, givesOf, isGood, Sound}
 use Rattle.stream.specs.Quick.{startAt, isBetween, Holds, Leapt}
 use Rattle.stream.proofs.From.{from, ended, from-law}
 use Rattle.stream.proofs.Left.{left}
 use Rattle.stream.proofs.Fits.{never, both}
 use Rattle.stream.proofs.Utfs.{machine-at, utf-cuts}
 use Rattle.stream.proofs.Cuts.{given-given}
-use Rattle.stream.proofs.Stores.{flat-length}
+use Rattle.stream.proofs.Stores.{flat-length, sets-append}
 use Rattle.stream.proofs.Loops.{loop-starts}
-use Rattle.stream.proofs.Writes.{has-room, put-more, ran-given, good-given, gives-given}
+use Rattle.stream.proofs.Writes.{has-room, put-more, ran-given, good-given, gives-given, at-move, step-room, step-sound}
+use Rattle.stream.proofs.Runs.{took}
+use Rattle.stream.proofs.Sounds.{many-small}
 use Rattle.stream.proofs.Quick.{ascii-next, still, Leaps, Closes, leaps}
 
 -- ---- between tokens
@@ -219,3 +223,70 @@ stash-front ts z n h e =
     let b : length z / 3 * 3 + length z % 3 ≡ length z = div-add-mod' (length z) 3 in
     let c : 0 + length (flat ts) ≤ length z = omega arith in
     ap (take n) (sets-eq (flat ts) z 0 c) ∙ take-at (flat ts) (drop (0 + length (flat ts)) z) n (a ∙ sym e)
+
+-- ---- copying the stash
+
+pub copy-turn : (l s m : List ℕ) (a i : ℕ) → i < length s → m ≡ sets l a (take i s) → set m (a + i) (getD s i 0) ≡ sets l a (take (i + 1) s)
+copy-turn l s m a i h e =
+    let t : take (i + 1) s ≡ take i s ++ getD s i 0 ∷ [] = ap (λ (n : ℕ). take n s) (add-one i) ∙ take-suc s i 0 h in
+    let z : a + length (take i s) ≡ a + i = ap (λ (n : ℕ). a + n) (length-take-le i s (omega arith)) in
+    ap (λ (n : List ℕ). set n (a + i) (getD s i 0)) e
+    ∙ ap (λ (n : ℕ). set (sets l a (take i s)) n (getD s i 0)) (sym z)
+    ∙ sym (sets-append (take i s) (getD s i 0 ∷ []) l a)
+    ∙ ap (sets l a) (sym t)
+
+-- ---- in the words of the code
+
+pub yes : (b : Bool) → not b ≡ false → b ≡ true
+yes true e = refl
+yes false e = never (sym e)
+
+pub over-yes : (room : ℕ) (us : List Tok) (n : ℕ) → n + length us ≤ room → overAt room n us ≡ Good
+unfolding overAt
+over-yes room [] n h = refl
+over-yes room (t ∷ us) n h = rw (lt-ltb n room (omega arith)) (over-yes room us (suc n) (omega arith))
+
+pub two-small : (g h : Given) → length (listOf g ++ listOf h) ≤ 2
+two-small g h =
+    let z : length (listOf g ++ listOf h) ≡ length (listOf g) + length (listOf h) = length-append (listOf g) (listOf h) in
+    omega (arith, many-small g, many-small h)
+
+pub step-seen : (room : ℕ) (c : Stand) (x : ℕ) (ts : List Tok) (d : Stand) → Goes ts d ≡ stepOf room c x → d .seen ≡ suc (c .seen)
+step-seen room c x ts d e = ap (λ (f : Stand). f .seen) (took room c x ts d (sym e) .moved)
+
+pub settle-turn : (room : ℕ) (c : Stand) (xs l m o : List ℕ) (d : Stand) (i n : ℕ) (a b : Given) (f : Stand) → Leapt room c 0 0 xs l m d i → n + c .count ≡ d .count → i < length xs → n + 2 ≤ roomOf l
+    → Goes (listOf a ++ listOf b) f ≡ stepOf room d (getD xs i 0) → o ≡ sets m (n * 3) (flat (listOf a ++ listOf b)) → Leapt room c 0 0 xs l o f (i + 1)
+settle-turn room c xs l m o d i n a b f h e g r v w =
+    let us : List Tok = listOf a ++ listOf b in
+    let k = step-room room d (getD xs i 0) us f v in
+    let q : f .count ≡ d .count + length us = k .1 in
+    let z : n ≡ 0 + length (h .tokens) = omega (arith, h .counted) in
+    let y : length us ≤ 2 = two-small a b in
+    leapt-more room c 0 0 xs l m d i h us f (i + 1) o (at-move room d xs i g us f v) (w ∙ ap (λ (j : ℕ). sets m (j * 3) (flat us)) z) q
+    (λ p. let x : d .count + length us ≤ room = over-fits room us (d .count) (k .0) p in omega arith) (omega arith) (omega arith) (step-sound room d (getD xs i 0) us f (h .sound) v)
+
+pub sound-start : (p n : ℕ) → p ≤ 65536 → n ≤ p → Sound (startAt p n)
+sound-start p n h g = record { short = h; sum = omega arith; count = g; state = refl; utf = refl }
+
+pub sound-between : (c : Stand) → Sound c → Sound (startAt (c .seen) (c .count))
+sound-between c s = sound-start (c .seen) (c .count) (s .short) (omega (arith, s .count, s .sum))
+
+pub leap-turn : (room : ℕ) (c : Stand) (i b : ℕ) (xs l m o : List ℕ) (p n at k s e j : ℕ) → Leapt room c i b xs l m (startAt p n) at → j + c .count ≡ n + b → Holds xs at k s e → p + (length xs - at) ≤ 65536 → n < room
+    → brokenAt (utfFeed Whole p (drop at xs)) ≡ Good → j < roomOf l → o ≡ sets m (j * 3) (flat (tok k (p + (s - at)) (p + (e - at)) ∷ [])) → Leapt room c i b xs l o (startAt (p + (e - at)) (n + 1)) e
+leap-turn room c i b xs l m o p n at k s e j h z t short space clean y w =
+    let us : List Tok = tok k (p + (s - at)) (p + (e - at)) ∷ [] in
+    let g = inside xs at k s e t in
+    let g0 : at ≤ s = g .0 in
+    let g1 : s < e = g .1 in
+    let g2 : e ≤ length xs = g .2 in
+    let q : n ≡ c .count + length (h .tokens) = h .counted in
+    let v : j ≡ b + length (h .tokens) = omega arith in
+    let x : n ≤ p = h .sound .count in
+    let r : ranOf room (startAt p n) (drop at xs) ≡ given us (ranOf room (startAt (p + (e - at)) (n + 1)) (drop e xs)) = leap-one xs at k s e t room p n (h .sound) short space clean ∙ ap (λ (f : ℕ). given us (ranOf room (startAt (p + (e - at)) f) (drop e xs))) (sym (add-one n)) in
+    leapt-more room c i b xs l m (startAt p n) at h us (startAt (p + (e - at)) (n + 1)) e o r (w ∙ ap (λ (f : ℕ). sets m (f * 3) (flat us)) v) refl (λ f. omega arith) (omega arith) g2 (sound-start (p + (e - at)) (n + 1) (omega arith) (omega arith))
+
+pub leapt-same : (room : ℕ) (c d f g : Stand) (i n : ℕ) (xs l m : List ℕ) (j : ℕ) → c ≡ d → f ≡ g → Leapt room d i n xs l m g j → Leapt room c i n xs l m f j
+leapt-same room c d f g i n xs l m j e h k = rw (e, h) k
+
+pub all-left : (xs : List ℕ) (i : ℕ) → take (length xs - i) (drop i xs) ≡ drop i xs
+all-left xs i = take-all (length xs - i) (drop i xs) (let z : length (drop i xs) ≡ length xs - i = length-drop i xs in omega arith)

@@ -95,7 +95,7 @@ module _ (room : ℕ) (c : Stand) (s : List ℕ) (i : ℕ) (h : i < length s) wh
   at-stop : (n p : ℕ) → Faults n p ≡ stepOf room c (getD s i 0) → ranOf room c (drop i s) ≡ Faults n p
   at-stop n p e = loop-stops room s (ranOf room c (drop i s)) [] c i (loop-starts (ranOf room c (drop i s))) n p h (sym e)
 
-  at-move : (ts : List Tok) (d : Stand) → Goes ts d ≡ stepOf room c (getD s i 0) → ranOf room c (drop i s) ≡ given ts (ranOf room d (drop (i + 1) s))
+  pub at-move : (ts : List Tok) (d : Stand) → Goes ts d ≡ stepOf room c (getD s i 0) → ranOf room c (drop i s) ≡ given ts (ranOf room d (drop (i + 1) s))
   at-move ts d e = loop-goes room s (ranOf room c (drop i s)) [] c i (loop-starts (ranOf room c (drop i s))) ts d h (sym e)
 
   pub run-stops : (n p : ℕ) → Faults n p ≡ stepOf room c (getD s i 0) → Refuses n p ≡ ranBy (ranOf room c (drop i s))

@@ -1,3 +1,5 @@
+use native.Mathlib.Omega.{arith}
+use mathlib.Core.Path.{sym, _∙_}
 use borrow.Author.Needs.{needs}
 use Rattle.stream.proofs.passes.quick.ahead.Statement.{statement}
 use Rattle.stream.proofs.passes.quick.ahead.Tie as tie
@@ -55,7 +57,7 @@ returns-5 c = search needs
 
 -- src/passes/quick.rt:102:1
 returns-6 : tie.Need-returns-6
-returns-6 c = ?
+returns-6 c = record { found = sym (c .before .before .before .before .before .before .before .token-at .ensures) ∙ c .before .before .before .before .before .token .given .1; inside = omega arith; ascii = omega arith }
 
 pub ahead-spec : {M : Type 1} → statement M
 ahead-spec =

@@ -1,3 +1,4 @@
+use Rattle.stream.proofs.Fits.{never}
 use borrow.Author.Needs.{needs}
 use Rattle.stream.proofs.passes.quick.is_slow.Statement.{statement}
 use Rattle.stream.proofs.passes.quick.is_slow.Tie as tie
@@ -7,15 +8,15 @@ use Rattle.stream.proofs.passes.quick.between.Reads as between-reads
 
 -- src/passes/quick.rt:59:9
 returns : tie.Need-returns
-returns c = ?
+returns c = λ e. never e
 
 -- src/passes/quick.rt:62:9
 returns-2 : tie.Need-returns-2
-returns-2 c = ?
+returns-2 c = λ e. never e
 
 -- src/passes/quick.rt:65:9
 returns-3 : tie.Need-returns-3
-returns-3 c = ?
+returns-3 c = λ e. never e
 
 -- src/passes/quick.rt:67:6
 between-requires : tie.Need-between-requires

@@ -1,3 +1,15 @@
+use Rattle.stream.proofs.Leaps.{yes, all-left, inside, clean-on, leapt-none, leapt-same, over-yes, sound-between, leap-turn}
+use Rattle.stream.specs.Quick.{startAt, Free, Leapt}
+use Rattle.stream.specs.Feed.{roomOf}
+use Rattle.stream.specs.Steps.{brokenAt}
+use Rattle.stream.specs.Utf.{utfFeed}
+use Rattle.stream.specs.declared.Utf.the-variants.{Whole}
+use Rattle.text.specs.declared.Check.the-variants.{Good}
+use lib.ListN.{length, drop, length-drop, length-set}
+use mathlib.Core.Path.{sym, _∙_, ap, refl, _≡_}
+use native.Mathlib.Omega.{arith}
+use borrow.Author.Needs.{needs}
+use Prim.Native.Nat.{_+_, _-_, _≤_}
 use Rattle.stream.proofs.passes.quick.leap.Statement.{statement}
 use Rattle.stream.proofs.passes.quick.leap.Tie as tie
 use Rattle.stream.proofs.passes.quick.leap.Reads as reads
@@ -9,130 +21,211 @@ use Rattle.stream.proofs.passes.rooms.put.Reads as put-reads
 use Rattle.stream.proofs.table.moves.token.Reads as token-reads
 
 abbrev Inv-loop : tie.InvT-loop
-Inv-loop t room i m packet stash₀ stash-room seen₀ count₀ at₀ n₀ stash seen count at n = ?
+Inv-loop t room i m packet stash₀ space seen₀ count₀ at₀ n₀ stash seen count at n = (length stash ≡ length stash₀) × (n + count₀ ≡ count + m) × (seen + (length packet - at) ≤ 65536) × (brokenAt (utfFeed Whole seen (drop at packet)) ≡ Good) × Leapt room (startAt seen₀ count₀) i m packet stash₀ stash (startAt seen count) at
 
 abbrev μ-loop : tie.MeasureT-loop
-μ-loop t room i m packet stash₀ stash-room seen₀ count₀ at₀ n₀ stash seen count at n = ?
+μ-loop t room i m packet stash₀ space seen₀ count₀ at₀ n₀ stash seen count at n = length packet - at
 
 -- src/passes/quick.rt:155:24
 sub-may-leap : tie.Need-sub-may-leap Inv-loop μ-loop
-sub-may-leap c = ?
+sub-may-leap c = omega (arith, c .before .before .pre .1 .1 .0)
 
 -- src/passes/quick.rt:155:24
 part-may-leap-start : tie.Need-part-may-leap-start Inv-loop μ-loop
-part-may-leap-start c = ?
+part-may-leap-start c = omega (arith, c .before .before .pre .1 .1 .0)
 
 -- src/passes/quick.rt:155:24
 part-may-leap-end : tie.Need-part-may-leap-end Inv-loop μ-loop
-part-may-leap-end c = ?
+part-may-leap-end c = omega (arith, c .before .before .pre .1 .1 .0)
 
 -- src/passes/quick.rt:155:9
 may-leap-requires : tie.Need-may-leap-requires Inv-loop μ-loop
-may-leap-requires c κs = ?
+may-leap-requires c κs = c .before .before .before .pre .1 .0
 
 -- src/passes/quick.rt:156:9
 returns : tie.Need-returns Inv-loop μ-loop
-returns c = ?
+returns c =
+    let s = c .before .before .before .before .before .args in
+    leapt-none (s .room) (s .from) (s .i) (s .m) (s .packet .now) (s .stash .now) (c .before .before .before .before .before .pre .1 .0) (c .before .before .before .before .before .pre .1 .1 .0) (c .before .before .before .before .before .pre .1 .1 .1)
 
 -- src/passes/quick.rt:163:5
 loop-holds : tie.Need-loop-holds Inv-loop μ-loop
-loop-holds c = ?
+loop-holds c =
+    let s = c .before .before .before .before .before .args in
+    let f : Free (s .from) (drop (s .i) (s .packet .now)) = rw (all-left (s .packet .now) (s .i)) at (c .before .may-leap .ensures (yes _ (c .if1 .left))) in
+    let l = length-drop (s .i) (s .packet .now) in
+    (refl, omega arith, omega (arith, f .short), f .clean, leapt-none (s .room) (startAt (s .from .seen) (s .from .count)) (s .i) (s .m) (s .packet .now) (s .stash .now) (sound-between (s .from) (c .before .before .before .before .before .pre .1 .0)) (c .before .before .before .before .before .pre .1 .1 .0) (c .before .before .before .before .before .pre .1 .1 .1))
 
 -- src/passes/quick.rt:166:24
 start-at-requires : tie.Need-start-at-requires Inv-loop μ-loop
-start-at-requires c κs = ?
+start-at-requires c κs = search needs
 
 -- src/passes/quick.rt:165:13
 same-length : tie.Need-same-length Inv-loop μ-loop
-same-length c = ?
+same-length c = c .before .before .before .loop .inv .0
 
 -- src/passes/quick.rt:165:13
 returns-2 : tie.Need-returns-2 Inv-loop μ-loop
-returns-2 c = ?
+returns-2 c =
+    let s = c .before .before .before .before .before .before .before .before .before .args in
+    let w = c .before .before .before .loop in
+    let f = c .before .before .before .before .before .may-leap .ensures (yes _ (c .before .before .before .before .if1 .left)) in
+    leapt-same (s .room) (s .from) (startAt (s .from .seen) (s .from .count)) _ (startAt (w .seen) (w .count)) (s .i) (s .m) (s .packet .now) (s .stash .now) (w .stash) (w .at) (f .between) (c .start-at .ensures) (w .inv .4)
 
 -- src/passes/quick.rt:170:13
 ahead-requires : tie.Need-ahead-requires Inv-loop μ-loop
-ahead-requires c κs = ?
+ahead-requires c κs = c .before .before .before .before .before .before .before .before .pre .0
 
 -- src/passes/quick.rt:174:28
 enum-told : tie.Need-enum-told Inv-loop μ-loop
-enum-told c = ?
+enum-told c = search needs
 
 -- src/passes/quick.rt:174:28
 start-at-requires-2 : tie.Need-start-at-requires-2 Inv-loop μ-loop
-start-at-requires-2 c κs = ?
+start-at-requires-2 c κs = search needs
 
 -- src/passes/quick.rt:173:17
 same-length-2 : tie.Need-same-length-2 Inv-loop μ-loop
-same-length-2 c = ?
+same-length-2 c = c .before .before .before .before .before .before .loop .inv .0
 
 -- src/passes/quick.rt:173:17
 returns-3 : tie.Need-returns-3 Inv-loop μ-loop
-returns-3 c = ?
+returns-3 c =
+    let s = c .before .before .before .before .before .before .before .before .before .before .before .before .args in
+    let w = c .before .before .before .before .before .before .loop in
+    let f = c .before .before .before .before .before .before .before .before .may-leap .ensures (yes _ (c .before .before .before .before .before .before .before .if1 .left)) in
+    leapt-same (s .room) (s .from) (startAt (s .from .seen) (s .from .count)) _ (startAt (w .seen) (w .count)) (s .i) (s .m) (s .packet .now) (s .stash .now) (w .stash) (w .at) (f .between) (c .start-at2 .ensures) (w .inv .4)
 
 -- src/passes/quick.rt:178:26
 enum-known-next : tie.Need-enum-known-next Inv-loop μ-loop
-enum-known-next c = ?
+enum-known-next c = search needs
 
 -- src/passes/quick.rt:181:29
 sub-token : tie.Need-sub-token Inv-loop μ-loop
-sub-token c = ?
+sub-token c =
+    let s = c .before .before .before .before .before .before .before .before .before .before .before .before .args in
+    let w = c .before .before .before .before .before .before .loop in
+    let v = c .before .next .given .0 in
+    let h = rw (c .before .next .given .1) at (c .before .before .before .ahead .ensures) in
+    let g = inside (s .packet .now) (w .at) (v .0) (v .1 .0) (v .1 .1 .0) h in
+    omega (arith, g .0, g .1, g .2, h .inside, w .inv .2)
 
 -- src/passes/quick.rt:181:21
 add-token : tie.Need-add-token Inv-loop μ-loop
-add-token c = ?
+add-token c =
+    let s = c .before .before .before .before .before .before .before .before .before .before .before .before .args in
+    let w = c .before .before .before .before .before .before .loop in
+    let v = c .before .next .given .0 in
+    let h = rw (c .before .next .given .1) at (c .before .before .before .ahead .ensures) in
+    let g = inside (s .packet .now) (w .at) (v .0) (v .1 .0) (v .1 .1 .0) h in
+    omega (arith, g .0, g .1, g .2, h .inside, w .inv .2)
 
 -- src/passes/quick.rt:182:29
 sub-token-2 : tie.Need-sub-token-2 Inv-loop μ-loop
-sub-token-2 c = ?
+sub-token-2 c =
+    let s = c .before .before .before .before .before .before .before .before .before .before .before .before .args in
+    let w = c .before .before .before .before .before .before .loop in
+    let v = c .before .next .given .0 in
+    let h = rw (c .before .next .given .1) at (c .before .before .before .ahead .ensures) in
+    let g = inside (s .packet .now) (w .at) (v .0) (v .1 .0) (v .1 .1 .0) h in
+    omega (arith, g .0, g .1, g .2, h .inside, w .inv .2)
 
 -- src/passes/quick.rt:182:21
 add-token-2 : tie.Need-add-token-2 Inv-loop μ-loop
-add-token-2 c = ?
+add-token-2 c =
+    let s = c .before .before .before .before .before .before .before .before .before .before .before .before .args in
+    let w = c .before .before .before .before .before .before .loop in
+    let v = c .before .next .given .0 in
+    let h = rw (c .before .next .given .1) at (c .before .before .before .ahead .ensures) in
+    let g = inside (s .packet .now) (w .at) (v .0) (v .1 .0) (v .1 .1 .0) h in
+    omega (arith, g .0, g .1, g .2, h .inside, w .inv .2)
 
 -- src/passes/quick.rt:179:21
 token-requires : tie.Need-token-requires Inv-loop μ-loop
-token-requires c κs = ?
+token-requires c κs =
+    let s = c .before .before .before .before .before .before .before .before .before .before .before .before .args in
+    let w = c .before .before .before .before .before .before .loop in
+    let v = c .before .next .given .0 in
+    let h = rw (c .before .next .given .1) at (c .before .before .before .ahead .ensures) in
+    let g = inside (s .packet .now) (w .at) (v .0) (v .1 .0) (v .1 .1 .0) h in
+    (omega (arith, g .3), (omega (arith, g .0, g .1, g .2, h .inside, w .inv .2), omega (arith, g .0, g .1, g .2, h .inside, w .inv .2)))
 
 -- src/passes/quick.rt:184:17
 put-requires : tie.Need-put-requires Inv-loop μ-loop
-put-requires c κs = ?
+put-requires c κs =
+    let s = c .before .before .before .before .before .before .before .before .before .before .before .before .before .before .args in
+    let w = c .before .before .before .before .before .before .before .before .loop in
+    let l : length (w .stash) ≡ length (s .stash .now) = w .inv .0 in
+    rw (l, c .before .token .ensures) (over-yes (roomOf (s .stash .now)) _ (w .n) (omega arith))
 
 -- src/passes/quick.rt:185:32
 sub-seen : tie.Need-sub-seen Inv-loop μ-loop
-sub-seen c = ?
+sub-seen c =
+    let s = c .before .before .before .before .before .before .before .before .before .before .before .before .before .before .before .before .before .args in
+    let w = c .before .before .before .before .before .before .before .before .before .before .before .loop in
+    let v = c .before .before .before .before .before .before .next .given .0 in
+    let h = rw (c .before .before .before .before .before .before .next .given .1) at (c .before .before .before .before .before .before .before .before .ahead .ensures) in
+    let g = inside (s .packet .now) (w .at) (v .0) (v .1 .0) (v .1 .1 .0) h in
+    omega (arith, g .0, g .1, g .2, h .inside, w .inv .2)
 
 -- src/passes/quick.rt:185:24
 add-seen : tie.Need-add-seen Inv-loop μ-loop
-add-seen c = ?
+add-seen c =
+    let s = c .before .before .before .before .before .before .before .before .before .before .before .before .before .before .before .before .before .args in
+    let w = c .before .before .before .before .before .before .before .before .before .before .before .loop in
+    let v = c .before .before .before .before .before .before .next .given .0 in
+    let h = rw (c .before .before .before .before .before .before .next .given .1) at (c .before .before .before .before .before .before .before .before .ahead .ensures) in
+    let g = inside (s .packet .now) (w .at) (v .0) (v .1 .0) (v .1 .1 .0) h in
+    omega (arith, g .0, g .1, g .2, h .inside, w .inv .2)
 
 -- src/passes/quick.rt:186:17
 add-count : tie.Need-add-count Inv-loop μ-loop
-add-count c = ?
+add-count c = omega arith
 
 -- src/passes/quick.rt:187:17
 add-n : tie.Need-add-n Inv-loop μ-loop
-add-n c = ?
+add-n c = omega arith
 
 -- src/passes/quick.rt:163:5
 loop-less : tie.Need-loop-less Inv-loop μ-loop
-loop-less c = ?
+loop-less c =
+    let s = c .before .before .before .before .before .before .before .before .before .before .before .before .before .before .before .before .before .args in
+    let w = c .before .before .before .before .before .before .before .before .before .before .before .loop in
+    let v = c .before .before .before .before .before .before .next .given .0 in
+    let h = rw (c .before .before .before .before .before .before .next .given .1) at (c .before .before .before .before .before .before .before .before .ahead .ensures) in
+    let g = inside (s .packet .now) (w .at) (v .0) (v .1 .0) (v .1 .1 .0) h in
+    omega (arith, g .0, g .1, g .2)
 
 -- src/passes/quick.rt:163:5
 loop-again : tie.Need-loop-again Inv-loop μ-loop
-loop-again c = ?
+loop-again c =
+    let s = c .before .before .before .before .before .before .before .before .before .before .before .before .before .before .before .before .before .args in
+    let w = c .before .before .before .before .before .before .before .before .before .before .before .loop in
+    let v = c .before .before .before .before .before .before .next .given .0 in
+    let k = v .0 in
+    let b = v .1 .0 in
+    let e = v .1 .1 .0 in
+    let h = rw (c .before .before .before .before .before .before .next .given .1) at (c .before .before .before .before .before .before .before .before .ahead .ensures) in
+    let g = inside (s .packet .now) (w .at) k b e h in
+    let o = rw (c .before .before .before .before .token .ensures) at (c .before .before .put .ensures) in
+    let l = simp length-set at (ap length o) in
+    (l ∙ w .inv .0, omega (arith, w .inv .1), omega (arith, g .0, g .1, g .2, w .inv .2), clean-on (s .packet .now) (w .at) k b e h (w .seen) (w .inv .3), leap-turn (s .room) (startAt (s .from .seen) (s .from .count)) (s .i) (s .m) (s .packet .now) (s .stash .now) (w .stash) _ (w .seen) (w .count) (w .at) k b e (w .n) (w .inv .4) (w .inv .1) h (w .inv .2) (omega arith) (w .inv .3) (omega arith) o)
 
 -- src/passes/quick.rt:193:16
 start-at-requires-3 : tie.Need-start-at-requires-3 Inv-loop μ-loop
-start-at-requires-3 c κs = ?
+start-at-requires-3 c κs = search needs
 
 -- src/passes/quick.rt:140:1
 same-length-3 : tie.Need-same-length-3 Inv-loop μ-loop
-same-length-3 c = ?
+same-length-3 c = c .before .before .loop .inv .0
 
 -- src/passes/quick.rt:140:1
 returns-4 : tie.Need-returns-4 Inv-loop μ-loop
-returns-4 c = ?
+returns-4 c =
+    let s = c .before .before .before .before .before .before .before .before .args in
+    let w = c .before .before .loop in
+    let f = c .before .before .before .before .may-leap .ensures (yes _ (c .before .before .before .if1 .left)) in
+    leapt-same (s .room) (s .from) (startAt (s .from .seen) (s .from .count)) _ (startAt (w .seen) (w .count)) (s .i) (s .m) (s .packet .now) (s .stash .now) (w .stash) (w .at) (f .between) (c .start-at3 .ensures) (w .inv .4)
 
 pub leap-spec : {M : Type 1} → statement M
 leap-spec =

@@ -1,3 +1,7 @@
+use Rattle.stream.proofs.Leaps.{between-is, clean-is}
+use Rattle.stream.proofs.Fits.{never}
+use native.Mathlib.Omega.{arith}
+use mathlib.Core.Path.{sym, _∙_}
 use borrow.Author.Needs.{needs}
 use Rattle.stream.proofs.passes.quick.may_leap.Statement.{statement}
 use Rattle.stream.proofs.passes.quick.may_leap.Tie as tie
@@ -12,7 +16,7 @@ sub-if1 c = search needs
 
 -- src/passes/quick.rt:129:9
 returns : tie.Need-returns
-returns c = ?
+returns c = λ e. never e
 
 -- src/passes/quick.rt:131:9
 first-bad-requires : tie.Need-first-bad-requires
@@ -32,11 +36,13 @@ enum-told-2 c = search needs
 
 -- src/passes/quick.rt:124:1
 returns-2 : tie.Need-returns-2
-returns-2 c = ?
+returns-2 c = λ e.
+    let s = c .before .before .before .before .before .before .before .args in
+    record { between = between-is (s .c) (c .before .before .before .before .before .before .before .pre) (sym (c .between .ensures) ∙ e); short = omega (arith, c .before .before .before .before .before .before .before .pre .short); clean = clean-is (s .c .seen) (s .rest .now) (sym (c .before .before .before .first-bad .ensures) ∙ c .before .enum-told .given .1) }
 
 -- src/passes/quick.rt:124:1
 returns-3 : tie.Need-returns-3
-returns-3 c = ?
+returns-3 c = λ e. never e
 
 pub may-leap-spec : {M : Type 1} → statement M
 may-leap-spec =
