@@ -4,12 +4,12 @@ use mathlib.Core.Path.{_≡_, refl, sym, ap, _∙_}
 use mathlib.Core.Bool.{Bool, true, false, not}
 use mathlib.Core.List.{List, [], _∷_, _++_}
 use mathlib.Core.Logic.{_⊎_, inl, inr}
-use native.Mathlib.Nat.{add-zero, div-add-mod'}
+use native.Mathlib.Nat.{add-zero, div-mul-le-self, div-add-mod'}
 use native.Mathlib.Numerals.{add-one}
 use native.Mathlib.Omega.{arith}
 use lib.Dec.{eqb}
 use lib.ListN.{length, drop, take, getD, set, length-append, length-drop, take-append-drop}
-use lib.Seq.{sets, take-suc, length-take-le, drop-cons, drop-drop, getD-drop, sets-eq, take-at, take-all}
+use lib.Seq.{sets, length-sets, take-suc, length-take-le, drop-cons, drop-drop, getD-drop, sets-eq, take-at, take-all}
 use borrow.Author.Tests.{eqb-true, lt-ltb}
 use Rattle.text.specs.Utf8.{firstBad}
 use Rattle.text.specs.declared.Check.{Check}
@@ -290,3 +290,56 @@ leapt-same room c d f g i n xs l m j e h k = rw (e, h) k
 
 pub all-left : (xs : List ℕ) (i : ℕ) → take (length xs - i) (drop i xs) ≡ drop i xs
 all-left xs i = take-all (length xs - i) (drop i xs) (let z : length (drop i xs) ≡ length xs - i = length-drop i xs in omega arith)
+
+-- ---- a whole packet: by the table up to a place between tokens, from token to token, and by the table again
+
+same-room : (room : ℕ) (c : Stand) (i n : ℕ) (xs l m : List ℕ) (d : Stand) (j : ℕ) → Leapt room c i n xs l m d j → length m ≡ length l
+same-room room c i n xs l m d j h = ap length (h .stored) ∙ length-sets l (n * 3) (flat (h .tokens))
+
+module _ (room : ℕ) (f : Stand) (xs z m : List ℕ) (d : Stand) (j : ℕ) (h : Leapt room f 0 0 xs z m d j) where
+  pub so-many : d .count - f .count ≤ roomOf m
+  so-many =
+      let l : length m ≡ length z = same-room room f 0 0 xs z m d j h in
+      let e : d .count ≡ f .count + length (h .tokens) = h .counted in
+      let g : 0 + length (h .tokens) ≤ roomOf z = h .fits in
+      let r : roomOf z ≡ roomOf m = ap (λ (n : ℕ). n / 3) (sym l) in
+      omega arith
+
+  pub leapt-both : (o : List ℕ) (c : Stand) (a : ℕ) → Leapt room d j (d .count - f .count) xs m o c a → Leapt room f 0 0 xs z o c a
+  leapt-both o c a g =
+      let e : d .count ≡ f .count + length (h .tokens) = h .counted in
+      let k : d .count - f .count ≡ 0 + length (h .tokens) = omega arith in
+      let l : length m ≡ length z = same-room room f 0 0 xs z m d j h in
+      let r : roomOf m ≡ roomOf z = ap (λ (n : ℕ). n / 3) l in
+      leapt-more room f 0 0 xs z m d j h (g .tokens) c a o (g .ran) (g .stored ∙ ap (λ (n : ℕ). sets m (n * 3) (flat (g .tokens))) k) (g .counted) (g .roomy) (omega (arith, g .fits)) (g .within) (g .sound)
+
+  pub stash-fits : (d .count - f .count) * 3 ≤ length m
+  stash-fits = omega (arith, so-many, div-mul-le-self (length m) 3)
+
+  pub list-fits : (l : List ℕ) → room ≡ roomOf l → 0 < (d .count - f .count) * 3 → f .count * 3 + (d .count - f .count) * 3 ≤ length l
+  list-fits l e p =
+      let q : d .count ≡ f .count + length (h .tokens) = h .counted in
+      let r : d .count ≤ room = h .roomy (omega arith) in
+      omega (arith, div-mul-le-self (length l) 3)
+
+  all-ran : (s : Step) → ranOf room d (take (length xs - j) (drop j xs)) ≡ s → ranOf room f xs ≡ given (h .tokens) s
+  all-ran s e = h .ran ∙ ap (given (h .tokens)) (ap (ranOf room d) (sym (all-left xs j)) ∙ e)
+
+  pub ran-stops : (n p : ℕ) → ranOf room d (take (length xs - j) (drop j xs)) ≡ Faults n p → ranOf room f xs ≡ Faults n p
+  ran-stops n p e = all-ran (Faults n p) e
+
+  pub ran-on : (us : List Tok) (c : Stand) → ranOf room d (take (length xs - j) (drop j xs)) ≡ Goes us c → ranOf room f xs ≡ Goes (h .tokens ++ us) c
+  ran-on us c e = all-ran (Goes us c) e
+
+  pub stores : (l k o : List ℕ) (us : List Tok) (c : Stand) → ranOf room d (take (length xs - j) (drop j xs)) ≡ Goes us c → k ≡ sets l (f .count * 3) (take ((d .count - f .count) * 3) m)
+      → o ≡ sets k (d .count * 3) (flat us) → o ≡ sets l (f .count * 3) (flat (givesOf (ranOf room f xs)))
+  stores l k o us c e p q =
+      let ts : List Tok = h .tokens in
+      let g : d .count ≡ f .count + length ts = h .counted in
+      let n : (d .count - f .count) * 3 ≡ length ts * 3 = omega arith in
+      let t : take ((d .count - f .count) * 3) m ≡ flat ts = ap (take ((d .count - f .count) * 3)) (h .stored) ∙ stash-front ts z ((d .count - f .count) * 3) (omega (arith, h .fits)) n in
+      q
+      ∙ ap (λ (y : List ℕ). sets y (d .count * 3) (flat us)) (p ∙ ap (sets l (f .count * 3)) t)
+      ∙ ap (λ (a : ℕ). sets (sets l (f .count * 3) (flat ts)) (a * 3) (flat us)) g
+      ∙ put-more l (f .count) ts us
+      ∙ ap (λ (s : Step). sets l (f .count * 3) (flat (givesOf s))) (sym (ran-on us c e))

@@ -1,3 +1,13 @@
+use Rattle.stream.proofs.Leaps.{so-many, leapt-both, stash-fits, list-fits, ran-stops, ran-on, stores}
+use Rattle.stream.proofs.Writes.{ran-refuses, ran-stands}
+use Rattle.stream.specs.Feed.{flat, roomOf}
+use Rattle.stream.specs.Shapes.{ranBy, givesOf, isGood}
+use Rattle.stream.specs.Steps.{Step, ranOf}
+use lib.Seq.{sets, length-sets}
+use lib.ListN.{length, drop, take}
+use Prim.Native.Nat.{_*_, _-_, _/_}
+use mathlib.Core.Path.{sym, _∙_, ap, refl, _≡_}
+use native.Mathlib.Omega.{arith}
 use borrow.Author.Needs.{needs}
 use Rattle.stream.proofs.passes.quick.fast.Statement.{statement}
 use Rattle.stream.proofs.passes.quick.fast.Tie as tie
@@ -27,7 +37,10 @@ slice-aggregate-leap c = search needs
 
 -- src/passes/quick.rt:222:9
 leap-requires : tie.Need-leap-requires
-leap-requires c κs = ?
+leap-requires c κs =
+    let s = c .before .before .before .before .before .before .before .before .before .args in
+    let h = c .before .before .before .before .before .settle .ensures in
+    (c .before .before .before .before .before .before .before .before .before .pre .0, (h .sound, (h .within, so-many _ (s .from) (s .packet .now) _ _ _ _ h)))
 
 -- src/passes/quick.rt:233:38
 sub-run : tie.Need-sub-run
@@ -43,7 +56,7 @@ part-run-end c = search needs
 
 -- src/passes/quick.rt:233:9
 run-requires : tie.Need-run-requires
-run-requires c κs = ?
+run-requires c κs = (c .before .before .before .before .before .before .before .before .before .before .before .before .before .pre .0, c .before .before .before .leap .ensures .sound)
 
 -- src/passes/quick.rt:235:22
 enum-known-ran : tie.Need-enum-known-ran
@@ -55,7 +68,7 @@ enum-known-ran-2 c = search needs
 
 -- src/passes/quick.rt:237:24
 mul-copy : tie.Need-mul-copy
-mul-copy c = ?
+mul-copy c = let p = c .before .before .before .before .before .before .before .before .before .before .before .before .before .before .before .before .before .before .before .pre .1 in omega (arith, p .count, p .sum, p .short)
 
 -- src/passes/quick.rt:237:40
 slice-aggregate-copy : tie.Need-slice-aggregate-copy
@@ -63,23 +76,33 @@ slice-aggregate-copy c = search needs
 
 -- src/passes/quick.rt:237:49
 sub-copy : tie.Need-sub-copy
-sub-copy c = ?
+sub-copy c =
+    let s = c .before .before .before .before .before .before .before .before .before .before .before .before .before .before .before .before .before .before .before .before .before .before .args in
+    let h = leapt-both _ (s .from) (s .packet .now) _ _ _ _ (c .before .before .before .before .before .before .before .before .before .before .before .before .before .before .before .before .before .before .settle .ensures) _ _ _ (c .before .before .before .before .before .before .before .before .before .before .before .before .leap .ensures) in
+    omega (arith, h .counted)
 
 -- src/passes/quick.rt:237:48
 mul-copy-2 : tie.Need-mul-copy-2
-mul-copy-2 c = ?
+mul-copy-2 c =
+    let s = c .before .before .before .before .before .before .before .before .before .before .before .before .before .before .before .before .before .before .before .before .before .before .args in
+    let h = leapt-both _ (s .from) (s .packet .now) _ _ _ _ (c .before .before .before .before .before .before .before .before .before .before .before .before .before .before .before .before .before .before .settle .ensures) _ _ _ (c .before .before .before .before .before .before .before .before .before .before .before .before .leap .ensures) in
+    let p = h .sound in
+    omega (arith, p .count, p .sum, p .short)
 
 -- src/passes/quick.rt:237:13
 copy-requires : tie.Need-copy-requires
-copy-requires c κs = ?
+copy-requires c κs =
+    let s = c .before .before .before .before .before .before .before .before .before .before .before .before .before .before .before .before .before .before .before .before .before .before .args in
+    let h = leapt-both _ (s .from) (s .packet .now) _ _ _ _ (c .before .before .before .before .before .before .before .before .before .before .before .before .before .before .before .before .before .before .settle .ensures) _ _ _ (c .before .before .before .before .before .before .before .before .before .before .before .before .leap .ensures) in
+    (stash-fits _ (s .from) (s .packet .now) _ _ _ _ h, list-fits _ (s .from) (s .packet .now) _ _ _ _ h (s .list .now) refl)
 
 -- src/passes/quick.rt:238:32
 sub-write : tie.Need-sub-write
-sub-write c = ?
+sub-write c = omega (arith, c .before .before .before .before .before .before .before .before .before .before .before .before .before .before .before .leap .ensures .within)
 
 -- src/passes/quick.rt:238:32
 part-write-start : tie.Need-part-write-start
-part-write-start c = ?
+part-write-start c = omega (arith, c .before .before .before .before .before .before .before .before .before .before .before .before .before .before .before .leap .ensures .within)
 
 -- src/passes/quick.rt:238:32
 part-write-end : tie.Need-part-write-end
@@ -87,11 +110,21 @@ part-write-end c = search needs
 
 -- src/passes/quick.rt:238:13
 write-requires : tie.Need-write-requires
-write-requires c κs = ?
+write-requires c κs =
+    let s = c .before .before .before .before .before .before .before .before .before .before .before .before .before .before .before .before .before .before .before .before .before .before .before .before .before .before .before .args in
+    let l = simp length-sets at (ap length (c .before .before .before .before .copy .ensures)) in
+    let w = ran-stands (ranOf (roomOf (s .list .now)) _ _) (c .before .before .before .before .before .before .before .before .before .before .before .ran2 .given .0 .0) (sym (c .before .before .before .before .before .before .before .before .before .before .before .ran2 .given .1) ∙ c .before .before .before .before .before .before .before .before .before .before .before .before .before .run .ensures) in
+    (c .before .before .before .before .before .before .before .before .before .before .before .before .before .before .before .before .before .before .before .before .before .before .before .before .before .before .before .pre .0, (c .before .before .before .before .before .before .before .before .before .before .before .before .before .before .before .before .before .leap .ensures .sound, rw l (w .good)))
 
 -- src/passes/quick.rt:212:1
 returns : tie.Need-returns
-returns c = ?
+returns c =
+    let s = c .before .before .before .before .before .before .before .before .before .before .before .before .before .before .before .before .before .args in
+    let h = leapt-both _ (s .from) (s .packet .now) _ _ _ _ (c .before .before .before .before .before .before .before .before .before .before .before .before .before .settle .ensures) _ _ _ (c .before .before .before .before .before .before .before .leap .ensures) in
+    let n = c .before .ran .given .0 .0 in
+    let p = c .before .ran .given .0 .1 .0 in
+    let g = ran-stops (roomOf (s .list .now)) (s .from) (s .packet .now) _ _ _ _ h n p (ran-refuses _ n p (sym (c .before .ran .given .1) ∙ c .before .before .before .run .ensures)) in
+    (sym (ap ranBy g), sym (ap (λ (z : Step). sets (s .list .now) (s .from .count * 3) (flat (givesOf z))) g))
 
 -- src/passes/quick.rt:212:1
 same-length : tie.Need-same-length
@@ -99,7 +132,13 @@ same-length c = search needs
 
 -- src/passes/quick.rt:212:1
 returns-2 : tie.Need-returns-2
-returns-2 c = ?
+returns-2 c =
+    let s = c .before .before .before .before .before .before .before .before .before .before .before .before .before .before .before .before .before .before .before .before .before .before .before .before .before .before .before .before .before .before .args in
+    let h = leapt-both _ (s .from) (s .packet .now) _ _ _ _ (c .before .before .before .before .before .before .before .before .before .before .before .before .before .before .before .before .before .before .before .before .before .before .before .before .before .before .settle .ensures) _ _ _ (c .before .before .before .before .before .before .before .before .before .before .before .before .before .before .before .before .before .before .before .before .leap .ensures) in
+    let w = ran-stands (ranOf (roomOf (s .list .now)) _ _) (c .before .before .before .before .before .before .before .before .before .before .before .before .before .before .ran2 .given .0 .0) (sym (c .before .before .before .before .before .before .before .before .before .before .before .before .before .before .ran2 .given .1) ∙ c .before .before .before .before .before .before .before .before .before .before .before .before .before .before .before .before .run .ensures) in
+    let l = simp length-sets at (ap length (c .before .before .before .before .before .before .before .copy .ensures)) in
+    let o = rw (l, w .stands) at (c .before .before .write .ensures) in
+    (sym (ap ranBy (ran-on (roomOf (s .list .now)) (s .from) (s .packet .now) _ _ _ _ h (w .tokens) _ (w .stands))), stores (roomOf (s .list .now)) (s .from) (s .packet .now) _ _ _ _ h (s .list .now) _ _ (w .tokens) _ (w .stands) (c .before .before .before .before .before .before .before .copy .ensures) o)
 
 pub fast-spec : {M : Type 1} → statement M
 fast-spec =
