@@ -1,5 +1,5 @@
 -- From token to token through a packet: what is given on the way stands in the stash, and the rest is as if it was fed from there.
-use Prim.Native.Nat.{ℕ, zero, suc, _+_, _-_, _*_, _/_, _%_, _≤_, _<_}
+use Prim.Native.Nat.{ℕ, suc, _+_, _-_, _*_, _/_, _%_, _≤_, _<_}
 use mathlib.Core.Path.{_≡_, refl, sym, ap, _∙_}
 use mathlib.Core.Bool.{Bool, true, false, not}
 use mathlib.Core.List.{List, [], _∷_, _++_}
@@ -12,16 +12,14 @@ use lib.ListN.{length, drop, take, getD, set, length-append, length-drop, take-a
 use lib.Seq.{sets, length-sets, take-suc, length-take-le, drop-cons, drop-drop, getD-drop, sets-eq, take-at, take-all}
 use borrow.Author.Tests.{eqb-true, lt-ltb}
 use Rattle.text.specs.Utf8.{firstBad}
-use Rattle.text.specs.declared.Check.{Check}
-use Rattle.text.specs.declared.Check.the-variants.{Good, Bad}
+use Rattle.text.specs.declared.Check.the-variants.{Good}
 use Rattle.text.specs.Scans.{later}
-use Rattle.token.specs.Tokens.{moved, tokenOf, tokenAt}
+use Rattle.token.specs.Tokens.{moved, tokenOf}
 use Rattle.token.specs.Lists.{Tok, tok, Tokens}
 use Rattle.token.specs.declared.Token.{Token}
 use Rattle.token.specs.declared.Token.the-variants.{Found, End, NoToken}
 use Rattle.token.proofs.Bounds.{token-in}
 use Rattle.token.proofs.Places.{token-is}
-use Rattle.stream.specs.declared.Tail.{Tail}
 use Rattle.stream.specs.declared.State.{State}
 use Rattle.stream.specs.declared.State.the-variants.{Start, Word, Push, Num, Hash, Tag, Dot, Caret, Minus, Zeros, Negative, Str, Esc, X0, X1, U, Un, Chr, More, Quote, Slash, Slash2, Line, Doc, DocCr, Cr, Com, Star, Bar, Refused}
 use Rattle.stream.specs.declared.Utf.{Utf}
@@ -32,7 +30,7 @@ use Rattle.stream.specs.Utf.{utfStep, utfEnd, utfFeed}
 use Rattle.stream.specs.Keep.{codeOf, utfCode, tailCode, waiting}
 use Rattle.stream.specs.Steps.{Step, Goes, Faults, brokenAt, overAt, stepOf, given, ranOf}
 use Rattle.stream.specs.Feed.{flat, roomOf}
-use Rattle.stream.specs.Shapes.{listOf, ranBy, givesOf, isGood, Sound}
+use Rattle.stream.specs.Shapes.{listOf, givesOf, Sound}
 use Rattle.stream.specs.Quick.{startAt, isBetween, Holds, Leapt}
 use Rattle.stream.proofs.From.{from, ended, from-law}
 use Rattle.stream.proofs.Left.{left}
@@ -41,7 +39,7 @@ use Rattle.stream.proofs.Utfs.{machine-at, utf-cuts}
 use Rattle.stream.proofs.Cuts.{given-given}
 use Rattle.stream.proofs.Stores.{flat-length, sets-append}
 use Rattle.stream.proofs.Loops.{loop-starts}
-use Rattle.stream.proofs.Writes.{has-room, put-more, ran-given, good-given, gives-given, at-move, step-room, step-sound}
+use Rattle.stream.proofs.Writes.{has-room, put-more, at-move, step-room, step-sound}
 use Rattle.stream.proofs.Runs.{took}
 use Rattle.stream.proofs.Sounds.{many-small}
 use Rattle.stream.proofs.Quick.{ascii-next, still, Leaps, Closes, leaps}

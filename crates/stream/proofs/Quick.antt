@@ -1,5 +1,5 @@
 -- A token whose end the packet holds is given where the whole-text lexer finds it: the machine, from Start, gives nothing before it, and stands behind it as at Start.
-use Prim.Native.Nat.{ℕ, zero, suc, _+_, _-_, _≤_, _<_}
+use Prim.Native.Nat.{ℕ, suc, _+_, _-_, _≤_, _<_}
 use mathlib.Core.Path.{_≡_, refl, sym, ap, _∙_}
 use mathlib.Core.Bool.{Bool, true, false, not}
 use mathlib.Core.List.{List, [], _∷_, _++_}
@@ -9,8 +9,8 @@ use native.Mathlib.Numerals.{add-one}
 use native.Mathlib.Omega.{arith}
 use lib.Dec.{leb, ltb, eqb}
 use lib.ListN.{length, drop, getD}
-use borrow.Author.Tests.{ltb-true, eqb-true, lt-ltb, le-ltb, eq-eqb}
-use Rattle.text.specs.Choice.{choose, and, or, among, within}
+use borrow.Author.Tests.{ltb-true, eqb-true, lt-ltb, le-ltb}
+use Rattle.text.specs.Choice.{choose, and, or, among}
 use Rattle.text.specs.Classes.{classOf, blanks, letter, digit, ones, openers}
 use Rattle.text.specs.Words.{startsWord, inWord}
 use Rattle.text.specs.declared.Check.{Check}
@@ -32,15 +32,14 @@ use Rattle.stream.specs.declared.Utf.the-variants.{Whole, Mid, Broke}
 use Rattle.stream.specs.declared.Stand.{Stand}
 use Rattle.stream.specs.Machine.{Out, go, give, again, openRow, classRow, startRow, wordRow, pushRow, zerosRow, back, isNumber, isHex, tailOk, tailNext, leadRow, lineRow, giveDoc, docRow, comRow, row, step, endRow}
 use Rattle.stream.specs.Keep.{codeOf, refusedCode, waiting, stateFits}
-use Rattle.stream.specs.Utf.{utfLead, utfStep, utfEnd, utfFeed}
-use Rattle.stream.specs.Steps.{Step, Goes, Faults, unless, longAt, brokenAt, refusedAt, overAt, movedTo, stepBy, stepOf, given, followed, ranOf}
+use Rattle.stream.specs.Utf.{utfLead, utfStep, utfFeed}
+use Rattle.stream.specs.Steps.{Step, Goes, unless, longAt, brokenAt, refusedAt, overAt, movedTo, stepBy, stepOf, given, followed, ranOf}
 use Rattle.stream.specs.Shapes.{Sound}
 use Rattle.stream.specs.Quick.{startAt}
-use Rattle.stream.proofs.From.{from}
-use Rattle.stream.proofs.Left.{left, after}
+use Rattle.stream.proofs.Left.{left}
 use Rattle.stream.proofs.Main.{row-law, end-law}
 use Rattle.stream.proofs.Fits.{never, both, code-refused}
-use Rattle.stream.proofs.Utfs.{stays, machine-at}
+use Rattle.stream.proofs.Utfs.{stays}
 use Rattle.stream.proofs.Cuts.{followed-given}
 use Rattle.stream.proofs.Loops.{loop-starts}
 use Rattle.stream.proofs.Writes.{step-sound}

@@ -1,3 +1,4 @@
+-- The second pass runs only where the first found no refusal.
 use Rattle.stream.proofs.Writes.{ran-refuses, ran-stands}
 use Rattle.stream.specs.Feed.{flat, roomOf}
 use Rattle.stream.specs.Shapes.{givesOf}
@@ -8,42 +9,31 @@ use mathlib.Core.Path.{sym, _∙_, ap}
 use borrow.Author.Needs.{needs}
 use Rattle.stream.proofs.passes.both.Statement.{statement}
 use Rattle.stream.proofs.passes.both.Tie as tie
-use Rattle.stream.proofs.passes.both.Reads as reads
-use Rattle.stream.proofs.passes.both.Lts as lts
-use Rattle.stream.proofs.passes.run.Reads as run-reads
-use Rattle.stream.proofs.passes.write.Reads as write-reads
 
--- src/passes.rt:137:9
 run-requires : tie.Need-run-requires
 run-requires c κs = search needs
 
--- src/passes.rt:139:22
 enum-known-ran : tie.Need-enum-known-ran
 enum-known-ran c = search needs
 
--- src/passes.rt:140:21
 enum-known-ran-2 : tie.Need-enum-known-ran-2
 enum-known-ran-2 c = search needs
 
--- src/passes.rt:141:13
 write-requires : tie.Need-write-requires
 write-requires c κs =
     let s = c .before .before .before .before .before .before .before .args in
     let w = ran-stands (ranOf (roomOf (s .list .now)) (s .from) (s .packet .now)) (c .before .before .ran2 .given .0 .0) (sym (c .before .before .ran2 .given .1) ∙ c .before .before .before .before .run .ensures) in
     (c .before .before .before .before .before .before .before .pre .0, (c .before .before .before .before .before .before .before .pre .1, w .good))
 
--- src/passes.rt:131:1
 returns : tie.Need-returns
 returns c =
     let s = c .before .before .before .before .before .before .args in
     let g = ran-refuses (ranOf (roomOf (s .list .now)) (s .from) (s .packet .now)) (c .before .ran .given .0 .0) (c .before .ran .given .0 .1 .0) (sym (c .before .ran .given .1) ∙ c .before .before .before .run .ensures) in
     (sym (c .before .ran .given .1) ∙ c .before .before .before .run .ensures, sym (ap (λ (z : Step). sets (s .list .now) (s .from .count * 3) (flat (givesOf z))) g))
 
--- src/passes.rt:131:1
 same-length : tie.Need-same-length
 same-length c = search needs
 
--- src/passes.rt:131:1
 returns-2 : tie.Need-returns-2
 returns-2 c = (sym (c .before .before .before .before .before .ran2 .given .1) ∙ c .before .before .before .before .before .before .before .run .ensures, c .before .before .write .ensures)
 

@@ -1,87 +1,66 @@
+-- What settle and leap stashed is one leap; the first pass over the rest then decides whether it is written.
 use Rattle.stream.proofs.Leaps.{so-many, leapt-both, stash-fits, list-fits, ran-stops, ran-on, stores}
 use Rattle.stream.proofs.Writes.{ran-refuses, ran-stands}
 use Rattle.stream.specs.Feed.{flat, roomOf}
-use Rattle.stream.specs.Shapes.{ranBy, givesOf, isGood}
+use Rattle.stream.specs.Shapes.{ranBy, givesOf}
 use Rattle.stream.specs.Steps.{Step, ranOf}
 use lib.Seq.{sets, length-sets}
-use lib.ListN.{length, drop, take}
-use Prim.Native.Nat.{_*_, _-_, _/_}
-use mathlib.Core.Path.{sym, _∙_, ap, refl, _≡_}
+use lib.ListN.{length}
+use Prim.Native.Nat.{_*_, _-_}
+use mathlib.Core.Path.{sym, _∙_, ap, refl}
 use native.Mathlib.Omega.{arith}
 use borrow.Author.Needs.{needs}
 use Rattle.stream.proofs.passes.quick.fast.Statement.{statement}
 use Rattle.stream.proofs.passes.quick.fast.Tie as tie
-use Rattle.stream.proofs.passes.quick.fast.Reads as reads
-use Rattle.stream.proofs.passes.quick.fast.Lts as lts
-use Rattle.stream.proofs.passes.quick.copy.Reads as copy-reads
-use Rattle.stream.proofs.passes.quick.leap.Reads as leap-reads
-use Rattle.stream.proofs.passes.quick.settle.Reads as settle-reads
-use Rattle.stream.proofs.passes.run.Reads as run-reads
-use Rattle.stream.proofs.passes.write.Reads as write-reads
 
--- src/passes/quick.rt:220:47
 slice-aggregate-settle : tie.Need-slice-aggregate-settle
 slice-aggregate-settle c = search needs
 
--- src/passes/quick.rt:220:9
 settle-requires : tie.Need-settle-requires
 settle-requires c κs = search needs
 
--- src/passes/quick.rt:227:9
 sub-leap : tie.Need-sub-leap
 sub-leap c = search needs
 
--- src/passes/quick.rt:229:9
 slice-aggregate-leap : tie.Need-slice-aggregate-leap
 slice-aggregate-leap c = search needs
 
--- src/passes/quick.rt:222:9
 leap-requires : tie.Need-leap-requires
 leap-requires c κs =
     let s = c .before .before .before .before .before .before .before .before .before .args in
     let h = c .before .before .before .before .before .settle .ensures in
     (c .before .before .before .before .before .before .before .before .before .pre .0, (h .sound, (h .within, so-many _ (s .from) (s .packet .now) _ _ _ _ h)))
 
--- src/passes/quick.rt:233:38
 sub-run : tie.Need-sub-run
 sub-run c = search needs
 
--- src/passes/quick.rt:233:38
 part-run-start : tie.Need-part-run-start
 part-run-start c = search needs
 
--- src/passes/quick.rt:233:38
 part-run-end : tie.Need-part-run-end
 part-run-end c = search needs
 
--- src/passes/quick.rt:233:9
 run-requires : tie.Need-run-requires
 run-requires c κs = (c .before .before .before .before .before .before .before .before .before .before .before .before .before .pre .0, c .before .before .before .leap .ensures .sound)
 
--- src/passes/quick.rt:235:22
 enum-known-ran : tie.Need-enum-known-ran
 enum-known-ran c = search needs
 
--- src/passes/quick.rt:236:21
 enum-known-ran-2 : tie.Need-enum-known-ran-2
 enum-known-ran-2 c = search needs
 
--- src/passes/quick.rt:237:24
 mul-copy : tie.Need-mul-copy
 mul-copy c = let p = c .before .before .before .before .before .before .before .before .before .before .before .before .before .before .before .before .before .before .before .pre .1 in omega (arith, p .count, p .sum, p .short)
 
--- src/passes/quick.rt:237:40
 slice-aggregate-copy : tie.Need-slice-aggregate-copy
 slice-aggregate-copy c = search needs
 
--- src/passes/quick.rt:237:49
 sub-copy : tie.Need-sub-copy
 sub-copy c =
     let s = c .before .before .before .before .before .before .before .before .before .before .before .before .before .before .before .before .before .before .before .before .before .before .args in
     let h = leapt-both _ (s .from) (s .packet .now) _ _ _ _ (c .before .before .before .before .before .before .before .before .before .before .before .before .before .before .before .before .before .before .settle .ensures) _ _ _ (c .before .before .before .before .before .before .before .before .before .before .before .before .leap .ensures) in
     omega (arith, h .counted)
 
--- src/passes/quick.rt:237:48
 mul-copy-2 : tie.Need-mul-copy-2
 mul-copy-2 c =
     let s = c .before .before .before .before .before .before .before .before .before .before .before .before .before .before .before .before .before .before .before .before .before .before .args in
@@ -89,26 +68,21 @@ mul-copy-2 c =
     let p = h .sound in
     omega (arith, p .count, p .sum, p .short)
 
--- src/passes/quick.rt:237:13
 copy-requires : tie.Need-copy-requires
 copy-requires c κs =
     let s = c .before .before .before .before .before .before .before .before .before .before .before .before .before .before .before .before .before .before .before .before .before .before .args in
     let h = leapt-both _ (s .from) (s .packet .now) _ _ _ _ (c .before .before .before .before .before .before .before .before .before .before .before .before .before .before .before .before .before .before .settle .ensures) _ _ _ (c .before .before .before .before .before .before .before .before .before .before .before .before .leap .ensures) in
     (stash-fits _ (s .from) (s .packet .now) _ _ _ _ h, list-fits _ (s .from) (s .packet .now) _ _ _ _ h (s .list .now) refl)
 
--- src/passes/quick.rt:238:32
 sub-write : tie.Need-sub-write
 sub-write c = omega (arith, c .before .before .before .before .before .before .before .before .before .before .before .before .before .before .before .leap .ensures .within)
 
--- src/passes/quick.rt:238:32
 part-write-start : tie.Need-part-write-start
 part-write-start c = omega (arith, c .before .before .before .before .before .before .before .before .before .before .before .before .before .before .before .leap .ensures .within)
 
--- src/passes/quick.rt:238:32
 part-write-end : tie.Need-part-write-end
 part-write-end c = search needs
 
--- src/passes/quick.rt:238:13
 write-requires : tie.Need-write-requires
 write-requires c κs =
     let s = c .before .before .before .before .before .before .before .before .before .before .before .before .before .before .before .before .before .before .before .before .before .before .before .before .before .before .before .args in
@@ -116,7 +90,6 @@ write-requires c κs =
     let w = ran-stands (ranOf (roomOf (s .list .now)) _ _) (c .before .before .before .before .before .before .before .before .before .before .before .ran2 .given .0 .0) (sym (c .before .before .before .before .before .before .before .before .before .before .before .ran2 .given .1) ∙ c .before .before .before .before .before .before .before .before .before .before .before .before .before .run .ensures) in
     (c .before .before .before .before .before .before .before .before .before .before .before .before .before .before .before .before .before .before .before .before .before .before .before .before .before .before .before .pre .0, (c .before .before .before .before .before .before .before .before .before .before .before .before .before .before .before .before .before .leap .ensures .sound, rw l (w .good)))
 
--- src/passes/quick.rt:212:1
 returns : tie.Need-returns
 returns c =
     let s = c .before .before .before .before .before .before .before .before .before .before .before .before .before .before .before .before .before .args in
@@ -126,11 +99,9 @@ returns c =
     let g = ran-stops (roomOf (s .list .now)) (s .from) (s .packet .now) _ _ _ _ h n p (ran-refuses _ n p (sym (c .before .ran .given .1) ∙ c .before .before .before .run .ensures)) in
     (sym (ap ranBy g), sym (ap (λ (z : Step). sets (s .list .now) (s .from .count * 3) (flat (givesOf z))) g))
 
--- src/passes/quick.rt:212:1
 same-length : tie.Need-same-length
 same-length c = search needs
 
--- src/passes/quick.rt:212:1
 returns-2 : tie.Need-returns-2
 returns-2 c =
     let s = c .before .before .before .before .before .before .before .before .before .before .before .before .before .before .before .before .before .before .before .before .before .before .before .before .before .before .before .before .before .before .args in

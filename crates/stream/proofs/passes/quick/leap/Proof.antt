@@ -1,3 +1,4 @@
+-- From token to token: each is the law of one token, so what the stash holds and the rest of the packet make up the whole.
 use Rattle.stream.proofs.Leaps.{yes, all-left, inside, clean-on, leapt-none, leapt-same, over-yes, sound-between, leap-turn}
 use Rattle.stream.specs.Quick.{startAt, Free, Leapt}
 use Rattle.stream.specs.Feed.{roomOf}
@@ -6,19 +7,12 @@ use Rattle.stream.specs.Utf.{utfFeed}
 use Rattle.stream.specs.declared.Utf.the-variants.{Whole}
 use Rattle.text.specs.declared.Check.the-variants.{Good}
 use lib.ListN.{length, drop, length-drop, length-set}
-use mathlib.Core.Path.{sym, _∙_, ap, refl, _≡_}
+use mathlib.Core.Path.{_∙_, ap, refl, _≡_}
 use native.Mathlib.Omega.{arith}
 use borrow.Author.Needs.{needs}
 use Prim.Native.Nat.{_+_, _-_, _≤_}
 use Rattle.stream.proofs.passes.quick.leap.Statement.{statement}
 use Rattle.stream.proofs.passes.quick.leap.Tie as tie
-use Rattle.stream.proofs.passes.quick.leap.Reads as reads
-use Rattle.stream.proofs.passes.quick.leap.Lts as lts
-use Rattle.stream.proofs.passes.quick.ahead.Reads as ahead-reads
-use Rattle.stream.proofs.passes.quick.may_leap.Reads as may-leap-reads
-use Rattle.stream.proofs.passes.quick.start_at.Reads as start-at-reads
-use Rattle.stream.proofs.passes.rooms.put.Reads as put-reads
-use Rattle.stream.proofs.table.moves.token.Reads as token-reads
 
 abbrev Inv-loop : tie.InvT-loop
 Inv-loop t room i m packet stash₀ space seen₀ count₀ at₀ n₀ stash seen count at n = (length stash ≡ length stash₀) × (n + count₀ ≡ count + m) × (seen + (length packet - at) ≤ 65536) × (brokenAt (utfFeed Whole seen (drop at packet)) ≡ Good) × Leapt room (startAt seen₀ count₀) i m packet stash₀ stash (startAt seen count) at
@@ -26,29 +20,23 @@ Inv-loop t room i m packet stash₀ space seen₀ count₀ at₀ n₀ stash seen
 abbrev μ-loop : tie.MeasureT-loop
 μ-loop t room i m packet stash₀ space seen₀ count₀ at₀ n₀ stash seen count at n = length packet - at
 
--- src/passes/quick.rt:155:24
 sub-may-leap : tie.Need-sub-may-leap Inv-loop μ-loop
 sub-may-leap c = omega (arith, c .before .before .pre .1 .1 .0)
 
--- src/passes/quick.rt:155:24
 part-may-leap-start : tie.Need-part-may-leap-start Inv-loop μ-loop
 part-may-leap-start c = omega (arith, c .before .before .pre .1 .1 .0)
 
--- src/passes/quick.rt:155:24
 part-may-leap-end : tie.Need-part-may-leap-end Inv-loop μ-loop
 part-may-leap-end c = omega (arith, c .before .before .pre .1 .1 .0)
 
--- src/passes/quick.rt:155:9
 may-leap-requires : tie.Need-may-leap-requires Inv-loop μ-loop
 may-leap-requires c κs = c .before .before .before .pre .1 .0
 
--- src/passes/quick.rt:156:9
 returns : tie.Need-returns Inv-loop μ-loop
 returns c =
     let s = c .before .before .before .before .before .args in
     leapt-none (s .room) (s .from) (s .i) (s .m) (s .packet .now) (s .stash .now) (c .before .before .before .before .before .pre .1 .0) (c .before .before .before .before .before .pre .1 .1 .0) (c .before .before .before .before .before .pre .1 .1 .1)
 
--- src/passes/quick.rt:163:5
 loop-holds : tie.Need-loop-holds Inv-loop μ-loop
 loop-holds c =
     let s = c .before .before .before .before .before .args in
@@ -56,15 +44,12 @@ loop-holds c =
     let l = length-drop (s .i) (s .packet .now) in
     (refl, omega arith, omega (arith, f .short), f .clean, leapt-none (s .room) (startAt (s .from .seen) (s .from .count)) (s .i) (s .m) (s .packet .now) (s .stash .now) (sound-between (s .from) (c .before .before .before .before .before .pre .1 .0)) (c .before .before .before .before .before .pre .1 .1 .0) (c .before .before .before .before .before .pre .1 .1 .1))
 
--- src/passes/quick.rt:166:24
 start-at-requires : tie.Need-start-at-requires Inv-loop μ-loop
 start-at-requires c κs = search needs
 
--- src/passes/quick.rt:165:13
 same-length : tie.Need-same-length Inv-loop μ-loop
 same-length c = c .before .before .before .loop .inv .0
 
--- src/passes/quick.rt:165:13
 returns-2 : tie.Need-returns-2 Inv-loop μ-loop
 returns-2 c =
     let s = c .before .before .before .before .before .before .before .before .before .args in
@@ -72,23 +57,18 @@ returns-2 c =
     let f = c .before .before .before .before .before .may-leap .ensures (yes _ (c .before .before .before .before .if1 .left)) in
     leapt-same (s .room) (s .from) (startAt (s .from .seen) (s .from .count)) _ (startAt (w .seen) (w .count)) (s .i) (s .m) (s .packet .now) (s .stash .now) (w .stash) (w .at) (f .between) (c .start-at .ensures) (w .inv .4)
 
--- src/passes/quick.rt:170:13
 ahead-requires : tie.Need-ahead-requires Inv-loop μ-loop
 ahead-requires c κs = c .before .before .before .before .before .before .before .before .pre .0
 
--- src/passes/quick.rt:174:28
 enum-told : tie.Need-enum-told Inv-loop μ-loop
 enum-told c = search needs
 
--- src/passes/quick.rt:174:28
 start-at-requires-2 : tie.Need-start-at-requires-2 Inv-loop μ-loop
 start-at-requires-2 c κs = search needs
 
--- src/passes/quick.rt:173:17
 same-length-2 : tie.Need-same-length-2 Inv-loop μ-loop
 same-length-2 c = c .before .before .before .before .before .before .loop .inv .0
 
--- src/passes/quick.rt:173:17
 returns-3 : tie.Need-returns-3 Inv-loop μ-loop
 returns-3 c =
     let s = c .before .before .before .before .before .before .before .before .before .before .before .before .args in
@@ -96,11 +76,9 @@ returns-3 c =
     let f = c .before .before .before .before .before .before .before .before .may-leap .ensures (yes _ (c .before .before .before .before .before .before .before .if1 .left)) in
     leapt-same (s .room) (s .from) (startAt (s .from .seen) (s .from .count)) _ (startAt (w .seen) (w .count)) (s .i) (s .m) (s .packet .now) (s .stash .now) (w .stash) (w .at) (f .between) (c .start-at2 .ensures) (w .inv .4)
 
--- src/passes/quick.rt:178:26
 enum-known-next : tie.Need-enum-known-next Inv-loop μ-loop
 enum-known-next c = search needs
 
--- src/passes/quick.rt:181:29
 sub-token : tie.Need-sub-token Inv-loop μ-loop
 sub-token c =
     let s = c .before .before .before .before .before .before .before .before .before .before .before .before .args in
@@ -110,7 +88,6 @@ sub-token c =
     let g = inside (s .packet .now) (w .at) (v .0) (v .1 .0) (v .1 .1 .0) h in
     omega (arith, g .0, g .1, g .2, h .inside, w .inv .2)
 
--- src/passes/quick.rt:181:21
 add-token : tie.Need-add-token Inv-loop μ-loop
 add-token c =
     let s = c .before .before .before .before .before .before .before .before .before .before .before .before .args in
@@ -120,7 +97,6 @@ add-token c =
     let g = inside (s .packet .now) (w .at) (v .0) (v .1 .0) (v .1 .1 .0) h in
     omega (arith, g .0, g .1, g .2, h .inside, w .inv .2)
 
--- src/passes/quick.rt:182:29
 sub-token-2 : tie.Need-sub-token-2 Inv-loop μ-loop
 sub-token-2 c =
     let s = c .before .before .before .before .before .before .before .before .before .before .before .before .args in
@@ -130,7 +106,6 @@ sub-token-2 c =
     let g = inside (s .packet .now) (w .at) (v .0) (v .1 .0) (v .1 .1 .0) h in
     omega (arith, g .0, g .1, g .2, h .inside, w .inv .2)
 
--- src/passes/quick.rt:182:21
 add-token-2 : tie.Need-add-token-2 Inv-loop μ-loop
 add-token-2 c =
     let s = c .before .before .before .before .before .before .before .before .before .before .before .before .args in
@@ -140,7 +115,6 @@ add-token-2 c =
     let g = inside (s .packet .now) (w .at) (v .0) (v .1 .0) (v .1 .1 .0) h in
     omega (arith, g .0, g .1, g .2, h .inside, w .inv .2)
 
--- src/passes/quick.rt:179:21
 token-requires : tie.Need-token-requires Inv-loop μ-loop
 token-requires c κs =
     let s = c .before .before .before .before .before .before .before .before .before .before .before .before .args in
@@ -150,7 +124,6 @@ token-requires c κs =
     let g = inside (s .packet .now) (w .at) (v .0) (v .1 .0) (v .1 .1 .0) h in
     (omega (arith, g .3), (omega (arith, g .0, g .1, g .2, h .inside, w .inv .2), omega (arith, g .0, g .1, g .2, h .inside, w .inv .2)))
 
--- src/passes/quick.rt:184:17
 put-requires : tie.Need-put-requires Inv-loop μ-loop
 put-requires c κs =
     let s = c .before .before .before .before .before .before .before .before .before .before .before .before .before .before .args in
@@ -158,7 +131,6 @@ put-requires c κs =
     let l : length (w .stash) ≡ length (s .stash .now) = w .inv .0 in
     rw (l, c .before .token .ensures) (over-yes (roomOf (s .stash .now)) _ (w .n) (omega arith))
 
--- src/passes/quick.rt:185:32
 sub-seen : tie.Need-sub-seen Inv-loop μ-loop
 sub-seen c =
     let s = c .before .before .before .before .before .before .before .before .before .before .before .before .before .before .before .before .before .args in
@@ -168,7 +140,6 @@ sub-seen c =
     let g = inside (s .packet .now) (w .at) (v .0) (v .1 .0) (v .1 .1 .0) h in
     omega (arith, g .0, g .1, g .2, h .inside, w .inv .2)
 
--- src/passes/quick.rt:185:24
 add-seen : tie.Need-add-seen Inv-loop μ-loop
 add-seen c =
     let s = c .before .before .before .before .before .before .before .before .before .before .before .before .before .before .before .before .before .args in
@@ -178,15 +149,12 @@ add-seen c =
     let g = inside (s .packet .now) (w .at) (v .0) (v .1 .0) (v .1 .1 .0) h in
     omega (arith, g .0, g .1, g .2, h .inside, w .inv .2)
 
--- src/passes/quick.rt:186:17
 add-count : tie.Need-add-count Inv-loop μ-loop
 add-count c = omega arith
 
--- src/passes/quick.rt:187:17
 add-n : tie.Need-add-n Inv-loop μ-loop
 add-n c = omega arith
 
--- src/passes/quick.rt:163:5
 loop-less : tie.Need-loop-less Inv-loop μ-loop
 loop-less c =
     let s = c .before .before .before .before .before .before .before .before .before .before .before .before .before .before .before .before .before .args in
@@ -196,7 +164,6 @@ loop-less c =
     let g = inside (s .packet .now) (w .at) (v .0) (v .1 .0) (v .1 .1 .0) h in
     omega (arith, g .0, g .1, g .2)
 
--- src/passes/quick.rt:163:5
 loop-again : tie.Need-loop-again Inv-loop μ-loop
 loop-again c =
     let s = c .before .before .before .before .before .before .before .before .before .before .before .before .before .before .before .before .before .args in
@@ -211,15 +178,12 @@ loop-again c =
     let l = simp length-set at (ap length o) in
     (l ∙ w .inv .0, omega (arith, w .inv .1), omega (arith, g .0, g .1, g .2, w .inv .2), clean-on (s .packet .now) (w .at) k b e h (w .seen) (w .inv .3), leap-turn (s .room) (startAt (s .from .seen) (s .from .count)) (s .i) (s .m) (s .packet .now) (s .stash .now) (w .stash) _ (w .seen) (w .count) (w .at) k b e (w .n) (w .inv .4) (w .inv .1) h (w .inv .2) (omega arith) (w .inv .3) (omega arith) o)
 
--- src/passes/quick.rt:193:16
 start-at-requires-3 : tie.Need-start-at-requires-3 Inv-loop μ-loop
 start-at-requires-3 c κs = search needs
 
--- src/passes/quick.rt:140:1
 same-length-3 : tie.Need-same-length-3 Inv-loop μ-loop
 same-length-3 c = c .before .before .loop .inv .0
 
--- src/passes/quick.rt:140:1
 returns-4 : tie.Need-returns-4 Inv-loop μ-loop
 returns-4 c =
     let s = c .before .before .before .before .before .before .before .before .args in

@@ -1,3 +1,4 @@
+-- Where all three tests hold.
 use Rattle.stream.proofs.Leaps.{between-is, clean-is}
 use Rattle.stream.proofs.Fits.{never}
 use native.Mathlib.Omega.{arith}
@@ -5,42 +6,30 @@ use mathlib.Core.Path.{sym, _∙_}
 use borrow.Author.Needs.{needs}
 use Rattle.stream.proofs.passes.quick.may_leap.Statement.{statement}
 use Rattle.stream.proofs.passes.quick.may_leap.Tie as tie
-use Rattle.stream.proofs.passes.quick.may_leap.Reads as reads
-use Rattle.stream.proofs.passes.quick.may_leap.Lts as lts
-use Rattle.stream.proofs.passes.quick.between.Reads as between-reads
-use Rattle.text.proofs.first_bad.Reads as first-bad-reads
 
--- src/passes/quick.rt:128:8
 sub-if1 : tie.Need-sub-if1
 sub-if1 c = search needs
 
--- src/passes/quick.rt:129:9
 returns : tie.Need-returns
 returns c = λ e. never e
 
--- src/passes/quick.rt:131:9
 first-bad-requires : tie.Need-first-bad-requires
 first-bad-requires c κs = search needs
 
--- src/passes/quick.rt:133:24
 enum-told : tie.Need-enum-told
 enum-told c = search needs
 
--- src/passes/quick.rt:133:24
 between-requires : tie.Need-between-requires
 between-requires c κs = search needs
 
--- src/passes/quick.rt:134:26
 enum-told-2 : tie.Need-enum-told-2
 enum-told-2 c = search needs
 
--- src/passes/quick.rt:124:1
 returns-2 : tie.Need-returns-2
 returns-2 c = λ e.
     let s = c .before .before .before .before .before .before .before .args in
     record { between = between-is (s .c) (c .before .before .before .before .before .before .before .pre) (sym (c .between .ensures) ∙ e); short = omega (arith, c .before .before .before .before .before .before .before .pre .short); clean = clean-is (s .c .seen) (s .rest .now) (sym (c .before .before .before .first-bad .ensures) ∙ c .before .enum-told .given .1) }
 
--- src/passes/quick.rt:124:1
 returns-3 : tie.Need-returns-3
 returns-3 c = λ e. never e
 

@@ -1,3 +1,4 @@
+-- Each byte gives at most two tokens, for which the stash has room; the rest is as if it was fed from where the loop stands.
 use Rattle.stream.proofs.Leaps.{yes, leapt-none, over-yes, two-small, settle-turn, step-seen}
 use Rattle.stream.proofs.Writes.{step-room}
 use Rattle.stream.proofs.Sounds.{many-small, many-two}
@@ -5,18 +6,12 @@ use Rattle.stream.specs.Quick.{Leapt}
 use Rattle.stream.specs.Feed.{roomOf}
 use lib.Seq.{length-sets}
 use lib.ListN.{length}
-use mathlib.Core.Path.{sym, _∙_, ap, refl, _≡_}
+use mathlib.Core.Path.{_∙_, ap, refl, _≡_}
 use native.Mathlib.Omega.{arith}
 use borrow.Author.Needs.{needs}
-use Prim.Native.Nat.{_+_, _-_, _≤_}
+use Prim.Native.Nat.{_+_, _-_}
 use Rattle.stream.proofs.passes.quick.settle.Statement.{statement}
 use Rattle.stream.proofs.passes.quick.settle.Tie as tie
-use Rattle.stream.proofs.passes.quick.settle.Reads as reads
-use Rattle.stream.proofs.passes.quick.settle.Lts as lts
-use Rattle.stream.proofs.passes.quick.is_slow.Reads as is-slow-reads
-use Rattle.stream.proofs.passes.rooms.many.Reads as many-reads
-use Rattle.stream.proofs.passes.rooms.put_two.Reads as put-two-reads
-use Rattle.stream.proofs.passes.step.Reads as step-reads
 
 abbrev Inv-loop : tie.InvT-loop
 Inv-loop t room packet stash₀ space c₀ i₀ n₀ stash c i n = (length stash ≡ length stash₀) × (n + c₀ .count ≡ c .count) × Leapt room c₀ 0 0 packet stash₀ stash c i × (c₀ .seen + i ≡ c .seen)
@@ -24,49 +19,38 @@ Inv-loop t room packet stash₀ space c₀ i₀ n₀ stash c i n = (length stash
 abbrev μ-loop : tie.MeasureT-loop
 μ-loop t room packet stash₀ space c₀ i₀ n₀ stash c i n = length packet - i
 
--- src/passes/quick.rt:80:5
 loop-holds : tie.Need-loop-holds Inv-loop μ-loop
 loop-holds c =
     let s = c .before .before .args in
     (refl, omega arith, leapt-none (s .room) (s .from) 0 0 (s .packet .now) (s .stash .now) (c .before .before .pre .1) (omega arith) (omega arith), omega arith)
 
--- src/passes/quick.rt:81:13
 is-slow-requires : tie.Need-is-slow-requires Inv-loop μ-loop
 is-slow-requires c κs = search needs
 
--- src/passes/quick.rt:82:13
 same-length : tie.Need-same-length Inv-loop μ-loop
 same-length c = c .before .before .loop .inv .0
 
--- src/passes/quick.rt:82:13
 returns : tie.Need-returns Inv-loop μ-loop
 returns c = c .before .before .loop .inv .2
 
--- src/passes/quick.rt:84:47
 shared-slice-read-step : tie.Need-shared-slice-read-step Inv-loop μ-loop
 shared-slice-read-step c = c .before .before .is-slow .ensures (yes _ (c .before .if1 .left)) .0
 
--- src/passes/quick.rt:84:13
 step-requires : tie.Need-step-requires Inv-loop μ-loop
 step-requires c κs = (c .before .before .before .before .before .before .pre .0, c .before .before .before .loop .inv .2 .sound)
 
--- src/passes/quick.rt:87:17
 enum-told : tie.Need-enum-told Inv-loop μ-loop
 enum-told c = search needs
 
--- src/passes/quick.rt:87:17
 same-length-2 : tie.Need-same-length-2 Inv-loop μ-loop
 same-length-2 c = c .before .before .before .before .before .before .loop .inv .0
 
--- src/passes/quick.rt:87:17
 returns-2 : tie.Need-returns-2 Inv-loop μ-loop
 returns-2 c = c .before .before .before .before .before .before .loop .inv .2
 
--- src/passes/quick.rt:89:28
 enum-known-stepped : tie.Need-enum-known-stepped Inv-loop μ-loop
 enum-known-stepped c = search needs
 
--- src/passes/quick.rt:90:17
 put-two-requires : tie.Need-put-two-requires Inv-loop μ-loop
 put-two-requires c κs =
     let s = c .before .before .before .before .before .before .before .before .before .before .before .args in
@@ -77,11 +61,9 @@ put-two-requires c κs =
     let f = c .before .before .before .before .before .before .before .is-slow .ensures (yes _ (c .before .before .before .before .before .before .if1 .left)) .1 in
     (omega (arith, w .inv .1, p .count, p .sum, p .short), rw l (over-yes (roomOf (s .stash .now)) _ (w .n) (omega (arith, two-small (v .0) (v .1 .0)))))
 
--- src/passes/quick.rt:91:25
 many-requires : tie.Need-many-requires Inv-loop μ-loop
 many-requires c κs = search needs
 
--- src/passes/quick.rt:91:21
 add-n : tie.Need-add-n Inv-loop μ-loop
 add-n c =
     let w = c .before .before .before .before .before .before .before .before .before .before .before .before .loop in
@@ -89,11 +71,9 @@ add-n c =
     let v = c .before .before .before .before .before .before .stepped .given .0 in
     omega (arith, w .inv .1, p .count, p .sum, p .short, c .many .ensures, many-small (v .0))
 
--- src/passes/quick.rt:91:47
 many-requires-2 : tie.Need-many-requires-2 Inv-loop μ-loop
 many-requires-2 c κs = search needs
 
--- src/passes/quick.rt:91:21
 add-n-2 : tie.Need-add-n-2 Inv-loop μ-loop
 add-n-2 c =
     let w = c .before .before .before .before .before .before .before .before .before .before .before .before .before .loop in
@@ -101,17 +81,14 @@ add-n-2 c =
     let v = c .before .before .before .before .before .before .before .stepped .given .0 in
     omega (arith, w .inv .1, p .count, p .sum, p .short, c .before .many .ensures, many-small (v .0), c .many2 .ensures, many-small (v .1 .0))
 
--- src/passes/quick.rt:93:17
 add-i : tie.Need-add-i Inv-loop μ-loop
 add-i c =
     let w = c .before .before .before .before .before .before .before .before .before .before .before .before .before .loop in
     omega (arith, w .inv .3, w .inv .2 .sound .short)
 
--- src/passes/quick.rt:80:5
 loop-less : tie.Need-loop-less Inv-loop μ-loop
 loop-less c = let f = c .before .before .before .before .before .before .before .before .before .before .before .before .is-slow .ensures (yes _ (c .before .before .before .before .before .before .before .before .before .before .before .if1 .left)) .0 in omega arith
 
--- src/passes/quick.rt:80:5
 loop-again : tie.Need-loop-again Inv-loop μ-loop
 loop-again c =
     let s = c .before .before .before .before .before .before .before .before .before .before .before .before .before .before .before .before .args in
