@@ -135,6 +135,11 @@ pub machine-2 : (s : List ℕ) → firstBad s ≡ utfEnd (utfFeed Whole 0 s)
 unfolding firstBad
 machine-2 s = sym (later-zero (sought seqLook 0 s)) ∙ utf-whole s Whole 0
 
+-- and from any place on
+pub machine-at : (a : ℕ) (s : List ℕ) → later a (firstBad s) ≡ utfEnd (utfFeed Whole a s)
+unfolding firstBad
+machine-at a s = utf-whole s Whole a
+
 pub utf-cuts : (xs ys : List ℕ) (q : Utf) (a : ℕ) → utfFeed q a (xs ++ ys) ≡ utfFeed (utfFeed q a xs) (length xs + a) ys
 unfolding utfFeed
 utf-cuts [] ys q a = rw (zero-add a)
@@ -142,7 +147,7 @@ utf-cuts (x ∷ xs) ys q a =
     let z : suc (length xs) + a ≡ length xs + suc a = omega arith in
     rw z (utf-cuts xs ys (utfStep q a x) (suc a))
 
-stays : (p a : ℕ) (ys : List ℕ) → utfFeed (Broke p) a ys ≡ Broke p
+pub stays : (p a : ℕ) (ys : List ℕ) → utfFeed (Broke p) a ys ≡ Broke p
 unfolding utfFeed
 stays p a [] = refl
 stays p a (y ∷ ys) = stays p (suc a) ys

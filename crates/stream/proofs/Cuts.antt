@@ -16,7 +16,7 @@ pub given-given : (ts us : List Tok) (z : Step) → given ts (given us z) ≡ gi
 given-given ts us (Goes vs c) = rw append-assoc
 given-given ts us (Faults n p) = refl
 
-followed-given : (ts : List Tok) (z : Step) (f : Stand → Step) → followed (given ts z) f ≡ given ts (followed z f)
+pub followed-given : (ts : List Tok) (z : Step) (f : Stand → Step) → followed (given ts z) f ≡ given ts (followed z f)
 followed-given ts (Goes us c) f = sym (given-given ts us (f c))
 followed-given ts (Faults n p) f = refl
 

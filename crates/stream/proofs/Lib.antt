@@ -14,5 +14,7 @@ pub mod OneList
 pub mod Loops
 pub mod Sounds
 pub mod Writes
+pub mod Quick
+pub mod Leaps
 pub mod Examples
 pub mod Wrong

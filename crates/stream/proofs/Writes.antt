@@ -42,7 +42,7 @@ module _ (room n a : ℕ) (f : Unit {0} → Check) where
   room-by true e g = (ltb-true n room e, g)
   room-by false e g = let z : _≡_ {A = ℕ} 0 1 = cc in absurd (omega arith)
 
-  has-room : choose (ltb n room) f (λ u. Bad a) ≡ Good → (n < room) × (f tt ≡ Good)
+  pub has-room : choose (ltb n room) f (λ u. Bad a) ≡ Good → (n < room) × (f tt ≡ Good)
   has-room e = room-by (ltb n room) refl e
 
 room-three : (n m : ℕ) → n < m / 3 → n * 3 + 3 ≤ m
@@ -79,15 +79,15 @@ put-three l i k a b =
 
 -- ---- a turn of a loop over a packet
 
-ran-given : (ts : List Tok) (s : Step) → ranBy (given ts s) ≡ ranBy s
+pub ran-given : (ts : List Tok) (s : Step) → ranBy (given ts s) ≡ ranBy s
 ran-given ts (Goes us c) = refl
 ran-given ts (Faults n p) = refl
 
-good-given : (ts : List Tok) (s : Step) → isGood (given ts s) ≡ isGood s
+pub good-given : (ts : List Tok) (s : Step) → isGood (given ts s) ≡ isGood s
 good-given ts (Goes us c) = refl
 good-given ts (Faults n p) = refl
 
-gives-given : (ts : List Tok) (s : Step) → isGood s ≡ true → givesOf (given ts s) ≡ ts ++ givesOf s
+pub gives-given : (ts : List Tok) (s : Step) → isGood s ≡ true → givesOf (given ts s) ≡ ts ++ givesOf s
 gives-given ts (Goes us c) e = refl
 gives-given ts (Faults n p) e = let z : _≡_ {A = ℕ} 0 1 = cc in absurd (omega arith)
 
@@ -95,7 +95,7 @@ module _ (room : ℕ) (c : Stand) (s : List ℕ) (i : ℕ) (h : i < length s) wh
   at-stop : (n p : ℕ) → Faults n p ≡ stepOf room c (getD s i 0) → ranOf room c (drop i s) ≡ Faults n p
   at-stop n p e = loop-stops room s (ranOf room c (drop i s)) [] c i (loop-starts (ranOf room c (drop i s))) n p h (sym e)
 
-  at-move : (ts : List Tok) (d : Stand) → Goes ts d ≡ stepOf room c (getD s i 0) → ranOf room c (drop i s) ≡ given ts (ranOf room d (drop (i + 1) s))
+  pub at-move : (ts : List Tok) (d : Stand) → Goes ts d ≡ stepOf room c (getD s i 0) → ranOf room c (drop i s) ≡ given ts (ranOf room d (drop (i + 1) s))
   at-move ts d e = loop-goes room s (ranOf room c (drop i s)) [] c i (loop-starts (ranOf room c (drop i s))) ts d h (sym e)
 
   pub run-stops : (n p : ℕ) → Faults n p ≡ stepOf room c (getD s i 0) → Refuses n p ≡ ranBy (ranOf room c (drop i s))

@@ -3,3 +3,4 @@ pub mod Steps
 pub mod Feed
 pub mod Packets
 pub mod Shapes
+pub mod Quick

@@ -113,7 +113,7 @@ pub(crate) fn waiting(q: State) -> usize
     }
 }
 
-fn utf_code(u: Utf) -> usize
+pub(crate) fn utf_code(u: Utf) -> usize
     ensures { λ r. ⌜ r ≡ Keep.utfCode u ⌝ }
 {
     match u {

@@ -64,6 +64,18 @@ pub enum Ran {
     Refuses(usize, usize),
 }
 
+// How far a packet was read, and where the stream stands there.
+pub struct Part {
+    pub stand: Stand,
+    pub at: usize,
+}
+
+// The next token of a packet, by its kind, start and end in the packet; or none whose end is known.
+pub enum Ahead {
+    Nothing,
+    Token(usize, usize, usize),
+}
+
 // A state in numbers.
 pub struct Packed {
     pub code: usize,
@@ -107,13 +119,10 @@ pub fn feed_packet(state: Feed, packet: &[u8], list: &mut [u32]) -> Call
         Status::Held(number, place, records) => refused(number, place, records),
         Status::Open(c) => {
             let t = text::inner::classes::classes();
-            let ran = passes::run(&t, list.len() / 3, c, packet);
+            let ran = passes::feed(&t, c, packet, list);
             match ran {
                 Ran::Refuses(number, place) => refused(number, place, c.count),
-                Ran::Stands(next) => {
-                    passes::write(&t, c, packet, list);
-                    good(next, next.count)
-                }
+                Ran::Stands(next) => good(next, next.count),
             }
         }
     }

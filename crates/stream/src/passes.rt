@@ -1,4 +1,5 @@
 // A byte, a packet and the end: what is refused, where the stream stands then, and the tokens.
+mod quick;
 pub(crate) mod rooms;
 
 use crate::Ran;
@@ -124,6 +125,37 @@ pub(crate) fn write(t: &[u8; 256], from: Stand, packet: &[u8], list: &mut [u32])
         }
         i += 1;
     }
+}
+
+// Both passes.
+fn both(t: &[u8; 256], from: Stand, packet: &[u8], list: &mut [u32]) -> Ran
+    requires { ⌜ now t ≡ classes ⌝ }
+    requires { ⌜ Sound from ⌝ }
+    ensures answer { λ r. ⌜ r ≡ ranBy (ranOf (roomOf (now (list .entry))) from (now (packet .entry))) ⌝ }
+    ensures held { λ _. ⌜ now (list .exit) ≡ sets (now (list .entry)) (from .count * 3) (flat (givesOf (ranOf (roomOf (now (list .entry))) from (now (packet .entry))))) ⌝ }
+{
+    let ran = run(t, list.len() / 3, from, packet);
+    match ran {
+        Ran::Refuses(number, place) => Ran::Refuses(number, place),
+        Ran::Stands(next) => {
+            write(t, from, packet, list);
+            Ran::Stands(next)
+        }
+    }
+}
+
+// A packet: its refusal, or where the stream stands then, with the tokens in the list. A short one
+// isn't worth the stash.
+pub(crate) fn feed(t: &[u8; 256], from: Stand, packet: &[u8], list: &mut [u32]) -> Ran
+    requires { ⌜ now t ≡ classes ⌝ }
+    requires { ⌜ Sound from ⌝ }
+    ensures answer { λ r. ⌜ r ≡ ranBy (ranOf (roomOf (now (list .entry))) from (now (packet .entry))) ⌝ }
+    ensures held { λ _. ⌜ now (list .exit) ≡ sets (now (list .entry)) (from .count * 3) (flat (givesOf (ranOf (roomOf (now (list .entry))) from (now (packet .entry))))) ⌝ }
+{
+    if packet.len() < 512 {
+        return both(t, from, packet, list);
+    }
+    quick::fast(t, from, packet, list)
 }
 
 // The text's end.

@@ -1,5 +1,5 @@
 // The table of states.
-pub(crate) mod moves;
+pub mod moves;
 mod notes;
 mod texts;
 mod words;

@@ -9,7 +9,7 @@ ghost use Rattle.text.specs.Choice.{choose};
 ghost use Rattle.states.specs.Machine as Machine;
 ghost use Rattle.states.specs.Shapes.{outOf, going, giving};
 
-pub(crate) fn token(kind: usize, a: usize, b: usize) -> Given
+pub fn token(kind: usize, a: usize, b: usize) -> Given
     requires { ⌜ kind ≤ 255 ⌝ }
     requires { ⌜ a ≤ 70000 ⌝ }
     requires { ⌜ b ≤ 70000 ⌝ }
