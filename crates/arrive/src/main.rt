@@ -4,8 +4,8 @@
 // What one read gives is a packet, so nothing waits for a buffer to fill. What a packet adds to the list of
 // tokens is the promise of `stream::feed_packet`, and what is written of it that of `rows::token_lines`; the rest
 // moves bytes. The list has room for every text, so 14 is never given.
-use stream::Call;
-use stream::Feed;
+use states::Call;
+use states::Feed;
 use text::Put;
 
 // What to keep for the next packet; or the program is to end, and has told why.

@@ -11,7 +11,7 @@ use Rattle.token.specs.Lister.{lister}
 use Rattle.matcher.specs.Answers as Match
 use Rattle.matcher.specs.Lines.{fields, linesOf, recordsOf, tallied}
 use Rattle.matcher.specs.Sought.{foundOf, finding}
-use Rattle.stream.specs.Feed.{feedOf, feedIn, endOf, endIn}
+use Rattle.states.specs.Feed.{feedOf, feedIn, endOf, endIn}
 use Rattle.exports.specs.Numbers.{levelOf, readNumbers, printNumbers, tokenNumbers, tallyNumbers, findingNumbers, callNumbers, feedNumbers, feedFrom}
 
 -- flascjuvan_read: the answer, and what the three buffers hold

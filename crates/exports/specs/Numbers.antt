@@ -12,8 +12,8 @@ use Rattle.token.specs.Lister.{Numbers}
 use Rattle.printer.specs.Answers.{Numbered}
 use Rattle.matcher.specs.declared.Tally.{Tally}
 use Rattle.matcher.specs.declared.Finding.{Finding}
-use Rattle.stream.specs.declared.Feed.{Feed}
-use Rattle.stream.specs.declared.Call.{Call}
+use Rattle.states.specs.declared.Feed.{Feed}
+use Rattle.states.specs.declared.Call.{Call}
 
 -- 0 is plain, every other number is tagged
 unfoldable pub levelOf : ℕ → Level

@@ -9,8 +9,8 @@ use matcher::Tally;
 use printer::Printed;
 use printer::Style;
 use reader::Reading;
-use stream::Call;
-use stream::Feed;
+use states::Call;
+use states::Feed;
 use structure::Level;
 use token::Listed;
 ghost use mathlib.Core.Path.{_≡_};
@@ -25,7 +25,7 @@ ghost use Rattle.matcher.specs.Answers.{matchOf};
 ghost use Rattle.matcher.specs.Answers.{numbered as lineNumbered};
 ghost use Rattle.matcher.specs.Lines.{fields, linesOf, recordsOf, tallied};
 ghost use Rattle.matcher.specs.Sought.{foundOf, finding};
-ghost use Rattle.stream.specs.Feed.{feedOf, feedIn, endOf, endIn};
+ghost use Rattle.states.specs.Feed.{feedOf, feedIn, endOf, endIn};
 ghost use Rattle.exports.specs.Numbers.{levelOf, readNumbers, printNumbers, tokenNumbers, tallyNumbers, findingNumbers, callNumbers, feedNumbers, feedFrom};
 
 // The level that a number names: 0 is plain, every other is tagged.

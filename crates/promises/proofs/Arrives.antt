@@ -10,11 +10,11 @@ use Rattle.token.specs.Lists.{tokensOf}
 use Rattle.structure.specs.declared.Level.{Level}
 use Rattle.reader.specs.declared.Reading.the-variants as Reading
 use Rattle.reader.specs.Read.{readOf}
-use Rattle.stream.specs.Feed.{roomOf, numberOf, placeOf, endOf}
-use Rattle.stream.specs.Packets.{Packet, joined, lent, Kept, callsOf}
-use Rattle.stream.proofs.Numbers.{zeros}
-use Rattle.stream.proofs.Promises.{ended, same-3}
-use Rattle.stream.proofs.Calls.{same-calls}
+use Rattle.states.specs.Feed.{roomOf, numberOf, placeOf, endOf}
+use Rattle.states.specs.Packets.{Packet, joined, lent, Kept, callsOf}
+use Rattle.states.proofs.Numbers.{zeros}
+use Rattle.states.proofs.Promises.{ended, same-3}
+use Rattle.states.proofs.Calls.{same-calls}
 use Rattle.promises.proofs.Places.{reader-3, reads-3}
 
 module _ (level : Level) (n r b : ℕ) where

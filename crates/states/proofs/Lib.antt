@@ -1,4 +1,6 @@
--- The laws of the table: it finds the tokens of the whole text, and each fault waits for its byte.
+-- The table finds the tokens of the whole text, each fault waits for its byte, and packets change nothing of either.
+
+-- the table
 pub mod From
 pub mod Left
 pub mod Rows
@@ -14,4 +16,19 @@ pub mod Back
 pub mod Bytes
 pub mod Waits
 pub mod Utfs
-pub mod Turns
+-- packets and calls
+pub mod Runs
+pub mod Keeps
+pub mod Known
+pub mod Shown
+pub mod Packets
+pub mod Cuts
+pub mod Ends
+pub mod Promises
+pub mod Numbers
+pub mod Stores
+pub mod Calls
+pub mod OneList
+-- examples, wrong programs
+pub mod Examples
+pub mod Wrong

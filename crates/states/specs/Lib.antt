@@ -1,6 +1,8 @@
--- The table of states, UTF-8's beside it, and states in numbers.
+-- Texts that arrive: the table of states, UTF-8's beside it, states in numbers, and calls.
 pub mod Machine
 pub mod Utf
 pub mod Keep
-pub mod Shapes
 pub mod Free
+pub mod Steps
+pub mod Feed
+pub mod Packets

@@ -1,9 +1,5 @@
-// The table of states: what each byte of a text that arrives does, where tokens end, and UTF-8 beside it.
-//
-// `inner` has the code of the table, which the crate above runs.
-pub mod inner;
-
-use text::Check;
+// What a text that arrives is: the states that its bytes move, where a stream stands between calls, and what a
+// call answers. There is no code here: definitions, and what is true of them.
 
 // What an escape stands in: a string of a kind, or a character literal.
 pub enum Lit {
@@ -72,22 +68,40 @@ pub enum Utf {
     Broke(usize),
 }
 
-// A token that a byte ended, by its kind, start and end; or none.
-pub enum Given {
-    No,
-    Yes(u32, u32, u32),
-}
-
-// What a byte does: the token that ended before it, the one that ends with it, and where the machine
-// stands then.
-pub struct Row {
-    pub before: Given,
-    pub here: Given,
+// Where a stream stands: the tokens' machine, UTF-8's, the bytes so far, and the records in the list.
+pub struct Stand {
     pub conf: Conf,
+    pub utf: Utf,
+    pub seen: usize,
+    pub count: usize,
 }
 
-// The token that stands when the text ends, or a fault's place.
-pub struct Finish {
-    pub token: Given,
-    pub fault: Check,
+// Between calls a stream is open, or holds a refusal: number, place, and the records in the list.
+pub enum Status {
+    Open(Stand),
+    Held(usize, usize, usize),
+}
+
+// The same in numbers that a caller keeps between calls; all zeros: a fresh stream. Where number isn't
+// 0 the stream holds that refusal, and start is its place.
+pub struct Feed {
+    pub state: usize,
+    pub start: usize,
+    pub seen: usize,
+    pub backslash: usize,
+    pub kind: usize,
+    pub depth: usize,
+    pub utf: usize,
+    pub sequence: usize,
+    pub count: usize,
+    pub number: usize,
+}
+
+// What a call answers: a refusal's number (0: none) and place, the records in the list (0 if refused),
+// and what to keep for the next call.
+pub struct Call {
+    pub number: usize,
+    pub place: usize,
+    pub records: usize,
+    pub next: Feed,
 }

@@ -24,24 +24,24 @@ use Rattle.states.specs.declared.State.{State}
 use Rattle.states.specs.declared.State.the-variants.{Start, Word, Push, Num, Hash, Tag, Dot, Caret, Minus, Zeros, Negative, Str, Esc, X0, X1, U, Un, Chr, More, Quote, Slash, Slash2, Line, Doc, DocCr, Cr, Com, Star, Bar, Refused}
 use Rattle.states.specs.declared.Utf.{Utf}
 use Rattle.states.specs.declared.Utf.the-variants.{Whole, Mid, Broke}
-use Rattle.stream.specs.declared.Stand.{Stand}
-use Rattle.states.specs.declared.Given.{Given}
+use Rattle.states.specs.declared.Stand.{Stand}
+use Rattle.steps.specs.declared.Given.{Given}
 use Rattle.states.specs.Utf.{utfStep, utfEnd, utfFeed, brokenAt}
 use Rattle.states.specs.Keep.{codeOf, utfCode, tailCode, waiting}
-use Rattle.stream.specs.Steps.{Step, Goes, Faults, overAt, stepOf, given, ranOf}
-use Rattle.stream.specs.Feed.{flat, roomOf}
-use Rattle.states.specs.Shapes.{listOf}
+use Rattle.states.specs.Steps.{Step, Goes, Faults, overAt, stepOf, given, ranOf}
+use Rattle.states.specs.Feed.{flat, roomOf}
+use Rattle.steps.specs.Shapes.{listOf}
 use Rattle.stream.specs.Shapes.{givesOf, Sound}
 use Rattle.stream.specs.Quick.{startAt, isBetween, Holds, Leapt}
 use Rattle.states.proofs.From.{from, ended, from-law}
 use Rattle.states.proofs.Left.{left}
 use Rattle.states.proofs.Fits.{never, both}
 use Rattle.states.proofs.Utfs.{machine-at, utf-cuts}
-use Rattle.stream.proofs.Cuts.{given-given}
-use Rattle.stream.proofs.Stores.{flat-length, sets-append}
+use Rattle.states.proofs.Cuts.{given-given}
+use Rattle.states.proofs.Stores.{flat-length, sets-append}
 use Rattle.stream.proofs.Loops.{loop-starts}
 use Rattle.stream.proofs.Writes.{has-room, put-more, at-move, step-room, step-sound}
-use Rattle.stream.proofs.Runs.{took}
+use Rattle.states.proofs.Runs.{took}
 use Rattle.stream.proofs.Sounds.{many-small}
 use Rattle.stream.proofs.Quick.{ascii-next, still, Leaps, Closes, leaps}
 

@@ -5,9 +5,9 @@ use mathlib.Core.List.{List, [], _++_, append-nil}
 use lib.ListN.{length, getD, drop}
 use Rattle.text.proofs.Tests.{at-byte, at-end}
 use Rattle.token.specs.Lists.{Tok}
-use Rattle.stream.specs.declared.Stand.{Stand}
-use Rattle.stream.specs.Steps.{Step, Goes, Faults, stepOf, given, followed, ranOf}
-use Rattle.stream.proofs.Cuts.{given-given}
+use Rattle.states.specs.declared.Stand.{Stand}
+use Rattle.states.specs.Steps.{Step, Goes, Faults, stepOf, given, followed, ranOf}
+use Rattle.states.proofs.Cuts.{given-given}
 
 -- before the first byte
 pub loop-starts : (z : Step) → z ≡ given [] z

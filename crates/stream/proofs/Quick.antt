@@ -29,18 +29,18 @@ use Rattle.states.specs.declared.State.the-variants.{Start, Word, Push, Num, Ha
 use Rattle.states.specs.declared.Conf.{Conf}
 use Rattle.states.specs.declared.Utf.{Utf}
 use Rattle.states.specs.declared.Utf.the-variants.{Whole, Mid, Broke}
-use Rattle.stream.specs.declared.Stand.{Stand}
+use Rattle.states.specs.declared.Stand.{Stand}
 use Rattle.states.specs.Machine.{Out, go, give, again, openRow, classRow, startRow, wordRow, pushRow, zerosRow, back, isNumber, isHex, tailOk, tailNext, leadRow, lineRow, giveDoc, docRow, comRow, row, step, endRow}
 use Rattle.states.specs.Keep.{codeOf, refusedCode, waiting, stateFits}
 use Rattle.states.specs.Utf.{utfLead, utfStep, utfFeed, brokenAt}
-use Rattle.stream.specs.Steps.{Step, Goes, unless, longAt, refusedAt, overAt, movedTo, stepBy, stepOf, given, followed, ranOf}
+use Rattle.states.specs.Steps.{Step, Goes, unless, longAt, refusedAt, overAt, movedTo, stepBy, stepOf, given, followed, ranOf}
 use Rattle.stream.specs.Shapes.{Sound}
 use Rattle.stream.specs.Quick.{startAt}
 use Rattle.states.proofs.Left.{left}
 use Rattle.states.proofs.Main.{row-law, end-law}
 use Rattle.states.proofs.Fits.{never, both, code-refused}
 use Rattle.states.proofs.Utfs.{stays}
-use Rattle.stream.proofs.Cuts.{followed-given}
+use Rattle.states.proofs.Cuts.{followed-given}
 use Rattle.stream.proofs.Loops.{loop-starts}
 use Rattle.stream.proofs.Writes.{step-sound}
 

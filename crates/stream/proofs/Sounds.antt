@@ -9,18 +9,18 @@ use Rattle.text.specs.declared.Check.{Check}
 use Rattle.text.specs.declared.Check.the-variants.{Good, Bad}
 use Rattle.token.specs.Lists.{Tok, Tokens}
 use Rattle.states.specs.declared.Utf.{Utf}
-use Rattle.stream.specs.declared.Stand.{Stand}
-use Rattle.states.specs.declared.Given.{Given}
-use Rattle.states.specs.declared.Given.the-variants.{No, Yes}
-use Rattle.states.specs.declared.Row.{Row}
+use Rattle.states.specs.declared.Stand.{Stand}
+use Rattle.steps.specs.declared.Given.{Given}
+use Rattle.steps.specs.declared.Given.the-variants.{No, Yes}
+use Rattle.steps.specs.declared.Row.{Row}
 use Rattle.stream.specs.declared.Stepped.the-variants.{Moves}
-use Rattle.states.specs.declared.Finish.{Finish}
+use Rattle.steps.specs.declared.Finish.{Finish}
 use Rattle.states.specs.Machine.{Out, step, finish}
 use Rattle.states.specs.Utf.{utfStep, utfEnd, brokenAt}
-use Rattle.stream.specs.Steps.{Step, Goes, Faults, unless, longAt, refusedAt, overAt, movedTo, stepBy, stepOf, lastOf, begin}
-use Rattle.states.specs.Shapes.{listOf, outOf, finishBy}
+use Rattle.states.specs.Steps.{Step, Goes, Faults, unless, longAt, refusedAt, overAt, movedTo, stepBy, stepOf, lastOf, begin}
+use Rattle.steps.specs.Shapes.{listOf, outOf, finishBy}
 use Rattle.stream.specs.Shapes.{takenBy, steppedOf, Sound}
-use Rattle.stream.proofs.Keeps.{Fitting}
+use Rattle.states.proofs.Keeps.{Fitting}
 
 -- ---- a sound stream
 

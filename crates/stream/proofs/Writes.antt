@@ -15,24 +15,24 @@ use Rattle.text.specs.declared.Check.{Check}
 use Rattle.text.specs.declared.Check.the-variants.{Good, Bad}
 use Rattle.text.proofs.Tests.{choose-by}
 use Rattle.token.specs.Lists.{Tok}
-use Rattle.stream.specs.declared.Stand.{Stand}
-use Rattle.stream.specs.declared.Status.{Status}
-use Rattle.stream.specs.declared.Status.the-variants.{Open, Held}
-use Rattle.stream.specs.declared.Feed.{Feed}
-use Rattle.states.specs.declared.Given.{Given}
-use Rattle.states.specs.declared.Given.the-variants.{No, Yes}
+use Rattle.states.specs.declared.Stand.{Stand}
+use Rattle.states.specs.declared.Status.{Status}
+use Rattle.states.specs.declared.Status.the-variants.{Open, Held}
+use Rattle.states.specs.declared.Feed.{Feed}
+use Rattle.steps.specs.declared.Given.{Given}
+use Rattle.steps.specs.declared.Given.the-variants.{No, Yes}
 use Rattle.stream.specs.declared.Ran.the-variants.{Stands, Refuses}
 use Rattle.states.specs.Machine.{step, finish}
 use Rattle.states.specs.Utf.{utfEnd}
-use Rattle.stream.specs.Feed.{fits, standOf, refusals, opened, flat, roomOf, reported, written, feedOf, feedIn, endOf, endIn}
-use Rattle.stream.specs.Steps.{Step, Goes, Faults, overAt, stepOf, given, ranOf, lastOf, begin, fedOf, doneOf}
-use Rattle.states.specs.Shapes.{listOf}
+use Rattle.states.specs.Feed.{fits, standOf, refusals, opened, flat, roomOf, reported, written, feedOf, feedIn, endOf, endIn}
+use Rattle.states.specs.Steps.{Step, Goes, Faults, overAt, stepOf, given, ranOf, lastOf, begin, fedOf, doneOf}
+use Rattle.steps.specs.Shapes.{listOf}
 use Rattle.stream.specs.Shapes.{ranBy, givesOf, isGood, refusing, standing, Sound}
-use Rattle.stream.proofs.Runs.{unless-goes, took}
-use Rattle.stream.proofs.Stores.{flat-append, flat-length, sets-append}
+use Rattle.states.proofs.Runs.{unless-goes, took}
+use Rattle.states.proofs.Stores.{flat-append, flat-length, sets-append}
 use Rattle.stream.proofs.Loops.{loop-starts, loop-goes, loop-stops, loop-ends}
-use Rattle.stream.proofs.Calls.{count-ran}
-use Rattle.stream.proofs.Keeps.{fitting-begin, fitting-step, test-fitting}
+use Rattle.states.proofs.Calls.{count-ran}
+use Rattle.states.proofs.Keeps.{fitting-begin, fitting-step, test-fitting}
 use Rattle.stream.proofs.Sounds.{to-fitting, to-sound}
 
 -- ---- room

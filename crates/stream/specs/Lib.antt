@@ -1,6 +1,3 @@
--- Tokens as they arrive.
-pub mod Steps
-pub mod Feed
-pub mod Packets
+-- Calls as code: what it computes.
 pub mod Shapes
 pub mod Quick

@@ -11,15 +11,15 @@ use Rattle.text.specs.declared.Check.the-variants.{Good}
 use Rattle.token.specs.Tokens.{tokenAt}
 use Rattle.token.specs.Lists.{Tok}
 use Rattle.token.specs.declared.Token.the-variants.{Found}
-use Rattle.stream.specs.declared.Stand.{Stand}
+use Rattle.states.specs.declared.Stand.{Stand}
 use Rattle.states.specs.declared.State.the-variants.{Start}
 use Rattle.states.specs.declared.Utf.the-variants.{Whole}
 use Rattle.stream.specs.declared.Ahead.{Ahead}
 use Rattle.stream.specs.declared.Ahead.the-variants.{Nothing, Token}
 use Rattle.states.specs.Keep.{codeOf, utfCode}
 use Rattle.states.specs.Utf.{brokenAt, utfFeed}
-use Rattle.stream.specs.Steps.{given, ranOf}
-use Rattle.stream.specs.Feed.{flat, roomOf}
+use Rattle.states.specs.Steps.{given, ranOf}
+use Rattle.states.specs.Feed.{flat, roomOf}
 use Rattle.stream.specs.Shapes.{Sound}
 
 -- between tokens and between characters, at a place, with so many records

@@ -1,18 +1,18 @@
 // A stream in the numbers that a caller keeps.
-use crate::Feed;
 use crate::Packed;
-use crate::Stand;
-use crate::Status;
 use states::Conf;
+use states::Feed;
 use states::Lit;
+use states::Stand;
 use states::State;
+use states::Status;
 use states::Tail;
 use states::Utf;
 use text::Check;
 ghost use mathlib.Core.Path.{_≡_};
 ghost use Rattle.states.specs.Keep as Keep;
-ghost use Rattle.stream.specs.Steps.{refusedAt};
-ghost use Rattle.stream.specs.Feed.{numbered};
+ghost use Rattle.states.specs.Steps.{refusedAt};
+ghost use Rattle.states.specs.Feed.{numbered};
 ghost use Rattle.stream.specs.Shapes.{partsBy};
 
 fn lit_kind(l: Lit) -> usize

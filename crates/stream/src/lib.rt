@@ -6,50 +6,14 @@ mod kept;
 mod opened;
 mod passes;
 
-use states::Conf;
-use states::Given;
-use states::Utf;
+use states::Call;
+use states::Feed;
+use states::Stand;
+use states::Status;
+use steps::Given;
 ghost use mathlib.Core.Path.{_≡_};
-ghost use Rattle.stream.specs.Feed.{feedOf, feedIn, endOf, endIn};
+ghost use Rattle.states.specs.Feed.{feedOf, feedIn, endOf, endIn};
 ghost use Rattle.stream.specs.Shapes.{refusing, standing};
-
-// Where a stream stands: the tokens' machine, UTF-8's, the bytes so far, and the records in the list.
-pub struct Stand {
-    pub conf: Conf,
-    pub utf: Utf,
-    pub seen: usize,
-    pub count: usize,
-}
-
-// Between calls a stream is open, or holds a refusal: number, place, and the records in the list.
-pub enum Status {
-    Open(Stand),
-    Held(usize, usize, usize),
-}
-
-// The same in numbers that a caller keeps between calls; all zeros: a fresh stream. Where number isn't
-// 0 the stream holds that refusal, and start is its place.
-pub struct Feed {
-    pub state: usize,
-    pub start: usize,
-    pub seen: usize,
-    pub backslash: usize,
-    pub kind: usize,
-    pub depth: usize,
-    pub utf: usize,
-    pub sequence: usize,
-    pub count: usize,
-    pub number: usize,
-}
-
-// What a call answers: a refusal's number (0: none) and place, the records in the list (0 if refused),
-// and what to keep for the next call.
-pub struct Call {
-    pub number: usize,
-    pub place: usize,
-    pub records: usize,
-    pub next: Feed,
-}
 
 // What a byte or the end does to a stream: at most two tokens, and where the stream stands then; or a
 // refusal's number and place.

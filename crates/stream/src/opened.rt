@@ -1,10 +1,10 @@
 // Numbers from anywhere: those that don't fit one another are taken for a fresh stream.
-use crate::Feed;
-use crate::Stand;
-use crate::Status;
 use states::Conf;
+use states::Feed;
 use states::Lit;
+use states::Stand;
 use states::State;
+use states::Status;
 use states::Tail;
 use states::Utf;
 ghost use mathlib.Core.Path.{_≡_};
@@ -12,8 +12,8 @@ ghost use Prim.Native.Nat.{_-_};
 ghost use lib.ListN.{getD};
 ghost use Rattle.text.specs.Choice.{and, among};
 ghost use Rattle.states.specs.Keep as Keep;
-ghost use Rattle.stream.specs.Steps.{begin};
-ghost use Rattle.stream.specs.Feed as Feeds;
+ghost use Rattle.states.specs.Steps.{begin};
+ghost use Rattle.states.specs.Feed as Feeds;
 
 fn lit_of(kind: usize) -> Lit
     ensures { λ r. ⌜ r ≡ Keep.litOf kind ⌝ }

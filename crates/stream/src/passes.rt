@@ -3,19 +3,19 @@ mod quick;
 pub(crate) mod rooms;
 
 use crate::Ran;
-use crate::Stand;
 use crate::Stepped;
-use states::Row;
+use states::Stand;
 use states::Utf;
+use steps::Row;
 use text::Check;
 ghost use mathlib.Core.Path.{_≡_};
 ghost use mathlib.Core.Bool.{true};
 ghost use Prim.Native.Nat.{suc, _*_, _≤_};
 ghost use lib.Seq.{sets};
 ghost use Rattle.text.specs.Classes.{classes};
-ghost use Rattle.stream.specs.Steps.{longAt, stepOf, ranOf, lastOf};
-ghost use Rattle.stream.specs.Feed.{flat, roomOf};
-ghost use Rattle.states.specs.Shapes.{outOf};
+ghost use Rattle.states.specs.Steps.{longAt, stepOf, ranOf, lastOf};
+ghost use Rattle.states.specs.Feed.{flat, roomOf};
+ghost use Rattle.steps.specs.Shapes.{outOf};
 ghost use Rattle.stream.specs.Shapes.{takenBy, steppedOf, ranBy, givesOf, isGood, Sound};
 
 // One byte more is too many.
@@ -69,13 +69,13 @@ fn step(t: &[u8; 256], room: usize, c: Stand, x: u8) -> Stepped
         return Stepped::Stops(1, place);
     }
     let u = c.utf;
-    let utf = states::inner::utf8::step(u, c.seen, x);
-    let broken = states::inner::utf8::broken(utf);
+    let utf = steps::inner::utf8::step(u, c.seen, x);
+    let broken = steps::inner::utf8::broken(utf);
     if let Check::Bad(place) = broken {
         return Stepped::Stops(2, place);
     }
     let conf = c.conf;
-    let row = states::inner::table::step(t, conf, x);
+    let row = steps::inner::table::step(t, conf, x);
     take(room, c, utf, row)
 }
 
@@ -164,12 +164,12 @@ pub(crate) fn last(room: usize, c: Stand) -> Stepped
     ensures { λ r. ⌜ steppedOf r ≡ lastOf room c ⌝ }
 {
     let u = c.utf;
-    let cut = states::inner::utf8::ended(u);
+    let cut = steps::inner::utf8::ended(u);
     if let Check::Bad(place) = cut {
         return Stepped::Stops(2, place);
     }
     let conf = c.conf;
-    let finish = states::inner::ends::finish(conf);
+    let finish = steps::inner::ends::finish(conf);
     let fault = finish.fault;
     if let Check::Bad(place) = fault {
         return Stepped::Stops(3, place);
@@ -179,5 +179,5 @@ pub(crate) fn last(room: usize, c: Stand) -> Stepped
     if let Check::Bad(place) = over {
         return Stepped::Stops(14, place);
     }
-    Stepped::Moves(states::Given::No, token, crate::opened::fresh())
+    Stepped::Moves(steps::Given::No, token, crate::opened::fresh())
 }

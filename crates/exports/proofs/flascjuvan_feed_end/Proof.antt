@@ -1,5 +1,5 @@
 use mathlib.Core.Path.{ap, _∙_}
-use Rattle.stream.specs.declared.Call.{Call}
+use Rattle.states.specs.declared.Call.{Call}
 use Rattle.exports.specs.Numbers.{callNumbers, feedNumbers}
 use Rattle.exports.proofs.Feeds.{ended}
 use borrow.Author.Needs.{needs}

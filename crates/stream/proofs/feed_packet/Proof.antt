@@ -1,8 +1,8 @@
 -- What the packet did, told as a call.
 use Rattle.stream.proofs.Writes.{opened-sound, feed-held, feed-held-in, feed-refused, feed-refused-in, feed-good, feed-good-in, ran-refuses, ran-stands}
 use Rattle.stream.specs.Shapes.{givesOf}
-use Rattle.stream.specs.Steps.{Step, ranOf}
-use Rattle.stream.specs.Feed.{flat, roomOf}
+use Rattle.states.specs.Steps.{Step, ranOf}
+use Rattle.states.specs.Feed.{flat, roomOf}
 use lib.Seq.{sets}
 use Prim.Native.Nat.{_*_}
 use mathlib.Core.Path.{sym, _∙_, ap}

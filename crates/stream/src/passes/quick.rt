@@ -4,9 +4,9 @@ use super::rooms;
 use crate::Ahead;
 use crate::Part;
 use crate::Ran;
-use crate::Stand;
 use crate::Stepped;
 use states::Conf;
+use states::Stand;
 use states::State;
 use states::Utf;
 use text::Check;
@@ -17,8 +17,8 @@ ghost use Prim.Native.Nat.{_+_, _*_, _≤_, _<_};
 ghost use lib.ListN.{length, take};
 ghost use lib.Seq.{sets};
 ghost use Rattle.text.specs.Classes.{classes};
-ghost use Rattle.stream.specs.Steps.{ranOf};
-ghost use Rattle.stream.specs.Feed.{flat, roomOf};
+ghost use Rattle.states.specs.Steps.{ranOf};
+ghost use Rattle.states.specs.Feed.{flat, roomOf};
 ghost use Rattle.stream.specs.Shapes.{ranBy, givesOf, Sound};
 ghost use Rattle.stream.specs.Quick.{startAt, isBetween, Free, HoldsIf, Leapt};
 
@@ -176,7 +176,7 @@ fn leap(
                 };
             }
             Ahead::Token(kind, start, end) => {
-                let token = states::inner::table::moves::token(
+                let token = steps::inner::table::moves::token(
                     kind,
                     seen + (start - at),
                     seen + (end - at),

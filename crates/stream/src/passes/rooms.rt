@@ -1,14 +1,14 @@
 // Room in the list, and records into it.
-use states::Given;
+use steps::Given;
 use text::Check;
 ghost use mathlib.Core.Path.{_≡_};
 ghost use mathlib.Core.List.{_++_};
 ghost use Prim.Native.Nat.{_*_, _≤_};
 ghost use lib.ListN.{length};
 ghost use lib.Seq.{sets};
-ghost use Rattle.stream.specs.Steps.{overAt};
-ghost use Rattle.stream.specs.Feed.{flat, roomOf};
-ghost use Rattle.states.specs.Shapes.{listOf};
+ghost use Rattle.states.specs.Steps.{overAt};
+ghost use Rattle.states.specs.Feed.{flat, roomOf};
+ghost use Rattle.steps.specs.Shapes.{listOf};
 
 pub(crate) fn many(g: Given) -> usize
     ensures { λ r. ⌜ r ≡ length (listOf g) ⌝ }

@@ -1,7 +1,7 @@
 use mathlib.Core.Path.{ap}
 use borrow.Author.Tests.{ne-eqb}
 use borrow.Author.Needs.{needs}
-use Rattle.stream.specs.Steps.{refusedAt}
+use Rattle.states.specs.Steps.{refusedAt}
 use Rattle.states.specs.Keep.{Parts}
 use Rattle.stream.proofs.kept.refused.Statement.{statement}
 use Rattle.stream.proofs.kept.refused.Tie as tie

@@ -1,6 +1,6 @@
 use borrow.Author.Tests.{le-leb, lt-leb}
 use borrow.Author.Needs.{needs}
-use Rattle.stream.specs.Feed.{fits}
+use Rattle.states.specs.Feed.{fits}
 use Rattle.stream.proofs.opened.fits.Statement.{statement}
 use Rattle.stream.proofs.opened.fits.Tie as tie
 

@@ -1,5 +1,5 @@
 use borrow.Author.Needs.{needs}
-use Rattle.stream.specs.Feed.{standOf}
+use Rattle.states.specs.Feed.{standOf}
 use Rattle.stream.proofs.opened.stand_of.Statement.{statement}
 use Rattle.stream.proofs.opened.stand_of.Tie as tie
 

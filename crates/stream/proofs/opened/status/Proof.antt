@@ -1,6 +1,6 @@
 use borrow.Author.Tests.{ne-eqb, eq-eqb}
 use borrow.Author.Needs.{needs}
-use Rattle.stream.specs.Feed.{opened}
+use Rattle.states.specs.Feed.{opened}
 use Rattle.stream.proofs.opened.status.Statement.{statement}
 use Rattle.stream.proofs.opened.status.Tie as tie
 

@@ -1,8 +1,8 @@
 -- The second pass runs only where the first found no refusal.
 use Rattle.stream.proofs.Writes.{ran-refuses, ran-stands}
-use Rattle.stream.specs.Feed.{flat, roomOf}
+use Rattle.states.specs.Feed.{flat, roomOf}
 use Rattle.stream.specs.Shapes.{givesOf}
-use Rattle.stream.specs.Steps.{Step, ranOf}
+use Rattle.states.specs.Steps.{Step, ranOf}
 use Prim.Native.Nat.{_*_}
 use lib.Seq.{sets}
 use mathlib.Core.Path.{sym, _∙_, ap}

@@ -1,7 +1,7 @@
 use Prim.Native.Nat.{suc}
 use native.Mathlib.Omega.{arith}
 use borrow.Author.Tests.{lt-ltb, le-ltb}
-use Rattle.stream.specs.Steps.{longAt}
+use Rattle.states.specs.Steps.{longAt}
 use Rattle.stream.proofs.passes.long.Statement.{statement}
 use Rattle.stream.proofs.passes.long.Tie as tie
 

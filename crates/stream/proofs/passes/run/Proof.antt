@@ -4,7 +4,7 @@ use lib.ListN.{length, drop}
 use native.Mathlib.Omega.{arith}
 use mathlib.Core.Path.{sym, _∙_, ap, refl, _≡_}
 use Rattle.stream.specs.Shapes.{ranBy, Sound}
-use Rattle.stream.specs.Steps.{ranOf}
+use Rattle.states.specs.Steps.{ranOf}
 use Rattle.stream.proofs.Writes.{run-stops, run-moves, ran-end, step-sound}
 use Rattle.stream.proofs.passes.run.Statement.{statement}
 use Rattle.stream.proofs.passes.run.Tie as tie

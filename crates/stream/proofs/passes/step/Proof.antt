@@ -1,6 +1,6 @@
 use mathlib.Core.Path.{sym, _∙_}
 use borrow.Author.Needs.{needs}
-use Rattle.states.specs.Shapes.{outOf}
+use Rattle.steps.specs.Shapes.{outOf}
 use Rattle.stream.proofs.Sounds.{stops-1, stops-2, stops-later}
 use Rattle.stream.proofs.passes.step.Statement.{statement}
 use Rattle.stream.proofs.passes.step.Tie as tie

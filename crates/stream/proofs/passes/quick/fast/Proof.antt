@@ -1,9 +1,9 @@
 -- What settle and leap stashed is one leap; the first pass over the rest then decides whether it is written.
 use Rattle.stream.proofs.Leaps.{so-many, leapt-both, stash-fits, list-fits, ran-stops, ran-on, stores}
 use Rattle.stream.proofs.Writes.{ran-refuses, ran-stands}
-use Rattle.stream.specs.Feed.{flat, roomOf}
+use Rattle.states.specs.Feed.{flat, roomOf}
 use Rattle.stream.specs.Shapes.{ranBy, givesOf}
-use Rattle.stream.specs.Steps.{Step, ranOf}
+use Rattle.states.specs.Steps.{Step, ranOf}
 use lib.Seq.{sets, length-sets}
 use lib.ListN.{length}
 use Prim.Native.Nat.{_*_, _-_}

@@ -3,7 +3,7 @@ use Rattle.stream.proofs.Leaps.{yes, leapt-none, over-yes, two-small, s
 use Rattle.stream.proofs.Writes.{step-room}
 use Rattle.stream.proofs.Sounds.{many-small, many-two}
 use Rattle.stream.specs.Quick.{Leapt}
-use Rattle.stream.specs.Feed.{roomOf}
+use Rattle.states.specs.Feed.{roomOf}
 use lib.Seq.{length-sets}
 use lib.ListN.{length}
 use mathlib.Core.Path.{_∙_, ap, refl, _≡_}

@@ -1,6 +1,6 @@
 use borrow.Author.Tests.{lt-ltb, le-ltb}
 use borrow.Author.Needs.{needs}
-use Rattle.stream.specs.Steps.{overAt}
+use Rattle.states.specs.Steps.{overAt}
 use Rattle.stream.proofs.passes.rooms.over.Statement.{statement}
 use Rattle.stream.proofs.passes.rooms.over.Tie as tie
 

@@ -1,7 +1,7 @@
 use borrow.Author.Tests.{lt-ltb, le-ltb}
 use native.Mathlib.Numerals.{add-one}
 use borrow.Author.Needs.{needs}
-use Rattle.stream.specs.Steps.{overAt}
+use Rattle.states.specs.Steps.{overAt}
 use Rattle.stream.proofs.passes.rooms.over_two.Statement.{statement}
 use Rattle.stream.proofs.passes.rooms.over_two.Tie as tie
 

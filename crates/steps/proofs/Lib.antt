@@ -1,0 +1,2 @@
+-- The table's rows in the words of the code.
+pub mod Turns

@@ -1,0 +1,2 @@
+-- The table as code: what it computes.
+pub mod Shapes
