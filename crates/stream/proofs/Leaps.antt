@@ -9,7 +9,7 @@ use native.Mathlib.Numerals.{add-one}
 use native.Mathlib.Omega.{arith}
 use lib.Dec.{eqb}
 use lib.ListN.{length, drop, take, getD, set, length-append, length-drop, take-append-drop}
-use lib.Seq.{sets, length-sets, take-suc, length-take-le, drop-cons, drop-drop, getD-drop, sets-eq, take-at, take-all}
+use lib.Seq.{sets, drop-append-le, length-sets, take-suc, length-take-le, drop-cons, drop-drop, getD-drop, sets-eq, take-at, take-all}
 use borrow.Author.Tests.{eqb-true, lt-ltb}
 use Rattle.text.specs.Utf8.{firstBad}
 use Rattle.text.specs.declared.Check.the-variants.{Good}
@@ -28,7 +28,7 @@ use Rattle.states.specs.declared.Stand.{Stand}
 use Rattle.steps.specs.declared.Given.{Given}
 use Rattle.states.specs.Utf.{utfStep, utfEnd, utfFeed, brokenAt}
 use Rattle.states.specs.Keep.{codeOf, utfCode, tailCode, waiting}
-use Rattle.states.specs.Steps.{Step, Goes, Faults, overAt, stepOf, given, ranOf}
+use Rattle.states.specs.Steps.{Step, Goes, Faults, overAt, stepOf, given, followed, ranOf}
 use Rattle.states.specs.Feed.{flat, roomOf}
 use Rattle.steps.specs.Shapes.{listOf}
 use Rattle.stream.specs.Shapes.{givesOf, Sound}
@@ -37,7 +37,7 @@ use Rattle.states.proofs.From.{from, ended, from-law}
 use Rattle.states.proofs.Left.{left}
 use Rattle.states.proofs.Fits.{never, both}
 use Rattle.states.proofs.Utfs.{machine-at, utf-cuts}
-use Rattle.states.proofs.Cuts.{given-given}
+use Rattle.states.proofs.Cuts.{given-given, followed-given, ran-cut}
 use Rattle.states.proofs.Stores.{flat-length, sets-append}
 use Rattle.stream.proofs.Loops.{loop-starts}
 use Rattle.stream.proofs.Writes.{has-room, put-more, at-move, step-room, step-sound}
@@ -342,3 +342,25 @@ module _ (room : ℕ) (f : Stand) (xs z m : List ℕ) (d : Stand) (j : ℕ) (h :
       ∙ ap (λ (a : ℕ). sets (sets l (f .count * 3) (flat ts)) (a * 3) (flat us)) g
       ∙ put-more l (f .count) ts us
       ∙ ap (λ (s : Step). sets l (f .count * 3) (flat (givesOf s))) (sym (ran-on us c e))
+
+-- ---- the packet up to a place
+
+pub leapt-longer : (room : ℕ) (c : Stand) (xs z m : List ℕ) (d : Stand) (j l : ℕ) → l ≤ length xs → Leapt room c 0 0 (take (l - 0) (drop 0 xs)) z m d j → Leapt room c 0 0 xs z m d j
+leapt-longer room c xs z m d j l g h =
+    let ys : List ℕ = take (l - 0) (drop 0 xs) in
+    let vs : List ℕ = drop l xs in
+    let y : l - 0 ≡ l = omega arith in
+    let e : ys ++ vs ≡ xs = rw y (take-append-drop l xs) in
+    let n : length ys + length vs ≡ length xs = sym (length-append ys vs) ∙ ap length e in
+    let f : drop j ys ++ vs ≡ drop j xs = sym (drop-append-le j ys vs (h .within)) ∙ ap (drop j) e in
+    let r : ranOf room c (ys ++ vs) ≡ given (h .tokens) (ranOf room d (drop j ys ++ vs)) = ran-cut room ys vs c ∙ ap (λ (s : Step). followed s (λ g. ranOf room g vs)) (h .ran) ∙ followed-given (h .tokens) (ranOf room d (drop j ys)) (λ g. ranOf room g vs) ∙ ap (given (h .tokens)) (sym (ran-cut room (drop j ys) vs d)) in
+    record {
+      tokens = h .tokens;
+      ran = ap (ranOf room c) (sym e) ∙ r ∙ ap (λ (s : List ℕ). given (h .tokens) (ranOf room d s)) f;
+      stored = h .stored;
+      counted = h .counted;
+      roomy = h .roomy;
+      fits = h .fits;
+      within = omega (arith, h .within);
+      sound = h .sound;
+    }

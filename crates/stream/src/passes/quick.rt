@@ -208,6 +208,20 @@ fn copy(list: &mut [u32], at: usize, stash: &[u32], n: usize)
     }
 }
 
+// A packet may end inside a character: up to its last ASCII byte.
+fn cut(packet: &[u8]) -> usize
+    ensures { λ r. ⌜ r ≤ length (now (packet .entry)) ⌝ }
+{
+    let mut end = packet.len();
+    while 0 < end {
+        if packet[end - 1] < 128 {
+            return end;
+        }
+        end -= 1;
+    }
+    0
+}
+
 // A packet.
 pub(crate) fn fast(t: &[u8; 256], from: Stand, packet: &[u8], list: &mut [u32]) -> Ran
     requires { ⌜ now t ≡ classes ⌝ }
@@ -217,7 +231,8 @@ pub(crate) fn fast(t: &[u8; 256], from: Stand, packet: &[u8], list: &mut [u32]) 
 {
     let mut stash = [0; 6144];
     let room = list.len() / 3;
-    let front = settle(t, room, from, packet, &mut stash);
+    let end = cut(packet);
+    let front = settle(t, room, from, &packet[0..end], &mut stash);
     let s = front.stand;
     let middle = leap(
         t,
@@ -225,7 +240,7 @@ pub(crate) fn fast(t: &[u8; 256], from: Stand, packet: &[u8], list: &mut [u32]) 
         s,
         front.at,
         s.count - from.count,
-        packet,
+        &packet[0..end],
         &mut stash,
     );
     let c = middle.stand;
