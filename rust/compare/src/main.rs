@@ -439,7 +439,7 @@ mod linked {
                 let text = second::broken::text(&mut below).text;
                 hold(&arrive::cut(text, &mut below));
             }
-            if i % 200 == 0 {
+            if i % 25 == 0 {
                 hold(&arrive::middle(&mut below));
             }
             if i % 10_000 == 0 {
