@@ -5,7 +5,7 @@ use mathlib.Core.List.{List}
 use Rattle.structure.specs.declared.Level.{Level}
 use Rattle.reader.specs.declared.Reading.{Reading}
 use Rattle.reader.specs.Read.{readOf, numbered, reported, Leaves}
-use Rattle.exports.specs.Numbers.{readNumbers}
+use Rattle.numbers.specs.Numbers.{readNumbers}
 
 module _ (l m : Level) (e : l ≡ m) (s : List ℕ) (n r b : ℕ) (x : Reading) where
   pub numbers-at : numbered x ≡ reported l s n r b → readNumbers (numbered x) ≡ readNumbers (reported m s n r b)

@@ -12,7 +12,7 @@ use Rattle.matcher.specs.Answers as Match
 use Rattle.matcher.specs.Lines.{fields, linesOf, recordsOf, tallied}
 use Rattle.matcher.specs.Sought.{foundOf, finding}
 use Rattle.states.specs.Feed.{feedOf, feedIn, endOf, endIn}
-use Rattle.exports.specs.Numbers.{levelOf, readNumbers, printNumbers, tokenNumbers, tallyNumbers, findingNumbers, callNumbers, feedNumbers, feedFrom}
+use Rattle.numbers.specs.Numbers.{levelOf, readNumbers, printNumbers, tokenNumbers, tallyNumbers, findingNumbers, callNumbers, feedNumbers, feedFrom}
 
 -- flascjuvan_read: the answer, and what the three buffers hold
 pub record Read (s : List ℕ) (tagged : ℕ) (ns rs st answer ns′ rs′ st′ : List ℕ) : Type 0 where

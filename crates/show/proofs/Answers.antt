@@ -20,7 +20,7 @@ use Rattle.printer.specs.declared.Printed.the-variants as Printed
 use Rattle.printer.specs.declared.Style.{Style}
 use Rattle.printer.specs.Answers as Printer
 use Rattle.printer.proofs.Answers.{print-reported}
-use Rattle.exports.specs.Numbers.{levelOf, readNumbers, printNumbers}
+use Rattle.numbers.specs.Numbers.{levelOf, readNumbers, printNumbers}
 use Rattle.show.specs.declared.Answer.{Answer}
 use Rattle.show.specs.declared.Answer.the-variants as Answer
 use Rattle.show.specs.Desk.{reading, printing, textOf, printed, answerOf, answerIn}

@@ -19,7 +19,7 @@ use Rattle.matcher.specs.declared.Found.{Found}
 use Rattle.matcher.specs.declared.Found.the-variants as Found
 use Rattle.matcher.specs.Answers.{numbered}
 use Rattle.matcher.specs.Sought.{foundOf}
-use Rattle.exports.specs.Numbers.{levelOf, readNumbers}
+use Rattle.numbers.specs.Numbers.{levelOf, readNumbers}
 use Rattle.show.specs.declared.Layout.{Layout}
 use Rattle.show.specs.declared.Layout.the-variants as Layout
 use Rattle.show.specs.Layout.{refusedLayout, layoutBy, layoutOf}

@@ -1,6 +1,6 @@
 use mathlib.Core.Path.{ap, _∙_}
 use Rattle.states.specs.declared.Call.{Call}
-use Rattle.exports.specs.Numbers.{callNumbers, feedNumbers}
+use Rattle.numbers.specs.Numbers.{callNumbers, feedNumbers}
 use Rattle.exports.proofs.Feeds.{ended}
 use borrow.Author.Needs.{needs}
 use Rattle.exports.proofs.flascjuvan_feed_end.Statement.{statement}

@@ -1,6 +1,6 @@
 use mathlib.Core.Path.{ap, _∙_}
 use Rattle.matcher.specs.Lines.{tallied}
-use Rattle.exports.specs.Numbers.{tallyNumbers}
+use Rattle.numbers.specs.Numbers.{tallyNumbers}
 use borrow.Author.Needs.{needs}
 use Rattle.exports.proofs.flascjuvan_match_lines.Statement.{statement}
 use Rattle.exports.proofs.flascjuvan_match_lines.Tie as tie

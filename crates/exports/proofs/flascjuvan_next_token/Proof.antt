@@ -1,4 +1,4 @@
-use Rattle.exports.specs.Numbers.{tokenNumbers}
+use Rattle.numbers.specs.Numbers.{tokenNumbers}
 use mathlib.Core.Path.{ap, _∙_}
 use borrow.Author.Needs.{needs}
 use Rattle.exports.proofs.flascjuvan_next_token.Statement.{statement}

@@ -1,6 +1,6 @@
 use mathlib.Core.Path.{ap, _∙_}
 use Rattle.matcher.specs.Sought.{finding}
-use Rattle.exports.specs.Numbers.{findingNumbers}
+use Rattle.numbers.specs.Numbers.{findingNumbers}
 use borrow.Author.Needs.{needs}
 use Rattle.exports.proofs.flascjuvan_rule_named.Statement.{statement}
 use Rattle.exports.proofs.flascjuvan_rule_named.Tie as tie

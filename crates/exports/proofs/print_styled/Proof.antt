@@ -1,4 +1,4 @@
-use Rattle.exports.specs.Numbers.{printNumbers}
+use Rattle.numbers.specs.Numbers.{printNumbers}
 use Rattle.printer.specs.Answers.{printIn}
 use mathlib.Core.Path.{ap, _∙_}
 use borrow.Author.Needs.{needs}

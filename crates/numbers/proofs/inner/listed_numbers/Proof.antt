@@ -1,6 +1,6 @@
 use borrow.Author.Needs.{needs}
-use Rattle.exports.proofs.listed_numbers.Statement.{statement}
-use Rattle.exports.proofs.listed_numbers.Tie as tie
+use Rattle.numbers.proofs.inner.listed_numbers.Statement.{statement}
+use Rattle.numbers.proofs.inner.listed_numbers.Tie as tie
 
 enum-told : tie.Need-enum-told
 enum-told c = search needs

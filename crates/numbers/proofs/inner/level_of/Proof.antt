@@ -1,7 +1,7 @@
-use Rattle.exports.specs.Numbers.{levelOf}
+use Rattle.numbers.specs.Numbers.{levelOf}
 use borrow.Author.Tests.{eq-eqb, ne-eqb}
-use Rattle.exports.proofs.level_of.Statement.{statement}
-use Rattle.exports.proofs.level_of.Tie as tie
+use Rattle.numbers.proofs.inner.level_of.Statement.{statement}
+use Rattle.numbers.proofs.inner.level_of.Tie as tie
 
 returns : tie.Need-returns
 unfolding levelOf

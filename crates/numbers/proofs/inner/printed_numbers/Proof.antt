@@ -1,7 +1,7 @@
 use Rattle.printer.specs.Answers.{numbered}
 use borrow.Author.Needs.{needs}
-use Rattle.exports.proofs.printed_numbers.Statement.{statement}
-use Rattle.exports.proofs.printed_numbers.Tie as tie
+use Rattle.numbers.proofs.inner.printed_numbers.Statement.{statement}
+use Rattle.numbers.proofs.inner.printed_numbers.Tie as tie
 
 enum-known-printed : tie.Need-enum-known-printed
 enum-known-printed c = search needs

@@ -1,7 +1,7 @@
 use Rattle.reader.specs.Read.{numbered}
 use borrow.Author.Needs.{needs}
-use Rattle.exports.proofs.read_numbers.Statement.{statement}
-use Rattle.exports.proofs.read_numbers.Tie as tie
+use Rattle.numbers.proofs.inner.read_numbers.Statement.{statement}
+use Rattle.numbers.proofs.inner.read_numbers.Tie as tie
 
 enum-known-reading : tie.Need-enum-known-reading
 enum-known-reading c = search needs

@@ -1,2 +1,0 @@
--- The C interface: the definitions that its contracts cite.
-pub mod Numbers

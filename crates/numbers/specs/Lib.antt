@@ -1,0 +1,2 @@
+-- Answers in numbers: the definitions that contracts cite.
+pub mod Numbers
