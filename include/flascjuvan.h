@@ -323,7 +323,8 @@ void flascjuvan_rule_named(const uint32_t *nodes, size_t nodes_len,
  * kind, start, end. Start and end count from the text's first byte.
  *
  * state: what is kept of the stream between calls. All zeros is a stream of which nothing has come. What the numbers are
- * is the library's own. Any are answered: those that don't fit one another as if they were zeros.
+ * is the library's own. Any are answered: those that don't fit one another (docs/GRAMMAR.md has the test) as if they
+ * were zeros.
  * list: lend the same one to every call of a text, or a longer one with the records so far at its front. Whole records
  * count. FLASCJUVAN_LIST numbers are enough for any text.
  *
