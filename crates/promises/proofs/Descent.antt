@@ -13,7 +13,7 @@ use Rattle.table.specs.declared.Join.{Join}
 use Rattle.table.specs.declared.Join.the-variants.{Seq, Choice}
 use Rattle.table.specs.declared.Unary.{Unary}
 use Rattle.table.specs.declared.Unary.the-variants.{PosPred, NegPred, Opt, Rep, RepOnce, RepExact, RepMin, RepMax, RepMinMax, Push}
-use Rattle.table.specs.Tree.{Span, Atom, text, range, peekSlice, Wrap, plain, nodeTag, Tree, leaf, one, two, Nowhere, aside, placeOf, placed}
+use Rattle.table.specs.Tree.{Span, Atom, text, range, peekSlice, Wrap, plain, nodeTag, Tree, leaf, one, two, Nowhere, aside, placeOf, placed, endsAt, startsAt}
 use Rattle.table.specs.Check.{fineAtom, fineWrap, fine}
 use Rattle.table.specs.Regroup.{untagged}
 use Rattle.table.proofs.Branches.{and-true}
@@ -26,7 +26,7 @@ use Rattle.printer.specs.Printing.{unaryForm, wrapForm, under}
 use Rattle.structure.specs.declared.Level.{Level}
 use Rattle.structure.specs.declared.Level.the-variants.{Tagged, Plain}
 use Rattle.structure.specs.Tokens.{kind, start, end, is, label, spells}
-use Rattle.structure.specs.Structure.{Parsed, got, refused, next, join, closed, endsAt, startsAt, before, after, inTag, Postfix, post, noPost, postfixAt, postsBy, expr, term, signed, node, chain, posts, Run}
+use Rattle.structure.specs.Structure.{Parsed, got, refused, next, join, closed, before, after, inTag, Postfix, post, noPost, postfixAt, postsBy, expr, term, signed, node, chain, posts, Run}
 use Rattle.structure.proofs.Steps.{choose-true, choose-false, next-good, want-true, opened-false}
 use Rattle.structure.proofs.Grammar.{expr-law, chain-law, term-law, signed-law, node-law, posts-law}
 use Rattle.structure.proofs.Cycle.{finished}

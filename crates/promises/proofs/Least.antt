@@ -7,7 +7,7 @@ use mathlib.Core.Option.{Option, none, some}
 use native.Mathlib.Omega.{arith}
 use Rattle.text.specs.Choice.{choose}
 use Rattle.text.specs.Words.{push}
-use Rattle.table.specs.Tree.{Span, Atom, text, range, peekSlice, plain, nodeTag, Tree, leaf, one, two, placeOf}
+use Rattle.table.specs.Tree.{Span, Atom, text, range, peekSlice, plain, nodeTag, Tree, leaf, one, two, placeOf, endsAt, startsAt}
 use Rattle.table.specs.declared.Join.the-variants.{Seq, Choice}
 use Rattle.table.specs.declared.Unary.{Unary}
 use Rattle.table.specs.declared.Unary.the-variants.{PosPred, NegPred, Opt, Rep, RepOnce, RepExact, RepMin, RepMax, RepMinMax, Push}
@@ -21,7 +21,7 @@ use Rattle.structure.specs.declared.Level.{Level}
 use Rattle.structure.specs.declared.Level.the-variants.{Tagged, Plain}
 use Rattle.structure.specs.Tokens.{toks, start, end, is, word, label, across, spells, pushLiteral}
 use Rattle.structure.specs.Values.{number, isInteger, integer, string, character}
-use Rattle.structure.specs.Structure.{Parsed, got, refused, next, want, join, closed, endsAt, startsAt, before, after, inTag, post, fromNumber, fromComma, postfixAt, sliceTo, slice, pushed, ranged, slices, leafAt, Call, expr, term, signed, node, chain, posts, body, place, weight, run, Run}
+use Rattle.structure.specs.Structure.{Parsed, got, refused, next, want, join, closed, before, after, inTag, post, fromNumber, fromComma, postfixAt, sliceTo, slice, pushed, ranged, slices, leafAt, Call, expr, term, signed, node, chain, posts, body, place, weight, run, Run}
 use Rattle.structure.proofs.Steps.{split, no-tree, next-got, want-got, want-post, opened-got, posts-by}
 use Rattle.structure.proofs.Fuel.{postfix-past, leaf-went}
 use Rattle.promises.specs.Round.{one?, atomDepth, unaryDepth}
