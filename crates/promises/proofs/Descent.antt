@@ -18,11 +18,11 @@ use Rattle.table.specs.Check.{fineAtom, fineWrap, fine}
 use Rattle.table.specs.Regroup.{untagged}
 use Rattle.table.proofs.Branches.{and-true}
 use Rattle.table.proofs.Regroups.{aside-placed}
-use Rattle.printer.specs.declared.Place.{Place}
-use Rattle.printer.specs.declared.Place.the-variants.{Alone, Prefixed, Operand, LeftOf, RightOf}
-use Rattle.printer.specs.declared.Form.{Form}
-use Rattle.printer.specs.declared.Form.the-variants as Form
-use Rattle.printer.specs.Printing.{unaryForm, wrapForm, under}
+use Rattle.forms.specs.declared.Place.{Place}
+use Rattle.forms.specs.declared.Place.the-variants.{Alone, Prefixed, Operand, LeftOf, RightOf}
+use Rattle.forms.specs.declared.Form.{Form}
+use Rattle.forms.specs.declared.Form.the-variants as Form
+use Rattle.forms.specs.Printing.{unaryForm, wrapForm, under}
 use Rattle.structure.specs.declared.Level.{Level}
 use Rattle.structure.specs.declared.Level.the-variants.{Tagged, Plain}
 use Rattle.structure.specs.Tokens.{kind, start, end, is, label, spells}
@@ -36,7 +36,7 @@ use Rattle.promises.proofs.Values.{yes, no, spells-by, label-is}
 use Rattle.promises.proofs.Leaves.{gots, posted, posted-first, Ends, unposted, unsliced, leaf-of}
 use Rattle.promises.proofs.Shapes.{cut, stand-as, Begins, begins-atom, begin-by}
 use Rattle.promises.proofs.Shapes as Shapes
-use Rattle.printer.specs.Levels.{own}
+use Rattle.forms.specs.Levels.{own}
 use Rattle.promises.specs.Marked.{least, stands, Fits, put, back, whole}
 use Rattle.promises.proofs.Backs.{back-two, back-free, back-put, goes-seq, goes-choice, enclosed-none, Closes, closes-leaf, closes-one, closes-two}
 

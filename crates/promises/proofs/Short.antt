@@ -9,7 +9,7 @@ use Rattle.table.specs.Tree.{Rule, Nowhere, ruleBy, asideRule}
 use Rattle.table.specs.Record as Record
 use Rattle.table.specs.Regroup.{regroup, untagged, regroupRules, untaggedRules}
 use Rattle.table.specs.Check.{fineRules}
-use Rattle.printer.specs.declared.Style.the-variants.{Full, Short}
+use Rattle.forms.specs.declared.Style.the-variants.{Full, Short}
 use Rattle.printer.specs.Answers.{tableText}
 use Rattle.structure.specs.declared.Level.{Level}
 use Rattle.structure.specs.declared.Level.the-variants.{Tagged, Plain}

@@ -24,8 +24,8 @@ use Rattle.table.specs.Record as TableRecord
 use Rattle.table.specs.Regroup as TableRegroup
 use Rattle.table.specs.Tree as TableTree
 use Rattle.printer.specs.Answers as PrinterAnswers
-use Rattle.printer.specs.Display as PrinterDisplay
-use Rattle.printer.specs.Printing as PrinterPrinting
+use Rattle.forms.specs.Display as PrinterDisplay
+use Rattle.forms.specs.Printing as PrinterPrinting
 use Rattle.structure.specs.Answers as StructureAnswers
 use Rattle.structure.specs.Structure as StructureStructure
 use Rattle.structure.specs.Tokens as StructureTokens
@@ -34,8 +34,8 @@ use Rattle.build.specs.Build as ReaderBuild
 use Rattle.reader.specs.Read as ReaderRead
 use Rattle.table.specs.Tree.{Span, Tree, Rule, Nowhere, count, counts, rulesStored}
 use Rattle.table.specs.Flat.{nodesOf, recordsOf}
-use Rattle.printer.specs.declared.Style.{Style}
-use Rattle.printer.specs.declared.Style.the-variants.{Full, Short}
+use Rattle.forms.specs.declared.Style.{Style}
+use Rattle.forms.specs.declared.Style.the-variants.{Full, Short}
 use Rattle.printer.specs.Answers.{printOf, printIn}
 use Rattle.structure.specs.declared.Level.{Level}
 use Rattle.structure.specs.declared.Level.the-variants.{Tagged}

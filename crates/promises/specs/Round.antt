@@ -16,8 +16,8 @@ use Rattle.table.specs.Tree.{Atom, text, range, peekSlice, Wrap, plain, nodeTag
 use Rattle.table.specs.Record.{rulesIn, rulesOf}
 use Rattle.table.specs.Check.{maxNodes, maxRules, tables}
 use Rattle.table.specs.declared.TableCheck.the-variants as Table
-use Rattle.printer.specs.declared.Style.{Style}
-use Rattle.printer.specs.declared.Style.the-variants.{Full, Short}
+use Rattle.forms.specs.declared.Style.{Style}
+use Rattle.forms.specs.declared.Style.the-variants.{Full, Short}
 use Rattle.printer.specs.Answers.{tableText}
 use Rattle.promises.specs.Styled.{markedRules}
 use Rattle.reader.specs.declared.Reading.the-variants as Reading

@@ -18,7 +18,7 @@ use Rattle.reader.specs.Read.{roomForNodes, roomForRules, readOf, leftIn, Leave
 use Rattle.build.specs.Rules.{rulesOf}
 use Rattle.printer.specs.declared.Printed.{Printed}
 use Rattle.printer.specs.declared.Printed.the-variants as Printed
-use Rattle.printer.specs.declared.Style.{Style}
+use Rattle.forms.specs.declared.Style.{Style}
 use Rattle.printer.specs.Answers as Printer
 use Rattle.printer.proofs.Answers.{print-reported}
 use Rattle.numbers.specs.Numbers.{levelOf, readNumbers, printNumbers}

@@ -17,7 +17,7 @@ use Rattle.table.specs.Flat.{nodesOf, recordsOf}
 use Rattle.table.specs.Check.{tables}
 use Rattle.structure.specs.declared.Level.the-variants.{Tagged}
 use Rattle.build.specs.Rules.{rulesOf}
-use Rattle.printer.specs.declared.Style.{Style}
+use Rattle.forms.specs.declared.Style.{Style}
 use Rattle.printer.specs.Answers as Printer
 use Rattle.show.specs.declared.Answer.{Answer}
 use Rattle.show.specs.declared.Answer.the-variants as Answer

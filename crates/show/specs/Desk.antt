@@ -9,7 +9,7 @@ use Rattle.table.specs.Tree.{Span, Rule, rulesStored}
 use Rattle.table.specs.Flat.{nodesOf, recordsOf}
 use Rattle.structure.specs.declared.Level.the-variants.{Tagged}
 use Rattle.reader.specs.Read as Read
-use Rattle.printer.specs.declared.Style.{Style}
+use Rattle.forms.specs.declared.Style.{Style}
 use Rattle.printer.specs.Answers as Answers
 use Rattle.show.specs.declared.Answer.{Answer}
 use Rattle.show.specs.declared.Answer.the-variants as Answer
