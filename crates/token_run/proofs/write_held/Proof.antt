@@ -1,3 +1,4 @@
+-- Nothing has to hold from turn to turn: i is tested against all three lists before they are read. What is left of the kinds falls.
 use Prim.Native.Nat.{_-_}
 use lib.ListN.{length}
 use borrow.Author.Needs.{needs}

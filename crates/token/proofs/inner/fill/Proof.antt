@@ -1,3 +1,5 @@
+-- Invariant (`Filling`): the text's tokens are n that are done and then those from `at` on; the arrays hold the n at their fronts. A token that is found
+-- is stored (`fill-more`) or has no room (`fill-full`). It ends behind `at` and inside the text, so that the bytes that are left fall.
 use Prim.Native.Nat.{_-_}
 use native.Mathlib.Omega.{arith}
 use lib.ListN.{length}

@@ -1,3 +1,5 @@
+-- What falls at a call: thrice the unread bytes, plus 2 in `consume_expr`, 1 in `unaries`, 0 in `consume_node`; a nested expression begins behind its bracket.
+-- The loop keeps `LoopInv`: the choices so far and the last sequence lie in the buffers, and reading on from them at token i gives the whole. Tokens left fall.
 use Rattle.build.proofs.Finishes.{built-long, tag-room, node-falls, node-room, posts-room, open-room, signs-room, tie-room, term-built}
 use Rattle.build.proofs.Parts.{start-low, end-low}
 use Rattle.build.proofs.Nodes.{group-in, group-deep, group-room, group-last, group-built, push-in, push-room, push-over, push-built, leaf-read}

@@ -1,3 +1,5 @@
+-- A leaf was read here, and the tests come in the order of `leafAt`: each return's is the one that was read, its tokens all there (`push-read` to `ranged-read`).
+-- `room-same` and `built-same` carry room and result over to the function that is called; that a string's escapes are characters is what Scalars says.
 use Rattle.build.proofs.Parts.{string-long, insens-long}
 use native.Mathlib.Omega.{arith}
 use mathlib.Core.Path.{sym, _∙_}

@@ -1,3 +1,5 @@
+-- The inside of the literal is the bytes from a + k to z - 1, which lie in the text (`string-inside`). What it means goes into the store, and one record names it.
+-- Room for the leaf is room for both (`string-room`, `string-fits`), and together they are the leaf in the buffers (`string-built`).
 use native.Mathlib.Omega.{arith}
 use Rattle.build.proofs.Leaves.{string-inside, string-good, string-room, string-fits, string-few, string-built}
 use borrow.Author.Needs.{needs}

@@ -1,3 +1,5 @@
+-- A range was read here, so that `..` and a second character follow (`range-read`): the token two further on lies in the list and is a character.
+-- One record holds the two characters, and the store stays as it was (`range-built`).
 use native.Mathlib.Omega.{arith}
 use Rattle.structure.proofs.Arrays.{sizes}
 use Rattle.build.proofs.Leaves.{range-read, bare-fits, range-built}

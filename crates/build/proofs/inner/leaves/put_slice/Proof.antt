@@ -1,3 +1,5 @@
+-- With a first number or without one, a slice was read, so that its `..` is there and the rest of it is a `sliceTo` (`from-read`, `start-read`).
+-- So the room for it is what `put_slice_to` asks for, and what that builds is the slice (`room-same`, `built-same`).
 use native.Mathlib.Omega.{arith}
 use mathlib.Core.Path.{sym, _∙_}
 use Rattle.structure.proofs.Arrays.{sizes}

@@ -1,3 +1,5 @@
+-- A slice was read, so that its `]` is there, behind a second number (`to-read`) or at once (`open-read`).
+-- Either way one record holds it, and the store stays as it was (`slice-to-built`, `slice-built`). The record has room, and its numbers fit (`bare-fits`).
 use native.Mathlib.Omega.{arith}
 use mathlib.Core.Path.{sym, _∙_}
 use Rattle.structure.proofs.Arrays.{sizes}

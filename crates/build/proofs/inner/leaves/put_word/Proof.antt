@@ -1,3 +1,5 @@
+-- The token's bytes lie in the text (`word-inside`) and go into the store; one record names that part of it.
+-- Room for the leaf is room for both (`word-room`, `word-fits`), and together they are the leaf in the buffers (`word-built`).
 use Rattle.structure.proofs.Arrays.{sizes}
 use native.Mathlib.Omega.{arith}
 use Rattle.build.proofs.Leaves.{word-inside, word-room, word-fits, word-built}

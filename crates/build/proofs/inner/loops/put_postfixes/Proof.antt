@@ -1,3 +1,5 @@
+-- The loop keeps PostsInv: over any tree of that span the postfixes up to token i have their records, and reading on from i gives the whole. Tokens left fall.
+-- All postfixes were read, so none is refused (`posts-sound`): where `suffix_at` finds none they are at an end (`posts-done`).
 use borrow.Author.Needs.{needs}
 use denote.Ref.{now}
 use lib.ListN.{length}

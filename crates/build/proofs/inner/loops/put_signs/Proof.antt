@@ -1,3 +1,5 @@
+-- The loop keeps SignsInv: at ≤ i ≤ last, u is used + (last - i), and the predicates from i to `last` have their records over any tree that ends at z.
+-- A turn puts the predicate before them over them (`signs-more`). It goes from the last to the first: i less `at` falls.
 use Prim.Native.Nat.{_-_}
 use denote.Ref.{now}
 use native.Mathlib.Omega.{arith}

@@ -1,3 +1,5 @@
+-- A rule was read here: a name, a mark, and an expression. The name goes into the store, then the tree is built behind it, then the rule's record is put.
+-- Room for the rule is room for each (`name-room`, `body-room`, `rule-fits`), and together they are the rule in the buffers (`rule-built`).
 use Rattle.build.proofs.Rules.{mark-near, past-inside}
 use Rattle.build.proofs.Rules.{rule-inside, name-inside, name-room, body-room, rule-fits, rule-built}
 use native.Mathlib.Omega.{arith}

@@ -1,3 +1,5 @@
+-- The loop keeps RulesInv: the rules that are left are read from token i on, and their records and texts, put behind those in the buffers, make up those of all.
+-- A doc comment takes one token (`rules-doc-more`), a rule one at least (`rules-more`): the tokens left fall. At the end no rule is left (`rules-done`).
 use Rattle.build.proofs.Rules.{RulesInv, rules-start, rules-done, rules-doc-more, rules-room, rules-more}
 use Rattle.build.specs.Rules.{rulesOf}
 use Rattle.structure.proofs.Arrays.{sizes}

@@ -1,3 +1,4 @@
+-- The slice of the text from a to z is the `part` of the contract, unfolded: what `put_unescaped` asks for and ensures of it is what is asked and ensured here.
 use Rattle.structure.specs.Tokens.{part}
 use borrow.Author.Needs.{needs}
 use Rattle.build.proofs.inner.store.put_string.Statement.{statement}

@@ -1,3 +1,5 @@
+-- Three returns: no tag stands here (`no-tag`), a tag that plain drops (`plain-tag`), a tag whose bytes behind the `#` go into the store (`tagged-tag`).
+-- A tag is a token of the list, which has 65536 at most, so that two further on is no overflow (`tag-inside`).
 use native.Mathlib.Omega.{arith}
 use Rattle.structure.proofs.Arrays.{sizes}
 use Rattle.build.proofs.Terms.{no-tag, tag-inside, plain-tag, tag-bytes, tagged-tag}

@@ -1,3 +1,5 @@
+-- Where a bracket opened the node, its start is moved there (`opened-yes`); otherwise nothing is to be done (`opened-no`).
+-- A start lies in a text of 65536 bytes at most, so that it fits 32 bits.
 use native.Mathlib.Omega.{arith}
 use Rattle.structure.proofs.Arrays.{low}
 use Rattle.build.proofs.Terms.{opened-yes, opened-no}

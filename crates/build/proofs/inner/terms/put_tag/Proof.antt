@@ -1,3 +1,5 @@
+-- Without a tag, and with one that plain drops, the term is what was built already (`tie-none`, `tie-plain`).
+-- Otherwise one record goes over it, which names the tag's text in the store, from `free` to `mid` (`tie-tagged`).
 use native.Mathlib.Omega.{arith}
 use Rattle.build.proofs.Terms.{tie-none, tie-plain, tag-fits, tie-tagged}
 use borrow.Author.Needs.{needs}

@@ -1,3 +1,5 @@
+-- A character token has its two quotes (`char-long`), so that the bytes between them are a slice of the text.
+-- That slice is the inside of the literal, and what `meant` says of it is the character (`character-is`).
 use Rattle.build.proofs.Worths.{character-is}
 use Rattle.build.proofs.Parts.{char-long}
 use Rattle.structure.proofs.Arrays.{low}

@@ -1,3 +1,5 @@
+-- This postfix isn't refused, so that the comma, a number and a `}` are there, and no index overflows (`most-in`).
+-- With all three there, `fromComma` is the postfix that is returned (`most-is`).
 use Rattle.build.proofs.Worths.{most-in, most-is}
 use Rattle.structure.proofs.Arrays.{sizes}
 use native.Mathlib.Omega.{arith}

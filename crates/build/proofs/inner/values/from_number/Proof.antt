@@ -1,3 +1,5 @@
+-- The three returns are the three shapes of `fromNumber`: `{n}` (`exact`), `{n,}` (`least`), `{n, m}` (`both`).
+-- This postfix isn't refused, so that whatever isn't asked about is there: the comma, the second number and the last `}` (`close-in`).
 use Rattle.build.proofs.Worths.{exact, least, close-in, both}
 use Rattle.structure.proofs.Arrays.{sizes}
 use Rattle.structure.proofs.Steps.{inside-is}

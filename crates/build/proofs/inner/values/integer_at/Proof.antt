@@ -1,3 +1,4 @@
+-- The kind of the token says the sign: 21 is a negative number, whose worth is negated (`integer-negative`); any other is its worth (`integer-positive`).
 use Rattle.build.proofs.Worths.{integer-negative, integer-positive}
 use borrow.Author.Needs.{needs}
 use Rattle.build.proofs.inner.values.integer_at.Statement.{statement}

@@ -1,3 +1,4 @@
+-- The three returns are the three cases of `charBy`: an escape's number (`meant-escape`), a character as it stands (`meant-raw`), or 0 for neither (`meant-broken`).
 use Rattle.build.proofs.Worths.{meant-escape, meant-raw, meant-broken}
 use borrow.Author.Needs.{needs}
 use Rattle.build.proofs.inner.values.meant.Statement.{statement}

@@ -1,3 +1,5 @@
+-- The tests come in the order of `postfixAt`: `?`, `*`, `+`, no postfix, and a `{` with a number behind it or a comma.
+-- Behind a `{` the postfix is that of `from_number` or `from_comma` (`suffix-number`, `suffix-comma`), which isn't refused either (`sound-number`, `sound-comma`).
 use native.Mathlib.Omega.{arith}
 use Rattle.structure.proofs.Steps.{inside-is, sees}
 use Rattle.structure.proofs.Arrays.{sizes}

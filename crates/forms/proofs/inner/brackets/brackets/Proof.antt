@@ -1,3 +1,5 @@
+-- By the form, and the definition computes at each. A range takes the answer of `is_full`; a predicate, a tag and a join that of their own
+-- function; plain forms and postfixes never stand in brackets.
 use Rattle.forms.specs.Printing.{brackets}
 use borrow.Author.Needs.{needs}
 use Rattle.forms.proofs.inner.brackets.brackets.Statement.{statement}

@@ -1,3 +1,4 @@
+-- By the place: only the right side of a join asks which join it is, and takes the answer of `same_join`. Every other place computes to false.
 use borrow.Author.Needs.{needs}
 use Rattle.forms.proofs.inner.brackets.follows.Statement.{statement}
 use Rattle.forms.proofs.inner.brackets.follows.Tie as tie

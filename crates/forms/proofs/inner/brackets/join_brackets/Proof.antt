@@ -1,3 +1,4 @@
+-- By the style: in the full text a join has brackets unless it goes on its chain (`follows`), in the short one where `short_join` says so.
 use mathlib.Core.Bool.{not}
 use Rattle.forms.specs.Printing.{brackets}
 use mathlib.Core.Path.{ap, _∙_}

@@ -1,3 +1,4 @@
+-- By the leaf's shape, for the bytes of a text don't matter: only a range has brackets, and only in the full text.
 use Rattle.forms.specs.Printing.{brackets}
 use borrow.Author.Needs.{needs}
 use Rattle.forms.proofs.inner.brackets.leaf_brackets.Statement.{statement}

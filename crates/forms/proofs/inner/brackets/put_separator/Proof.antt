@@ -1,3 +1,4 @@
+-- Three stores, one behind the other, are one text of three bytes (`wrote-three`). A store keeps the length, so that the room lasts.
 use Rattle.text.proofs.Splices.{wrote-three}
 use lib.ListN.{length-set}
 use native.Mathlib.Omega.{arith}

@@ -1,3 +1,5 @@
+-- By the place: alone, behind a predicate or a tag, and under a postfix the definition computes. On a side of a join, `short_left` and
+-- `short_right` have the answer.
 use borrow.Author.Needs.{needs}
 use Rattle.forms.proofs.inner.brackets.short_join.Statement.{statement}
 use Rattle.forms.proofs.inner.brackets.short_join.Tie as tie

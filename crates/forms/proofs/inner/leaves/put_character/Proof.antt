@@ -1,3 +1,5 @@
+-- The text is a row of three parts: quote, character, quote (`character-row`). The laws of Rows carry it: `part-room` finds room for each
+-- part, `go` goes on behind one that is written, and `finish` has the whole text behind the last.
 use Rattle.forms.proofs.Leaves.{character-row}
 use Rattle.forms.proofs.Rows.{begin, part-room, go, finish}
 use borrow.Author.Needs.{needs}

@@ -1,3 +1,4 @@
+-- By the end: an open one has no text, and writing none changes nothing (`wrote-none`). The other is what `put_signed` writes.
 use Rattle.text.proofs.Splices.{wrote-none}
 use borrow.Author.Needs.{needs}
 use Rattle.forms.proofs.inner.leaves.put_end.Statement.{statement}

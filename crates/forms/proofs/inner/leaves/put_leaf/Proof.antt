@@ -1,3 +1,5 @@
+-- By the leaf's shape. That it is good puts a text inside the store and keeps both ends of a range below 0x110000; the slice from p to p + n
+-- is the part of the store that the definition takes (`part-between`).
 use Rattle.forms.proofs.Leaves.{range-below}
 use Rattle.table.proofs.Texts.{leaf-inside, part-between}
 use native.Mathlib.Omega.{arith}

@@ -1,3 +1,5 @@
+-- Below 2^31 the text is the decimal itself (`signed-low`). From there on it is a row of two parts, `-` and the decimal of 2^32 less n
+-- (`signed-row`), which is taken as 2^32 - 1 - n + 1, for 2^32 is no u32.
 use Rattle.forms.proofs.Leaves.{signed-low, signed-row}
 use Rattle.forms.proofs.Rows.{begin, part-room, go, finish}
 use native.Mathlib.Omega.{arith}

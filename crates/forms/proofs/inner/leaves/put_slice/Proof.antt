@@ -1,3 +1,5 @@
+-- The text is a row of five parts: `PEEK[`, a number, `..`, the end, which may be empty, and `]`. The laws of Rows find room for each, and
+-- put them together.
 use Rattle.forms.proofs.Leaves.{slice-row}
 use Rattle.forms.proofs.Rows.{begin, part-room, go, finish}
 use borrow.Author.Needs.{needs}

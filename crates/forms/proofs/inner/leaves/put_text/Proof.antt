@@ -1,3 +1,5 @@
+-- By the sort: in each of the four the text to be written is what one function writes, so that both its room and what it wrote are those
+-- of the contract.
 use Rattle.forms.specs.Printing.{sortText}
 use borrow.Author.Needs.{needs}
 use Rattle.forms.proofs.inner.leaves.put_text.Statement.{statement}

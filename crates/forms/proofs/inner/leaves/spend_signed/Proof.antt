@@ -1,3 +1,5 @@
+-- Below 2^31 the text is the decimal itself (`signed-low`). From there on one byte is spent for `-`, and then the decimal of 2^32 less n
+-- (`spent-minus`).
 use Rattle.forms.proofs.Leaves.{signed-low, spent-minus}
 use native.Mathlib.Omega.{arith}
 use borrow.Author.Needs.{needs}

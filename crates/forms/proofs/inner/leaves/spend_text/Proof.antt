@@ -1,3 +1,5 @@
+-- By the sort. `spend_literal` has the bytes of a string, and a name has its own. The bytes around a string, 1 for `^` and 14 for
+-- PUSH_LITERAL( ), are spent first, which comes to the same (`spent-insens`, `spent-push-literal`).
 use Rattle.forms.proofs.Measures.{spent-insens, spent-name, spent-push-literal}
 use Rattle.forms.specs.Printing.{sortText}
 use borrow.Author.Needs.{needs}

@@ -1,3 +1,4 @@
+-- The text is a row of six parts: `{`, n, a comma, a space, m, `}` (`counts-row`). The laws of Rows find room for each, and put them together.
 use Rattle.forms.proofs.Rows.{begin, part-room, go, finish}
 use Rattle.forms.proofs.Leaves.{counts-row}
 use borrow.Author.Needs.{needs}

@@ -1,3 +1,4 @@
+-- The text is a row of three parts: `{`, n, `}` (`exact-row`). The laws of Rows find room for each, and put them together.
 use Rattle.forms.proofs.Rows.{begin, part-room, go, finish}
 use Rattle.forms.proofs.Leaves.{exact-row}
 use borrow.Author.Needs.{needs}

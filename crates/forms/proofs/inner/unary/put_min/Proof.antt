@@ -1,3 +1,4 @@
+-- The text is a row of four parts: `{`, n, a comma, `}` (`min-row`). The laws of Rows find room for each, and put them together.
 use Rattle.forms.proofs.Rows.{begin, part-room, go, finish}
 use Rattle.forms.proofs.Leaves.{min-row}
 use borrow.Author.Needs.{needs}

@@ -1,3 +1,5 @@
+-- The text is a row of three parts: `#`, the tag, ` = ` (`tag-row`). A good tag lies inside the store (`tag-inside`), and the slice from p to
+-- p + n is the part that the definition takes. The laws of Rows find room for each part.
 use Rattle.forms.proofs.Leaves.{tag-row}
 use Rattle.forms.proofs.Rows.{begin, part-room, go, finish}
 use Rattle.table.proofs.Texts.{tag-inside, part-between}

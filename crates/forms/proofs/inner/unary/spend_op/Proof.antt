@@ -1,3 +1,5 @@
+-- By the operator: `spend_unary` has the answer for all but a tag. A good tag lies inside the store, so that its bytes are as many as n says
+-- (`length-part`), and four are spent around them.
 use Rattle.forms.proofs.Measures.{length-part, spent-tag}
 use Rattle.table.proofs.Texts.{tag-inside}
 use borrow.Author.Needs.{needs}

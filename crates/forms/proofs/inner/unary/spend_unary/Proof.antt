@@ -1,3 +1,5 @@
+-- One arm for each of the ten operators. Where no number is written the length computes; `spent-count` and `spent-counts` add up the bytes
+-- around one number and around two.
 use Rattle.forms.proofs.Measures.{spent-count, spent-counts}
 use mathlib.Core.List.{[], _∷_}
 use mathlib.Core.Path.{refl, _∙_}

@@ -1,3 +1,5 @@
+-- The index falls: a node that isn't false has its children below it, and the nodes up to them aren't false either. Each kind has its law of
+-- Nodes: `leaf-spent`, `one-spent`, `two-spent`. Of nothing nothing is left, so that it may return early; no such node is unknown.
 use Rattle.printer.proofs.Nodes.{leaf-spent, one-spent, two-spent}
 use Rattle.forms.proofs.Measures.{spent-zero}
 use denote.Ref.{now}

@@ -1,3 +1,5 @@
+-- The index falls: a node that isn't false has its children below it. In each arm the text is a row of parts, by the law of Nodes for its
+-- kind (`leaf-row`, `prefix-row` and so on): the laws of Rows find room for each part, the children's among them, and put them together.
 use mathlib.Core.Path.{refl, sym, _∙_}
 use native.Mathlib.Omega.{arith}
 use borrow.Author.Needs.{needs}

@@ -1,3 +1,5 @@
+-- A tree's last record is its root's, and the third number of a record is its end.
+-- So this one store makes the records of any tree, written last, those of the tree with that end (`end-record`).
 use Rattle.records.proofs.Patches.{end-record}
 use borrow.Author.Needs.{needs}
 use Rattle.records.proofs.inner.nodes.move_end.Statement.{statement}

@@ -1,3 +1,5 @@
+-- A tree's last record is its root's, and the second number of a record is its start.
+-- So this one store makes the records of any tree, written last, those of the tree with that start (`start-record`).
 use Rattle.records.proofs.Patches.{start-record}
 use borrow.Author.Needs.{needs}
 use Rattle.records.proofs.inner.nodes.move_start.Statement.{statement}

@@ -1,3 +1,5 @@
+-- Six stores at NODE_SIZE * index and the five places behind it are one record written (`put-is`).
+-- None of them changes the length, so that the room for six numbers, which is asked for, is there for each.
 use mathlib.Core.Path.{refl}
 use native.Mathlib.Omega.{arith}
 use lib.ListN.{length-set}

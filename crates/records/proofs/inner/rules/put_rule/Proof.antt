@@ -1,3 +1,4 @@
+-- Six stores at RULE_SIZE * index and the five places behind it are one rule record written (`put-rule-is`). Each keeps the table's length.
 use Rattle.records.proofs.Patches.{put-rule-is}
 use lib.ListN.{length-set}
 use native.Mathlib.Omega.{arith}

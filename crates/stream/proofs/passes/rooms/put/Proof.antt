@@ -1,3 +1,5 @@
+-- Room for the record means that its three numbers lie in the list (`over-room`), so that no store is outside and no place overflows.
+-- Three stores, one behind the other, are one run of stores (`put-three`); with no token there is none.
 use Prim.Native.Nat.{_*_}
 use lib.ListN.{length-set}
 use native.Mathlib.Omega.{arith}

@@ -1,3 +1,5 @@
+-- Invariant (`RulesInv`): the whole grammar's counts are those so far and those of the rules from i on; and so far there are at most i rules,
+-- i nodes and i times `most` bytes, so that no sum overflows. A doc or a rule takes a token at least: the tokens left fall.
 use Rattle.structure.proofs.Rules.{RulesInv, grammar-none, grammar-start, grammar-done, grammar-doc, grammar-refused, grammar-more}
 use Rattle.structure.proofs.Arrays.{sizes}
 use Rattle.structure.specs.Tokens.{toks}

@@ -1,3 +1,5 @@
+-- Invariant (`FaultInv`): the first fault of the text is the first from token i on, the token before being of kind `before`. A sound token is
+-- passed, so that the tokens left fall; any fault is the first (`faults-stop`).
 use Rattle.structure.proofs.Faults.{FaultInv, faults-start, faults-more, faults-stop, faults-none}
 use Rattle.structure.proofs.Arrays.{sizes, kind-in}
 use Rattle.structure.specs.declared.Fault.the-variants.{Over, Zero, PeekRange, NotScalar, NotPlain}
