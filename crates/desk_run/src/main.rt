@@ -12,7 +12,7 @@
 // Then the bytes put, and how many bytes of the whole output behind them still stand at what was there before;
 // then of more than 300 bytes a sum, and of others, on lines of their own, all.
 use forms::Style;
-use matcher::Row;
+use replies::Row;
 use rows::Block;
 use show::Layout;
 use show::Shown;

@@ -9,8 +9,9 @@ use Rattle.forms.specs.declared.Style.{Style}
 use Rattle.printer.specs.Answers as Answers
 use Rattle.token.specs.Lister.{lister}
 use Rattle.matcher.specs.Answers as Match
-use Rattle.matcher.specs.Lines.{fields, linesOf, recordsOf, tallied}
-use Rattle.matcher.specs.Sought.{foundOf, finding}
+use Rattle.matcher.specs.Lines.{fields, linesOf, recordsOf}
+use Rattle.replies.specs.Replies.{tallied, finding}
+use Rattle.matcher.specs.Sought.{foundOf}
 use Rattle.states.specs.Feed.{feedOf, feedIn, endOf, endIn}
 use Rattle.numbers.specs.Numbers.{levelOf, readNumbers, printNumbers, tokenNumbers, tallyNumbers, findingNumbers, callNumbers, feedNumbers, feedFrom}
 

@@ -13,9 +13,9 @@ ghost use Rattle.printer.specs.Answers.{reported as printReported};
 ghost use Rattle.reader.specs.Read.{roomForNodes, roomForRules, readOf, Leaves};
 ghost use Rattle.reader.specs.Read.{reported as readReported};
 ghost use Rattle.matcher.specs.Answers.{matchOf};
-ghost use Rattle.matcher.specs.Answers.{numbered as lineNumbered};
-ghost use Rattle.matcher.specs.Lines.{fields, linesOf, recordsOf, tallied};
-ghost use Rattle.matcher.specs.Sought.{foundOf, finding};
+ghost use Rattle.replies.specs.Replies.{numbered as lineNumbered, tallied, finding};
+ghost use Rattle.matcher.specs.Lines.{fields, linesOf, recordsOf};
+ghost use Rattle.matcher.specs.Sought.{foundOf};
 ghost use Rattle.states.specs.Feed.{feedOf, feedIn, endOf, endIn};
 ghost use Rattle.numbers.specs.Numbers.{levelOf, readNumbers, printNumbers, tokenNumbers, tallyNumbers, findingNumbers, callNumbers, feedNumbers, feedFrom};
 
@@ -105,7 +105,7 @@ pub extern "C" fn flascjuvan_match(
 )
     ensures answered { λ _. ⌜ now (answer .exit) ≡ fields (lineNumbered (matchOf (now (nodes .entry)) (now (rules .entry)) (now (store .entry)) start (now (line .entry)) allowance)) ⌝ }
 {
-    let row = matcher::row_of(matcher::match_line(nodes, rules, store, start, line, allowance));
+    let row = replies::row_of(matcher::match_line(nodes, rules, store, start, line, allowance));
     *answer = numbers::inner::row_numbers(row);
 }
 
@@ -126,7 +126,7 @@ pub extern "C" fn flascjuvan_match_lines(
     ensures written { λ _. ⌜ now (records .exit) ≡ recordsOf (now (nodes .entry)) (now (rules .entry)) (now (store .entry)) start (now (text .entry)) allowance (now (records .entry)) ⌝ }
 {
     let lines = matcher::match_lines(nodes, rules, store, start, text, allowance, records);
-    *answer = numbers::inner::tally_numbers(matcher::tally_of(lines));
+    *answer = numbers::inner::tally_numbers(replies::tally_of(lines));
 }
 
 // The lowest rule of a name. The answer: number, place, the rule's index.
@@ -141,7 +141,7 @@ pub extern "C" fn flascjuvan_rule_named(
     ensures answered { λ _. ⌜ now (answer .exit) ≡ findingNumbers (finding (foundOf (now (nodes .entry)) (now (rules .entry)) (now (store .entry)) (now (name .entry)))) ⌝ }
 {
     let found = matcher::rule_named(nodes, rules, store, name);
-    *answer = numbers::inner::finding_numbers(matcher::finding_of(found));
+    *answer = numbers::inner::finding_numbers(replies::finding_of(found));
 }
 
 // Feeds a packet to a stream, and puts the tokens whose end is known behind the list's records. All zeros is a

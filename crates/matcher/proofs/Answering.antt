@@ -11,22 +11,23 @@ use Rattle.table.specs.Characters.{firstBad, faultOf}
 use Rattle.table.specs.Record.{nodesIn, rulesIn, rootAt}
 use Rattle.table.specs.Check.{Valid}
 use Rattle.table.proofs.Tables.{sound-at}
-use Rattle.matcher.specs.declared.Act.{Act}
+use Rattle.links.specs.declared.Act.{Act}
 use Rattle.matcher.specs.declared.Outcome.{Outcome}
 use Rattle.matcher.specs.declared.Outcome.the-variants as Outcome
-use Rattle.matcher.specs.declared.Ready.{Ready}
-use Rattle.matcher.specs.declared.Ready.the-variants as Ready
-use Rattle.matcher.specs.declared.Answer.{Answer}
-use Rattle.matcher.specs.declared.Answer.the-variants.{Matched, NoMatch, FalseTables, Unfit, NoRule, NotUtf8, Over}
-use Rattle.matcher.specs.declared.Lines.{Lines}
-use Rattle.matcher.specs.declared.Lines.the-variants as Lines
-use Rattle.matcher.specs.Program.{program, linkedAt, Linked, Sound}
+use Rattle.links.specs.declared.Ready.{Ready}
+use Rattle.links.specs.declared.Ready.the-variants as Ready
+use Rattle.replies.specs.declared.Answer.{Answer}
+use Rattle.replies.specs.declared.Answer.the-variants.{Matched, NoMatch, FalseTables, Unfit, NoRule, NotUtf8, Over}
+use Rattle.replies.specs.declared.Lines.{Lines}
+use Rattle.replies.specs.declared.Lines.the-variants as Lines
+use Rattle.links.specs.Program.{program, linkedAt, Linked, Sound}
 use Rattle.matcher.specs.Match.{visit}
-use Rattle.matcher.specs.Answers.{maxVisits, readyOf, reply, lineBy, lineOf, answerBy, matchOf}
+use Rattle.matcher.specs.Answers.{maxVisits, reply, lineBy, lineOf, answerBy, matchOf}
+use Rattle.links.specs.Ready.{readyOf}
 use Rattle.matcher.specs.Lines.{linesBy, ranOver, linesOf, recorded, recordsBy, recordsOf}
 use Rattle.matcher.proofs.Visits.{Below, visit-below}
-use Rattle.matcher.proofs.Naming.{linked-program, sound-links}
-use Rattle.matcher.proofs.Asked.{Allowed, ready-allows}
+use Rattle.links.proofs.Naming.{linked-program, sound-links}
+use Rattle.links.proofs.Asked.{Allowed, ready-allows}
 
 -- ---- a line
 

@@ -11,12 +11,12 @@ use lib.ListN.{length, drop}
 use borrow.Author.Tests.{le-leb, lt-leb}
 use Rattle.table.specs.Characters.{choose, within, charOf, character}
 use Rattle.table.specs.Record.{part, nodesIn}
-use Rattle.matcher.specs.declared.Most.{Most}
-use Rattle.matcher.specs.declared.Act.{Act}
-use Rattle.matcher.specs.declared.Act.the-variants.{Text, Range, Any, Call, PosPred, NegPred, Seq, Choice, Repeat, Unfit}
+use Rattle.links.specs.declared.Most.{Most}
+use Rattle.links.specs.declared.Act.{Act}
+use Rattle.links.specs.declared.Act.the-variants.{Text, Range, Any, Call, PosPred, NegPred, Seq, Choice, Repeat, Unfit}
 use Rattle.matcher.specs.declared.Outcome.{Outcome}
 use Rattle.matcher.specs.declared.Outcome.the-variants.{Matched, Missed, Over}
-use Rattle.matcher.specs.Program.{linkedAt, Leads, Sound}
+use Rattle.links.specs.Program.{linkedAt, Leads, Sound}
 use Rattle.matcher.specs.Match.{after, took, starts, one, anyCharacter, full, repeat, enter, visit}
 use Rattle.matcher.proofs.Leaves.{took-true, took-false}
 use Rattle.matcher.proofs.Visits.{visit-below, repeat-law, fewer}

@@ -9,8 +9,8 @@ use lib.Dec.{eqb}
 use lib.ListN.{length, take, drop}
 use lib.Seq.{drop-drop}
 use Rattle.table.specs.Characters.{choose, and, nextIs}
-use Rattle.matcher.specs.declared.Answer.{Answer}
-use Rattle.matcher.specs.Answers.{numbered}
+use Rattle.replies.specs.declared.Answer.{Answer}
+use Rattle.replies.specs.Replies.{numbered}
 use Rattle.matcher.specs.Lines.{onto, lines, past, rows, fields, bodySize, lineSize}
 use Rattle.matcher.proofs.Rows.{crlf, lines-lf, lines-cr, lines-on, FirstLine, first-line, past-none, past-zero, past-line}
 

@@ -7,24 +7,26 @@ use Prim.Native.Nat.{ℕ, zero, suc, _+_, _-_, _≤_, _<_}
 use native.Mathlib.Omega.{arith}
 use Rattle.table.specs.Characters.{firstBad, faultOf, Good}
 use Rattle.table.specs.Record.{rootAt}
-use Rattle.matcher.specs.declared.Act.{Act}
+use Rattle.links.specs.declared.Act.{Act}
 use Rattle.matcher.specs.declared.Outcome.{Outcome}
 use Rattle.matcher.specs.declared.Outcome.the-variants as Outcome
-use Rattle.matcher.specs.declared.Ready.{Ready}
-use Rattle.matcher.specs.declared.Ready.the-variants as Ready
-use Rattle.matcher.specs.declared.Answer.{Answer}
-use Rattle.matcher.specs.declared.Answer.the-variants.{Matched, NoMatch, FalseTables, Unfit, NoRule, NotUtf8, Over}
-use Rattle.matcher.specs.declared.Row.{Row}
-use Rattle.matcher.specs.declared.Lines.{Lines}
-use Rattle.matcher.specs.declared.Tally.{Tally}
-use Rattle.matcher.specs.declared.Found.{Found}
-use Rattle.matcher.specs.declared.Finding.{Finding}
-use Rattle.matcher.specs.Program.{program}
+use Rattle.links.specs.declared.Ready.{Ready}
+use Rattle.links.specs.declared.Ready.the-variants as Ready
+use Rattle.replies.specs.declared.Answer.{Answer}
+use Rattle.replies.specs.declared.Answer.the-variants.{Matched, NoMatch, FalseTables, Unfit, NoRule, NotUtf8, Over}
+use Rattle.replies.specs.declared.Row.{Row}
+use Rattle.replies.specs.declared.Lines.{Lines}
+use Rattle.replies.specs.declared.Tally.{Tally}
+use Rattle.replies.specs.declared.Found.{Found}
+use Rattle.replies.specs.declared.Finding.{Finding}
+use Rattle.links.specs.Program.{program}
 use Rattle.matcher.specs.Match.{visit}
 use Rattle.matcher.specs.Runs.{Verdict, upTo, none, give, Task, node, Runs}
-use Rattle.matcher.specs.Answers.{maxVisits, readyOf, reply, lineBy, lineOf, answerBy, matchOf, numbered}
-use Rattle.matcher.specs.Lines.{linesOf, recordsOf, tallied}
-use Rattle.matcher.specs.Sought.{foundOf, finding}
+use Rattle.matcher.specs.Answers.{maxVisits, reply, lineBy, lineOf, answerBy, matchOf}
+use Rattle.replies.specs.Replies.{numbered, tallied, finding}
+use Rattle.links.specs.Ready.{readyOf}
+use Rattle.matcher.specs.Lines.{linesOf, recordsOf}
+use Rattle.matcher.specs.Sought.{foundOf}
 use Rattle.matcher.proofs.Visits.{Below, visit-below}
 use Rattle.matcher.proofs.Exact.{act, complete, sound, runs-once, over-needs, needs-over}
 

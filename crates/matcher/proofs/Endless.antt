@@ -7,16 +7,17 @@ use Prim.Native.Nat.{ℕ, zero, suc, _+_, _≤_, _<_}
 use native.Mathlib.Omega.{arith}
 use Rattle.table.specs.Characters.{firstBad, Good}
 use Rattle.table.specs.Record.{rootAt}
-use Rattle.matcher.specs.declared.Most.{Most}
-use Rattle.matcher.specs.declared.Most.the-variants.{UpTo, NoEnd}
-use Rattle.matcher.specs.declared.Act.{Act}
-use Rattle.matcher.specs.declared.Act.the-variants.{Repeat}
-use Rattle.matcher.specs.declared.Ready.the-variants.{Yes}
-use Rattle.matcher.specs.declared.Answer.the-variants.{Over}
-use Rattle.matcher.specs.Program.{program}
+use Rattle.links.specs.declared.Most.{Most}
+use Rattle.links.specs.declared.Most.the-variants.{UpTo, NoEnd}
+use Rattle.links.specs.declared.Act.{Act}
+use Rattle.links.specs.declared.Act.the-variants.{Repeat}
+use Rattle.links.specs.declared.Ready.the-variants.{Yes}
+use Rattle.replies.specs.declared.Answer.the-variants.{Over}
+use Rattle.links.specs.Program.{program}
 use Rattle.matcher.specs.Match.{full}
 use Rattle.matcher.specs.Runs.{Verdict, upTo, none, Task, node, inner, more, Runs, visited, text, range, any, call, pos, pos-not, neg, neg-not, seq, seq-not, choice, choice-not, repeated, unfit, filled, again, ended}
-use Rattle.matcher.specs.Answers.{readyOf, matchOf}
+use Rattle.matcher.specs.Answers.{matchOf}
+use Rattle.links.specs.Ready.{readyOf}
 use Rattle.matcher.proofs.Exact.{runs-once}
 use Rattle.matcher.proofs.Counted.{over-exactly-if}
 

@@ -3,8 +3,6 @@ pub mod Leaves
 pub mod Visits
 pub mod Arms
 pub mod Exact
-pub mod Naming
-pub mod Asked
 pub mod Rows
 pub mod Blocks
 pub mod Answering

@@ -12,11 +12,11 @@ use lib.Seq.{drop-cons, drop-drop, sets, length-sets, sets-eq}
 use borrow.Author.Tests.{eq-eqb, ne-eqb}
 use Rattle.table.specs.Characters.{choose, and, or, nextIs, fronted}
 use Rattle.table.proofs.Branches.{choose-true, choose-false}
-use Rattle.matcher.specs.declared.Answer.{Answer}
-use Rattle.matcher.specs.declared.Row.{Row}
-use Rattle.matcher.specs.declared.Lines.{Lines}
-use Rattle.matcher.specs.declared.Lines.the-variants.{Ran}
-use Rattle.matcher.specs.Answers.{numbered}
+use Rattle.replies.specs.declared.Answer.{Answer}
+use Rattle.replies.specs.declared.Row.{Row}
+use Rattle.replies.specs.declared.Lines.{Lines}
+use Rattle.replies.specs.declared.Lines.the-variants.{Ran}
+use Rattle.replies.specs.Replies.{numbered}
 use Rattle.matcher.specs.Lines.{onto, lines, past, rowSize, fields, rows, ranOver, recorded, bodySize, lineSize}
 
 drop-all : (t : List ℕ) (i : ℕ) → length t ≤ i → drop i t ≡ []

@@ -10,8 +10,8 @@ use Rattle.table.specs.Check.{tables}
 use Rattle.table.specs.Names.{ruleNamed, NamesInside}
 use Rattle.table.proofs.Tables.{tables-valid}
 use Rattle.table.proofs.Names.{valid-inside}
-use Rattle.matcher.specs.declared.Found.{Found}
-use Rattle.matcher.specs.declared.Found.the-variants.{Rule, FalseTables, NoRule}
+use Rattle.replies.specs.declared.Found.{Found}
+use Rattle.replies.specs.declared.Found.the-variants.{Rule, FalseTables, NoRule}
 use Rattle.matcher.specs.Sought.{foundBy, foundTables, foundOf}
 
 pub good-inside : (ns rs st : List ℕ) {x : TableCheck} → x ≡ tables ns rs st → x ≡ Table.Good → NamesInside rs st

@@ -5,9 +5,9 @@ use mathlib.Core.Path.{_≡_, refl, sym, ap, _∙_}
 use mathlib.Core.List.{List}
 use native.Mathlib.Omega.{arith}
 use lib.Dec.{leb}
-use Rattle.matcher.specs.declared.Most.{Most}
-use Rattle.matcher.specs.declared.Act.{Act}
-use Rattle.matcher.specs.declared.Act.the-variants.{Text, Range, Any, Call, PosPred, NegPred, Seq, Choice, Repeat, Unfit}
+use Rattle.links.specs.declared.Most.{Most}
+use Rattle.links.specs.declared.Act.{Act}
+use Rattle.links.specs.declared.Act.the-variants.{Text, Range, Any, Call, PosPred, NegPred, Seq, Choice, Repeat, Unfit}
 use Rattle.matcher.specs.declared.Outcome.{Outcome}
 use Rattle.matcher.specs.declared.Outcome.the-variants.{Matched, Missed, Over}
 use Rattle.table.specs.declared.Character.{Character}

@@ -27,18 +27,19 @@ use Rattle.table.proofs.Branches.{and-true}
 use Rattle.table.proofs.Nodes.{sound-tip, sound-below}
 use Rattle.table.proofs.Texts.{leaf-inside, leaf-fine, utf8-is}
 use Rattle.table.proofs.Characters.{Edge, edge-first, edge-more, edge-char, Keeps, good-map}
-use Rattle.matcher.specs.declared.Most.{Most}
-use Rattle.matcher.specs.declared.Act.{Act}
-use Rattle.matcher.specs.declared.Act.the-variants.{Text, Range, Any, Call, PosPred, NegPred, Seq, Choice, Repeat, Unfit}
-use Rattle.matcher.specs.declared.Ready.the-variants.{Yes}
-use Rattle.matcher.specs.declared.Answer.the-variants.{Matched}
-use Rattle.matcher.specs.Program.{linked, unaryAct, actOf, linkAt, number, program}
+use Rattle.links.specs.declared.Most.{Most}
+use Rattle.links.specs.declared.Act.{Act}
+use Rattle.links.specs.declared.Act.the-variants.{Text, Range, Any, Call, PosPred, NegPred, Seq, Choice, Repeat, Unfit}
+use Rattle.links.specs.declared.Ready.the-variants.{Yes}
+use Rattle.replies.specs.declared.Answer.the-variants.{Matched}
+use Rattle.links.specs.Program.{linked, unaryAct, actOf, linkAt, number, program}
 use Rattle.matcher.specs.Match.{lower, alike, starts, anyCharacter, full}
 use Rattle.matcher.specs.Runs.{Verdict, upTo, none, tested, testedOne, Task, node, inner, more, Runs, visited, text, range, any, call, pos, pos-not, neg, neg-not, seq, seq-not, choice, choice-not, repeated, unfit, filled, again, ended}
-use Rattle.matcher.specs.Answers.{readyOf, matchOf}
+use Rattle.matcher.specs.Answers.{matchOf}
+use Rattle.links.specs.Ready.{readyOf}
 use Rattle.matcher.proofs.Leaves.{lower-below, lower-above, lower-letter}
-use Rattle.matcher.proofs.Naming.{node-none}
-use Rattle.matcher.proofs.Asked.{ready-allows}
+use Rattle.links.proofs.Naming.{node-none}
+use Rattle.links.proofs.Asked.{ready-allows}
 use Rattle.matcher.proofs.Counted.{counted}
 
 -- ---- bytes that are alike

@@ -1,5 +1,4 @@
 -- Matching: the definitions that the contracts of this crate cite.
-pub mod Program
 pub mod Match
 pub mod Runs
 pub mod Answers

@@ -6,16 +6,18 @@ use lib.Dec.{eqb}
 use lib.ListN.{length, take}
 use Rattle.table.specs.Characters.{choose, and, or, nextIs, fronted}
 use Rattle.table.specs.Record.{rootAt}
-use Rattle.matcher.specs.declared.Ready.{Ready}
-use Rattle.matcher.specs.declared.Ready.the-variants as Ready
-use Rattle.matcher.specs.declared.Answer.{Answer}
-use Rattle.matcher.specs.declared.Answer.the-variants as Answer
-use Rattle.matcher.specs.declared.Row.{Row}
-use Rattle.matcher.specs.declared.Lines.{Lines}
-use Rattle.matcher.specs.declared.Lines.the-variants.{Ran, FalseTables, Unfit, NoRule}
-use Rattle.matcher.specs.declared.Tally.{Tally}
-use Rattle.matcher.specs.Program.{program}
-use Rattle.matcher.specs.Answers.{readyOf, lineOf, numbered}
+use Rattle.links.specs.declared.Ready.{Ready}
+use Rattle.links.specs.declared.Ready.the-variants as Ready
+use Rattle.replies.specs.declared.Answer.{Answer}
+use Rattle.replies.specs.declared.Answer.the-variants as Answer
+use Rattle.replies.specs.declared.Row.{Row}
+use Rattle.replies.specs.declared.Lines.{Lines}
+use Rattle.replies.specs.declared.Lines.the-variants.{Ran, FalseTables, Unfit, NoRule}
+use Rattle.replies.specs.declared.Tally.{Tally}
+use Rattle.links.specs.Program.{program}
+use Rattle.matcher.specs.Answers.{lineOf}
+use Rattle.replies.specs.Replies.{numbered}
+use Rattle.links.specs.Ready.{readyOf}
 
 -- a byte before the first line
 abbrev pub onto : ℕ → List (List ℕ) → List (List ℕ)
@@ -58,17 +60,6 @@ ranOver text room = Ran (length (take (room / rowSize) (lines text))) (past (roo
 
 unfoldable pub linesOf : List ℕ → List ℕ → List ℕ → ℕ → List ℕ → ℕ → Lines
 linesOf ns rs st start text room = linesBy (readyOf ns rs st start) (λ u. ranOver text room)
-
--- a refused call by the number and place that its refusal has as a line's
-abbrev pub refusedAs : Row → Tally
-refusedAs r = record { number = r .number; place = r .place; lines = 0; next = 0 }
-
--- the numbers of a call over lines: the number and place of a refusal, the lines that were run, the place of the next one
-unfoldable pub tallied : Lines → Tally
-tallied (Ran k p) = record { number = 0; place = 0; lines = k; next = p }
-tallied FalseTables = refusedAs (numbered Answer.FalseTables)
-tallied (Unfit i) = refusedAs (numbered (Answer.Unfit i))
-tallied NoRule = refusedAs (numbered Answer.NoRule)
 
 -- what the lent records hold afterwards: those lines' records in front, the rest as it was
 unfoldable pub recorded : (List ℕ → Answer) → List ℕ → List ℕ → List ℕ

@@ -9,9 +9,9 @@ use Rattle.table.specs.declared.Character.{Character}
 use Rattle.table.specs.declared.Character.the-variants.{Is, Broken}
 use Rattle.table.specs.Characters.{within, charOf, character}
 use Rattle.table.specs.Record.{part}
-use Rattle.matcher.specs.declared.Most.{Most}
-use Rattle.matcher.specs.declared.Act.{Act}
-use Rattle.matcher.specs.declared.Act.the-variants.{Text, Range, Any, Call, PosPred, NegPred, Seq, Choice, Repeat, Unfit}
+use Rattle.links.specs.declared.Most.{Most}
+use Rattle.links.specs.declared.Act.{Act}
+use Rattle.links.specs.declared.Act.the-variants.{Text, Range, Any, Call, PosPred, NegPred, Seq, Choice, Repeat, Unfit}
 use Rattle.matcher.specs.declared.Outcome.{Outcome}
 use Rattle.matcher.specs.declared.Outcome.the-variants.{Matched, Missed}
 use Rattle.matcher.specs.Match.{starts, anyCharacter, full}

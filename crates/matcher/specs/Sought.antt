@@ -7,12 +7,12 @@ use Rattle.table.specs.declared.Named.{Named}
 use Rattle.table.specs.declared.Named.the-variants.{By, Nobody}
 use Rattle.table.specs.Check.{tables}
 use Rattle.table.specs.Names.{ruleNamed}
-use Rattle.matcher.specs.declared.Answer.the-variants as Answer
-use Rattle.matcher.specs.declared.Row.{Row}
-use Rattle.matcher.specs.declared.Found.{Found}
-use Rattle.matcher.specs.declared.Found.the-variants.{Rule, FalseTables, NoRule}
-use Rattle.matcher.specs.declared.Finding.{Finding}
-use Rattle.matcher.specs.Answers.{numbered}
+use Rattle.replies.specs.declared.Answer.the-variants as Answer
+use Rattle.replies.specs.declared.Row.{Row}
+use Rattle.replies.specs.declared.Found.{Found}
+use Rattle.replies.specs.declared.Found.the-variants.{Rule, FalseTables, NoRule}
+use Rattle.replies.specs.declared.Finding.{Finding}
+use Rattle.replies.specs.Replies.{numbered}
 
 abbrev pub foundBy : Named → Found
 foundBy (By k) = Rule k
@@ -28,13 +28,3 @@ foundTables (Table.Rule k) f = FalseTables
 -- the lowest rule of a name, for all tables and names
 unfoldable pub foundOf : List ℕ → List ℕ → List ℕ → List ℕ → Found
 foundOf ns rs st name = foundTables (tables ns rs st) (λ u. foundBy (ruleNamed rs st name))
-
--- a refused search by the number and place that its refusal has as a line's
-abbrev pub missedAs : Row → Finding
-missedAs r = record { number = r .number; place = r .place; rule = 0 }
-
--- the numbers of a search: the number and place of a refusal, the index of the rule
-unfoldable pub finding : Found → Finding
-finding (Rule k) = record { number = 0; place = 0; rule = k }
-finding FalseTables = missedAs (numbered Answer.FalseTables)
-finding NoRule = missedAs (numbered Answer.NoRule)

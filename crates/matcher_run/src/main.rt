@@ -1,11 +1,11 @@
 // Runs the line matcher on the vectors of its standard input. It writes each vector with the answer in
 // numbers: the refusal's number and place, 1 for a match, its length, the steps.
-use matcher::Answer;
-use matcher::Found;
-use matcher::Lines;
+use replies::Answer;
+use replies::Found;
+use replies::Lines;
 
 fn tell(answer: Answer) {
-    let row = matcher::row_of(answer);
+    let row = replies::row_of(answer);
     io::write_all(1, b" ");
     io::print_decimal(1, row.number);
     io::write_all(1, b" ");
@@ -19,7 +19,7 @@ fn tell(answer: Answer) {
 }
 
 fn tell_lines(lines: Lines) {
-    let tally = matcher::tally_of(lines);
+    let tally = replies::tally_of(lines);
     io::write_all(1, b" ");
     io::print_decimal(1, tally.number);
     io::write_all(1, b" ");
@@ -31,7 +31,7 @@ fn tell_lines(lines: Lines) {
 }
 
 fn tell_found(found: Found) {
-    let finding = matcher::finding_of(found);
+    let finding = replies::finding_of(found);
     io::write_all(1, b" ");
     io::print_decimal(1, finding.number);
     io::write_all(1, b" ");

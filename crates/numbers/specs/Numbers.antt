@@ -10,8 +10,8 @@ use Rattle.structure.specs.declared.Level.the-variants.{Tagged, Plain}
 use Rattle.reader.specs.Read as Read
 use Rattle.token.specs.Lister.{Numbers}
 use Rattle.printer.specs.Answers.{Numbered}
-use Rattle.matcher.specs.declared.Tally.{Tally}
-use Rattle.matcher.specs.declared.Finding.{Finding}
+use Rattle.replies.specs.declared.Tally.{Tally}
+use Rattle.replies.specs.declared.Finding.{Finding}
 use Rattle.states.specs.declared.Feed.{Feed}
 use Rattle.states.specs.declared.Call.{Call}
 

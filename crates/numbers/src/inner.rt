@@ -1,9 +1,9 @@
 // What each function answers, in the numbers that a caller in C is given; and the other way, what it gives.
-use matcher::Finding;
-use matcher::Row;
-use matcher::Tally;
 use printer::Printed;
 use reader::Reading;
+use replies::Finding;
+use replies::Row;
+use replies::Tally;
 use states::Call;
 use states::Feed;
 use structure::Level;

@@ -30,7 +30,7 @@ use Rattle.records.specs.Records as RecordsRecords
 use Rattle.build.specs.Build as BuildBuild
 use Rattle.reader.specs.Read as ReaderRead
 use Rattle.table.specs.Names as TableNames
-use Rattle.matcher.specs.Program as MatcherProgram
+use Rattle.links.specs.Program as MatcherProgram
 use Rattle.matcher.specs.Match as MatcherMatch
 use Rattle.matcher.specs.Answers as MatcherAnswers
 use Rattle.matcher.specs.Lines as MatcherLines
@@ -38,8 +38,8 @@ use Rattle.table.specs.Tree.{rulesStored}
 use Rattle.table.specs.Flat.{nodesOf, recordsOf}
 use Rattle.structure.specs.declared.Level.the-variants.{Tagged}
 use Rattle.build.specs.Rules.{rulesOf}
-use Rattle.matcher.specs.declared.Answer.{Answer}
-use Rattle.matcher.specs.declared.Answer.the-variants.{Matched, NoMatch, Unfit, NoRule, NotUtf8, Over}
+use Rattle.replies.specs.declared.Answer.{Answer}
+use Rattle.replies.specs.declared.Answer.the-variants.{Matched, NoMatch, Unfit, NoRule, NotUtf8, Over}
 use Rattle.matcher.specs.Answers.{matchOf}
 use Rattle.matcher.specs.Lines.{recordsOf as linesRecordsOf}
 use Rattle.promises.specs.Twelve.{ascii}

@@ -314,7 +314,7 @@ fn run_match(
     text: &[u8],
     allowance: u64,
 ) {
-    let row = matcher::row_of(matcher::match_line(nodes, rules, store, start, text, allowance));
+    let row = replies::row_of(matcher::match_line(nodes, rules, store, start, text, allowance));
     write_wide(row.number);
     write_wide(row.place);
     write_wide(row.matched);
@@ -344,7 +344,7 @@ fn run_lines(
         allowance,
         &mut records[..room],
     );
-    let tally = matcher::tally_of(lines);
+    let tally = replies::tally_of(lines);
     write_wide(tally.number);
     write_wide(tally.place);
     write_wide(tally.lines);

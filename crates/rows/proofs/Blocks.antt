@@ -12,15 +12,17 @@ use Rattle.text.specs.Choice.{choose}
 use Rattle.text.specs.Splice.{Wrote, fronted}
 use Rattle.text.proofs.Splices.{wrote-front}
 use Rattle.table.specs.Record.{rootAt}
-use Rattle.matcher.specs.declared.Answer.{Answer}
-use Rattle.matcher.specs.declared.Answer.the-variants as Answer
-use Rattle.matcher.specs.declared.Ready.{Ready}
-use Rattle.matcher.specs.declared.Ready.the-variants as Ready
-use Rattle.matcher.specs.declared.Row.{Row}
-use Rattle.matcher.specs.declared.Lines.{Lines}
-use Rattle.matcher.specs.declared.Lines.the-variants as Ran
-use Rattle.matcher.specs.Program.{program}
-use Rattle.matcher.specs.Answers.{readyOf, lineOf, numbered}
+use Rattle.replies.specs.declared.Answer.{Answer}
+use Rattle.replies.specs.declared.Answer.the-variants as Answer
+use Rattle.links.specs.declared.Ready.{Ready}
+use Rattle.links.specs.declared.Ready.the-variants as Ready
+use Rattle.replies.specs.declared.Row.{Row}
+use Rattle.replies.specs.declared.Lines.{Lines}
+use Rattle.replies.specs.declared.Lines.the-variants as Ran
+use Rattle.links.specs.Program.{program}
+use Rattle.matcher.specs.Answers.{lineOf}
+use Rattle.replies.specs.Replies.{numbered}
+use Rattle.links.specs.Ready.{readyOf}
 use Rattle.matcher.specs.Lines.{lines, past, rows, rowSize, linesBy, ranOver, linesOf, recorded, recordsBy, recordsOf}
 use Rattle.matcher.proofs.Blocks.{after-lines, past-inside, behind-lf}
 use Rattle.rows.specs.declared.Block.{Block}

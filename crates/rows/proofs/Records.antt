@@ -17,7 +17,7 @@ use Rattle.text.proofs.Tests.{lt-or-ge}
 use Rattle.text.proofs.Decimals.{decimal-one, decimal-more}
 use Rattle.text.proofs.Splices.{wrote-then, wrote-none, wrote-length}
 use Rattle.forms.proofs.Rows.{row}
-use Rattle.matcher.specs.declared.Row.{Row}
+use Rattle.replies.specs.declared.Row.{Row}
 use Rattle.matcher.specs.Lines.{rowSize}
 use Rattle.rows.specs.Line.{refusalLine}
 use Rattle.rows.specs.Rows.{lengthWord, runLine, rowLine, rowRefused, Small, longestLine, rowFrom, recordLines, recordsRefused}

@@ -4,7 +4,7 @@ use mathlib.Core.Path.{_≡_, sym, ap, _∙_}
 use mathlib.Core.List.{List}
 use lib.ListN.{length}
 use Rattle.text.specs.declared.Put.{Put}
-use Rattle.matcher.specs.declared.Row.{Row}
+use Rattle.replies.specs.declared.Row.{Row}
 use Rattle.rows.specs.declared.Block.{Block}
 use Rattle.rows.specs.Line.{refusalPut, refusalIn}
 use Rattle.rows.specs.Rows.{rowPut, rowIn}

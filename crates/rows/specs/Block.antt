@@ -6,13 +6,15 @@ use lib.ListN.{length, take}
 use Rattle.text.specs.Choice.{choose}
 use Rattle.text.specs.Splice.{fronted}
 use Rattle.table.specs.Record.{rootAt}
-use Rattle.matcher.specs.declared.Answer.{Answer}
-use Rattle.matcher.specs.declared.Answer.the-variants as Answer
-use Rattle.matcher.specs.declared.Ready.{Ready}
-use Rattle.matcher.specs.declared.Ready.the-variants as Ready
-use Rattle.matcher.specs.declared.Row.{Row}
-use Rattle.matcher.specs.Program.{program}
-use Rattle.matcher.specs.Answers.{readyOf, lineOf, numbered}
+use Rattle.replies.specs.declared.Answer.{Answer}
+use Rattle.replies.specs.declared.Answer.the-variants as Answer
+use Rattle.links.specs.declared.Ready.{Ready}
+use Rattle.links.specs.declared.Ready.the-variants as Ready
+use Rattle.replies.specs.declared.Row.{Row}
+use Rattle.links.specs.Program.{program}
+use Rattle.matcher.specs.Answers.{lineOf}
+use Rattle.replies.specs.Replies.{numbered}
+use Rattle.links.specs.Ready.{readyOf}
 use Rattle.matcher.specs.Lines.{lines, past}
 use Rattle.rows.specs.declared.Block.{Block}
 use Rattle.rows.specs.declared.Block.the-variants.{Lines, Refused, NoRoom}

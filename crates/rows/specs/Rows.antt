@@ -8,7 +8,7 @@ use Rattle.text.specs.Digits.{decimal}
 use Rattle.text.specs.Splice.{fronted}
 use Rattle.text.specs.declared.Put.{Put}
 use Rattle.text.specs.declared.Put.the-variants.{Wrote, NoRoom}
-use Rattle.matcher.specs.declared.Row.{Row}
+use Rattle.replies.specs.declared.Row.{Row}
 use Rattle.matcher.specs.Lines.{rowSize}
 use Rattle.rows.specs.Line.{refusalLine}
 

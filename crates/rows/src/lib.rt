@@ -4,12 +4,12 @@ mod line;
 mod row;
 mod tokens;
 
-use matcher::Lines;
-use matcher::Row;
+use replies::Lines;
+use replies::Row;
 use text::Put;
 ghost use mathlib.Core.Path.{_≡_};
 ghost use lib.ListN.{length};
-ghost use Rattle.matcher.specs.Answers.{numbered};
+ghost use Rattle.replies.specs.Replies.{numbered};
 ghost use Rattle.rows.specs.Line.{refusalPut, refusalIn};
 ghost use Rattle.rows.specs.Put.{PutFits};
 ghost use Rattle.rows.specs.Rows.{rowPut, rowIn};
@@ -60,10 +60,10 @@ pub fn answer_line(row: Row, out: &mut [u8]) -> Put
 }
 
 // A call's refusal.
-fn refused_block(answer: matcher::Answer) -> Block
+fn refused_block(answer: replies::Answer) -> Block
     ensures { λ r. ⌜ r ≡ refusedBlock (numbered answer) ⌝ }
 {
-    let row = matcher::row_of(answer);
+    let row = replies::row_of(answer);
     Block::Refused {
         number: row.number,
         place: row.place,
@@ -100,9 +100,9 @@ pub fn answer_block(
                 refused: rows.refused,
             }
         }
-        Lines::FalseTables => refused_block(matcher::Answer::FalseTables),
-        Lines::Unfit(i) => refused_block(matcher::Answer::Unfit(i)),
-        Lines::NoRule => refused_block(matcher::Answer::NoRule),
+        Lines::FalseTables => refused_block(replies::Answer::FalseTables),
+        Lines::Unfit(i) => refused_block(replies::Answer::Unfit(i)),
+        Lines::NoRule => refused_block(replies::Answer::NoRule),
     }
 }
 

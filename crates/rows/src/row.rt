@@ -4,7 +4,7 @@ use crate::line::put_line;
 use crate::line::put_number;
 use crate::line::spend_line;
 use crate::line::spend_number;
-use matcher::Row;
+use replies::Row;
 use text::inner::splice::put;
 use text::inner::splice::put_byte;
 use text::inner::splice::spend;

@@ -15,10 +15,10 @@ use Rattle.structure.proofs.Steps.{split}
 use Rattle.reader.specs.Read as Read
 use Rattle.reader.specs.Read.{roomForNodes, roomForRules, readOf, leftIn, Leaves}
 use Rattle.build.specs.Rules.{rulesOf}
-use Rattle.matcher.specs.declared.Answer.the-variants as Answer
-use Rattle.matcher.specs.declared.Found.{Found}
-use Rattle.matcher.specs.declared.Found.the-variants as Found
-use Rattle.matcher.specs.Answers.{numbered}
+use Rattle.replies.specs.declared.Answer.the-variants as Answer
+use Rattle.replies.specs.declared.Found.{Found}
+use Rattle.replies.specs.declared.Found.the-variants as Found
+use Rattle.replies.specs.Replies.{numbered}
 use Rattle.matcher.specs.Sought.{foundOf}
 use Rattle.numbers.specs.Numbers.{levelOf, readNumbers}
 use Rattle.show.specs.declared.Layout.{Layout}

@@ -9,11 +9,11 @@ use Rattle.table.specs.Flat.{nodesOf, recordsOf}
 use Rattle.structure.specs.declared.Level.the-variants.{Tagged}
 use Rattle.reader.specs.Read as Read
 use Rattle.build.specs.Rules as Built
-use Rattle.matcher.specs.declared.Answer.the-variants as Answer
-use Rattle.matcher.specs.declared.Row.{Row}
-use Rattle.matcher.specs.declared.Found.{Found}
-use Rattle.matcher.specs.declared.Found.the-variants as Found
-use Rattle.matcher.specs.Answers.{numbered}
+use Rattle.replies.specs.declared.Answer.the-variants as Answer
+use Rattle.replies.specs.declared.Row.{Row}
+use Rattle.replies.specs.declared.Found.{Found}
+use Rattle.replies.specs.declared.Found.the-variants as Found
+use Rattle.replies.specs.Replies.{numbered}
 use Rattle.matcher.specs.Sought.{foundOf}
 use Rattle.show.specs.declared.Layout.{Layout}
 use Rattle.show.specs.declared.Layout.the-variants.{Tables, Refused, NoRule}

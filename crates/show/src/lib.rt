@@ -1,7 +1,7 @@
 // What programs do with a layout: all that the desk is to write, at the front of a lent output; and a layout's
 // tables with the rule of a name. The entry points ask nothing of their callers.
 use forms::Style;
-use matcher::Found;
+use replies::Found;
 use text::Put;
 ghost use mathlib.Core.Path.{_≡_};
 ghost use lib.ListN.{length};
@@ -9,7 +9,7 @@ ghost use Rattle.show.specs.Shown.{refusedBy};
 ghost use Rattle.show.specs.Desk.{answerOf, answerIn, deskOf, deskIn};
 ghost use Rattle.structure.specs.declared.Level.the-variants.{Tagged};
 ghost use Rattle.reader.specs.Read.{roomForNodes, roomForRules, readOf, Leaves};
-ghost use Rattle.matcher.specs.Answers.{numbered};
+ghost use Rattle.replies.specs.Replies.{numbered};
 ghost use Rattle.show.specs.Layout.{refusedLayout, layoutOf};
 
 // The bytes of a text or of a refusal's line; or not even the line has room.
@@ -101,10 +101,10 @@ pub fn desk(style: Style, text: &[u8], out: &mut [u8]) -> Shown
 }
 
 // The refusal of tables.
-fn refused_layout(answer: matcher::Answer) -> Layout
+fn refused_layout(answer: replies::Answer) -> Layout
     ensures { λ r. ⌜ r ≡ refusedLayout (numbered answer) ⌝ }
 {
-    let row = matcher::row_of(answer);
+    let row = replies::row_of(answer);
     Layout::Refused {
         number: row.number,
         place: row.place,
@@ -141,7 +141,7 @@ pub fn read_layout(
             store: b,
             start,
         },
-        Found::FalseTables => refused_layout(matcher::Answer::FalseTables),
+        Found::FalseTables => refused_layout(replies::Answer::FalseTables),
         Found::NoRule => Layout::NoRule,
     }
 }

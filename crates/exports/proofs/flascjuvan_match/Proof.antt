@@ -1,6 +1,6 @@
 use mathlib.Core.Path.{ap, _∙_}
 use Rattle.matcher.specs.Lines.{fields}
-use Rattle.matcher.specs.Answers.{numbered}
+use Rattle.replies.specs.Replies.{numbered}
 use borrow.Author.Needs.{needs}
 use Rattle.exports.proofs.flascjuvan_match.Statement.{statement}
 use Rattle.exports.proofs.flascjuvan_match.Tie as tie

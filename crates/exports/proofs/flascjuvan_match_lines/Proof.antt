@@ -1,5 +1,5 @@
 use mathlib.Core.Path.{ap, _∙_}
-use Rattle.matcher.specs.Lines.{tallied}
+use Rattle.replies.specs.Replies.{tallied}
 use Rattle.numbers.specs.Numbers.{tallyNumbers}
 use borrow.Author.Needs.{needs}
 use Rattle.exports.proofs.flascjuvan_match_lines.Statement.{statement}

@@ -1,5 +1,5 @@
 use mathlib.Core.Path.{ap, _∙_}
-use Rattle.matcher.specs.Sought.{finding}
+use Rattle.replies.specs.Replies.{finding}
 use Rattle.numbers.specs.Numbers.{findingNumbers}
 use borrow.Author.Needs.{needs}
 use Rattle.exports.proofs.flascjuvan_rule_named.Statement.{statement}

@@ -1,6 +1,6 @@
 // What is done at a leaf.
-use crate::Most;
 use crate::Outcome;
+use links::Most;
 use table::Character;
 ghost use mathlib.Core.Path.{_≡_};
 ghost use Prim.Native.Nat.{_+_, _≤_};

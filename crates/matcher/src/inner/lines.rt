@@ -1,32 +1,20 @@
 // The lines of a text, and their records.
 use super::visits::run_line;
 use crate::Line;
-use crate::Lines;
-use crate::Row;
-use crate::row_of;
+use replies::Lines;
+use replies::Row;
+use replies::row_of;
 ghost use mathlib.Core.Path.{_≡_};
 ghost use Prim.Native.Nat.{_+_, _≤_, _<_};
 ghost use lib.ListN.{length, drop};
 ghost use lib.Seq.{sets};
 ghost use Rattle.table.specs.Record.{nodesIn};
-ghost use Rattle.matcher.specs.Program.{linkedAt, Sound};
+ghost use Rattle.links.specs.Program.{linkedAt, Sound};
 ghost use Rattle.matcher.specs.Answers.{lineOf};
 ghost use Rattle.matcher.specs.Lines.{bodySize, lineSize, rowSize, fields, ranOver, recorded};
 
 // The numbers in a line's record.
 pub const ROW_SIZE: usize = 5;
-
-pub(crate) fn row(number: u64, place: u64, matched: u64, length: u64, steps: u64) -> Row
-    ensures { λ r. ⌜ r ≡ record { number = number; place = place; matched = matched; length = length; steps = steps } ⌝ }
-{
-    Row {
-        number,
-        place,
-        matched,
-        length,
-        steps,
-    }
-}
 
 fn put_row(row: Row, records: &mut [u64], at: usize)
     requires { ⌜ at + rowSize ≤ length (now records) ⌝ }

@@ -4,7 +4,7 @@ use mathlib.Core.Path.{_≡_, refl}
 use native.Mathlib.Omega.{arith}
 use denote.Ref.{now}
 use lib.ListN.{length}
-use Rattle.matcher.specs.Program.{linkedAt}
+use Rattle.links.specs.Program.{linkedAt}
 use Rattle.matcher.specs.Answers.{lineOf}
 use Rattle.matcher.proofs.Rows.{Done, line-inside, done-none, done-more, done-text, now-text, done-full, now-full}
 use borrow.Author.Needs.{needs}

@@ -16,7 +16,7 @@ use Rattle.matcher.proofs.inner.leaves.any_at.Reads as any-at-reads
 use Rattle.matcher.proofs.inner.leaves.is_full.Reads as is-full-reads
 use Rattle.matcher.proofs.inner.leaves.range_at.Reads as range-at-reads
 use Rattle.matcher.proofs.inner.leaves.text_at.Reads as text-at-reads
-use Rattle.matcher.proofs.inner.nodes.linked_at.Reads as linked-at-reads
+use Rattle.links.proofs.inner.nodes.linked_at.Reads as linked-at-reads
 use Rattle.matcher.proofs.inner.visits.+repeat+visit.{statement}
 use Rattle.matcher.proofs.inner.visits.+repeat+visit.Tie.{close}
 

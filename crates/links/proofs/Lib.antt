@@ -1,0 +1,3 @@
+-- The laws of names and of tables that can be run.
+pub mod Naming
+pub mod Asked

@@ -1,0 +1,2 @@
+-- Replies: the definitions that the contracts of this crate cite.
+pub mod Replies
