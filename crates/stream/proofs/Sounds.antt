@@ -43,17 +43,6 @@ many-two k m n g h v w = let l : length (listOf g ++ listOf h) ≡ length (listO
 
 -- ---- a number that is none of the first n
 
-abbrev pub NoneOf : Type 0 → ℕ → ℕ → Type 0
-NoneOf T zero c = T
-NoneOf T (suc n) c = NoneOf T n c × (c ≡ n → ⊥)
-
-pub beyond : (T : Type 0) (n c : ℕ) → NoneOf T n c → n ≤ c
-beyond T zero c h = omega arith
-beyond T (suc n) c h =
-    let l : n ≤ c = beyond T n c (h .0) in
-    let e : c ≡ n → ⊥ = h .1 in
-    omega arith
-
 -- ---- a step
 
 unless-bad : (n : ℕ) (k : Check) (f : Unit {0} → Step) (p : ℕ) → k ≡ Bad p → unless n k f ≡ Faults n p

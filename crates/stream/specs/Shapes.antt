@@ -6,7 +6,6 @@ use mathlib.Core.List.{List, [], _++_}
 use Rattle.token.specs.Lists.{Tok}
 use Rattle.states.specs.declared.Stand.{Stand}
 use Rattle.states.specs.declared.Utf.{Utf}
-use Rattle.stream.specs.declared.Packed.{Packed}
 use Rattle.stream.specs.declared.Stepped.{Stepped}
 use Rattle.stream.specs.declared.Stepped.the-variants.{Moves, Stops}
 use Rattle.stream.specs.declared.Ran.{Ran}
@@ -14,14 +13,10 @@ use Rattle.stream.specs.declared.Ran.the-variants.{Stands, Refuses}
 use Rattle.states.specs.declared.Status.the-variants.{Open, Held}
 use Rattle.states.specs.declared.Call.{Call}
 use Rattle.states.specs.Machine.{Out}
-use Rattle.states.specs.Keep.{Parts, parts, waiting, stateFits, utfFits}
+use Rattle.states.specs.Keep.{waiting, stateFits, utfFits}
 use Rattle.steps.specs.Shapes.{listOf}
 use Rattle.states.specs.Steps.{Step, Goes, Faults, unless, refusedAt, overAt, movedTo}
 use Rattle.states.specs.Feed.{numbered}
-
--- a state in numbers
-abbrev pub partsBy : Packed → Parts
-partsBy p = parts (p .code) (p .kind) (p .backslash) (p .depth)
 
 -- what a byte or the end does
 abbrev pub steppedOf : Stepped → Step

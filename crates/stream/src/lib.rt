@@ -2,8 +2,6 @@
 // whose end is known.
 //
 // The entry points stand here and ask nothing of their callers.
-mod kept;
-mod opened;
 mod passes;
 
 use states::Call;
@@ -40,14 +38,6 @@ pub enum Ahead {
     Token(usize, usize, usize),
 }
 
-// A state in numbers.
-pub struct Packed {
-    pub code: usize,
-    pub kind: usize,
-    pub backslash: usize,
-    pub depth: usize,
-}
-
 // A call that is refused, with so many records in the list: it reports none.
 fn refused(number: usize, place: usize, records: usize) -> Call
     ensures { λ r. ⌜ r ≡ refusing number place records ⌝ }
@@ -56,7 +46,7 @@ fn refused(number: usize, place: usize, records: usize) -> Call
         number,
         place,
         records: 0,
-        next: kept::held(number, place, records),
+        next: keep::inner::kept::held(number, place, records),
     }
 }
 
@@ -68,7 +58,7 @@ fn good(c: Stand, records: usize) -> Call
         number: 0,
         place: 0,
         records,
-        next: kept::standing(c),
+        next: keep::inner::kept::standing(c),
     }
 }
 
@@ -78,7 +68,7 @@ pub fn feed_packet(state: Feed, packet: &[u8], list: &mut [u32]) -> Call
     ensures answer { λ r. ⌜ r ≡ feedOf state (now (packet .entry)) (now (list .entry)) ⌝ }
     ensures held { λ _. ⌜ now (list .exit) ≡ feedIn state (now (packet .entry)) (now (list .entry)) ⌝ }
 {
-    let status = opened::status(state);
+    let status = keep::inner::opened::status(state);
     match status {
         Status::Held(number, place, records) => refused(number, place, records),
         Status::Open(c) => {
@@ -97,7 +87,7 @@ pub fn feed_end(state: Feed, list: &mut [u32]) -> Call
     ensures answer { λ r. ⌜ r ≡ endOf state (now (list .entry)) ⌝ }
     ensures held { λ _. ⌜ now (list .exit) ≡ endIn state (now (list .entry)) ⌝ }
 {
-    let status = opened::status(state);
+    let status = keep::inner::opened::status(state);
     match status {
         Status::Held(number, place, records) => refused(number, place, records),
         Status::Open(c) => {

@@ -35,7 +35,7 @@ fn take(room: usize, c: Stand, utf: Utf, row: Row) -> Stepped
     ensures { λ r. ⌜ steppedOf r ≡ takenBy room c utf (outOf row) ⌝ }
 {
     let conf = row.conf;
-    let refused = crate::kept::refused(conf);
+    let refused = keep::inner::kept::refused(conf);
     if let Check::Bad(place) = refused {
         return Stepped::Stops(3, place);
     }
@@ -179,5 +179,5 @@ pub(crate) fn last(room: usize, c: Stand) -> Stepped
     if let Check::Bad(place) = over {
         return Stepped::Stops(14, place);
     }
-    Stepped::Moves(steps::Given::No, token, crate::opened::fresh())
+    Stepped::Moves(steps::Given::No, token, keep::inner::opened::fresh())
 }

@@ -28,10 +28,10 @@ fn between(c: Stand) -> bool
 {
     let conf = c.conf;
     let q = conf.state;
-    let p = crate::kept::packed(q);
+    let p = keep::inner::kept::packed(q);
     let u = c.utf;
     if p.code == 0 {
-        return crate::kept::utf_code(u) == 0;
+        return keep::inner::kept::utf_code(u) == 0;
     }
     false
 }

@@ -1,0 +1,2 @@
+-- The law that the codes of states need.
+pub mod Codes

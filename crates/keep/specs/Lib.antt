@@ -1,0 +1,2 @@
+-- What is kept: the definition that this crate adds to those of `states`.
+pub mod Packs
