@@ -2,7 +2,7 @@
 use Prim.Native.Nat.{ℕ, _+_, _-_, _*_, _≤_, _<_}
 use mathlib.Core.Path.{_≡_, refl, sym, ap, _∙_}
 use mathlib.Core.Bool.{Bool, true, false}
-use mathlib.Core.List.{List, [], _∷_}
+use mathlib.Core.List.{List}
 use native.Mathlib.Omega.{arith}
 use lib.ListN.{length}
 use lib.Seq.{sets}
@@ -17,7 +17,7 @@ use Rattle.table.specs.declared.Leaf.the-variants.{Text, Range, PeekSlice}
 use Rattle.table.specs.declared.Node.the-variants.{Tip}
 use Rattle.table.specs.Tree.{Span, Atom, text, range, peekSlice, atomStored, leaf, below, count, size, stored}
 use Rattle.table.specs.Record.{nodeSize}
-use Rattle.table.specs.Flat.{recordOf, numbersOf}
+use Rattle.table.specs.Flat.{recordOf}
 use Rattle.table.specs.Flat as Flat
 use Rattle.text.specs.Choice.{choose, and}
 use Rattle.structure.specs.declared.Refusal.the-variants.{NotAllowed}

@@ -2,7 +2,7 @@
 use Prim.Native.Nat.{ℕ, _+_, _-_, _≤_, _<_}
 use mathlib.Core.Path.{_≡_, refl, sym, ap, _∙_}
 use mathlib.Core.Bool.{true, false}
-use mathlib.Core.List.{List, [], _∷_}
+use mathlib.Core.List.{List, []}
 use native.Mathlib.Omega.{arith}
 use lib.ListN.{length}
 use lib.Dec.{ltb}
@@ -14,7 +14,7 @@ use Rattle.text.proofs.Splices.{wrote-none}
 use Rattle.table.specs.declared.Op.the-variants.{NodeTag}
 use Rattle.table.specs.declared.Node.the-variants.{One}
 use Rattle.table.specs.Tree.{Span, nodeTag, Tree, stored, placeOf, startsAt}
-use Rattle.table.specs.Flat.{numbersOf, recordOf, flat}
+use Rattle.table.specs.Flat.{recordOf, flat}
 use Rattle.structure.specs.declared.Level.{Level}
 use Rattle.structure.specs.declared.Level.the-variants as Level
 use Rattle.structure.specs.Answers.{tagNodes}

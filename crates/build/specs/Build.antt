@@ -9,7 +9,7 @@ use lib.Seq.{sets}
 use Rattle.text.specs.declared.Check.{Check}
 use Rattle.text.specs.declared.Check.the-variants as Check
 use Rattle.literal.specs.Escapes.{badEscape}
-use Rattle.table.specs.Tree.{Span, text, Tree, leaf, count, size, stored, placeOf, endsAt, startsAt}
+use Rattle.table.specs.Tree.{Span, text, Tree, leaf, count, size, stored, placeOf, startsAt}
 use Rattle.table.specs.Record.{nodeSize}
 use Rattle.records.specs.Records.{written, most}
 use Rattle.table.specs.Flat.{recordOf, flat}

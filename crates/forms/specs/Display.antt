@@ -1,6 +1,6 @@
 -- The same text in the words of ast.rs: `Display`, `as_postfix_operand`, and the loop over a chain.
 use Prim.Native.Nat.{ℕ}
-use mathlib.Core.Bool.{Bool, true, false}
+use mathlib.Core.Bool.{Bool, false}
 use mathlib.Core.List.{List, [], _∷_, _++_, map}
 use Rattle.text.specs.Choice.{choose}
 use Rattle.text.specs.Digits.{decimal}
@@ -9,8 +9,6 @@ use Rattle.table.specs.declared.Unary.the-variants.{PosPred, NegPred, Opt, Rep,
 use Rattle.table.specs.Tree.{Wrap, plain, nodeTag, Tree, leaf, one, two}
 use Rattle.table.specs.Regroup.{sameJoin}
 use Rattle.forms.specs.declared.Place.the-variants.{Alone}
-use Rattle.forms.specs.declared.Form.{Form}
-use Rattle.forms.specs.declared.Form.the-variants.{Plain, Range, Prefix, Postfix, Tag, Joined}
 use Rattle.forms.specs.declared.Style.the-variants.{Full}
 use Rattle.forms.specs.Printing.{isPrefix, wrapForm, separator, printed}
 

@@ -10,7 +10,7 @@ use Rattle.table.specs.declared.Fault.{Fault}
 use Rattle.table.specs.declared.Fault.the-variants as Fault
 use Rattle.table.specs.declared.TableCheck.{TableCheck}
 use Rattle.table.specs.declared.TableCheck.the-variants as Table
-use Rattle.table.specs.Characters.{choose, and, faultOf}
+use Rattle.table.specs.Characters.{choose, faultOf}
 use Rattle.table.specs.Record.{nodesIn, rulesIn}
 use Rattle.table.specs.Check.{isGood, lowest, tables, Valid}
 use Rattle.table.proofs.Branches.{and-true, and-both, and-first, and-second, choose-true, choose-false}

@@ -1,15 +1,14 @@
 -- Laws of names and links. Where each node's link is its name's, the table with links is the program; and where the tables aren't false,
 -- each node of it leads to nodes and into the store.
-use mathlib.Core.Bool.{Bool, true, false, not}
+use mathlib.Core.Bool.{Bool, true, false}
 use mathlib.Core.Path.{_≡_, refl, sym, ap, _∙_, fun-ext, subst}
-use mathlib.Core.List.{List, [], _∷_}
+use mathlib.Core.List.{List}
 use Prim.Native.Nat.{ℕ, zero, suc, _+_, _*_, _-_, _≤_, _<_}
 use native.Mathlib.Omega.{arith}
 use native.Mathlib.Decide.{decLt}
-use lib.Dec.{eqb, leb, ltb}
+use lib.Dec.{eqb, leb}
 use lib.ListN.{length, getD, set, take, drop, length-set, List·getD-eq-default}
 use lib.Seq.{getD-set-same, getD-set-other}
-use borrow.Author.Tests.{eq-eqb, ne-eqb, lt-ltb, le-ltb, ltb-true}
 use Rattle.table.specs.declared.Join.{Join}
 use Rattle.table.specs.declared.Join.the-variants as Join
 use Rattle.table.specs.declared.Unary.{Unary}
@@ -35,8 +34,7 @@ use Rattle.table.proofs.Nodes.{sound-tip, sound-one, sound-two, sound-below}
 use Rattle.table.proofs.Texts.{leaf-inside, part-between}
 use Rattle.table.proofs.Tables.{sound-at}
 use Rattle.table.proofs.Names.{named-rule}
-use Rattle.table.proofs.Lowest.{lowest-more, lowest-bad, lowest-good}
-use Rattle.links.specs.declared.Most.{Most}
+use Rattle.table.proofs.Lowest.{lowest-more, lowest-bad}
 use Rattle.links.specs.declared.Most.the-variants.{UpTo}
 use Rattle.links.specs.declared.Link.{Link}
 use Rattle.links.specs.declared.Link.the-variants.{To, Nowhere}

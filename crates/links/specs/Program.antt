@@ -1,5 +1,5 @@
 -- What each node asks of a line, with names looked up.
-use Prim.Native.Nat.{ℕ, zero, suc, _+_, _-_, _≤_, _<_}
+use Prim.Native.Nat.{ℕ, zero, suc, _+_, _≤_, _<_}
 use mathlib.Core.Bool.{Bool, true, false, not}
 use mathlib.Core.Path.{_≡_}
 use mathlib.Core.List.{List, [], _∷_}
@@ -20,7 +20,6 @@ use Rattle.table.specs.Characters.{choose, and, or}
 use Rattle.table.specs.Record.{nodesIn, rulesIn, part, nodeAt, nameAt, rootAt}
 use Rattle.table.specs.Check.{maxNodes, lowest, isGood}
 use Rattle.table.specs.Names.{sameText, ruleNamed}
-use Rattle.links.specs.declared.Most.{Most}
 use Rattle.links.specs.declared.Most.the-variants.{UpTo, NoEnd}
 use Rattle.links.specs.declared.Link.{Link}
 use Rattle.links.specs.declared.Link.the-variants.{To, Nowhere}

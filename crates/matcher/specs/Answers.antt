@@ -1,14 +1,11 @@
 -- The answers: refusals in their order, then what a run gives. Numbers 30 to 34.
-use mathlib.Core.Bool.{Bool, true, false}
-use mathlib.Core.List.{List, [], _∷_}
-use Prim.Native.Nat.{ℕ, zero, suc, _-_}
+use mathlib.Core.List.{List}
+use Prim.Native.Nat.{ℕ, _-_}
 use Rattle.table.specs.declared.Fault.{Fault}
 use Rattle.table.specs.declared.Fault.the-variants.{None, At}
-use Rattle.table.specs.declared.TableCheck.{TableCheck}
-use Rattle.table.specs.declared.TableCheck.the-variants as Table
-use Rattle.table.specs.Characters.{choose, firstBad, faultOf}
-use Rattle.table.specs.Record.{nodesIn, rootAt}
-use Rattle.table.specs.Check.{tables, lowest}
+use Rattle.table.specs.Characters.{firstBad, faultOf}
+use Rattle.table.specs.Record.{rootAt}
+use Rattle.table.specs.Check.{tables}
 use Rattle.links.specs.declared.Act.{Act}
 use Rattle.matcher.specs.declared.Outcome.{Outcome}
 use Rattle.matcher.specs.declared.Outcome.the-variants as Outcome
@@ -16,7 +13,6 @@ use Rattle.links.specs.declared.Ready.{Ready}
 use Rattle.links.specs.declared.Ready.the-variants as Ready
 use Rattle.replies.specs.declared.Answer.{Answer}
 use Rattle.replies.specs.declared.Answer.the-variants.{Matched, NoMatch, FalseTables, Unfit, NoRule, NotUtf8, Over}
-use Rattle.replies.specs.declared.Row.{Row}
 use Rattle.links.specs.Program.{program}
 use Rattle.links.specs.Ready.{readyOf}
 use Rattle.matcher.specs.Match.{visit}

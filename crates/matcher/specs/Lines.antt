@@ -1,5 +1,4 @@
 -- The lines of a text, and an answer for each.
-use mathlib.Core.Bool.{Bool, true, false}
 use mathlib.Core.List.{List, [], _∷_, _++_}
 use Prim.Native.Nat.{ℕ, zero, suc, _+_, _/_}
 use lib.Dec.{eqb}
@@ -13,7 +12,6 @@ use Rattle.replies.specs.declared.Answer.the-variants as Answer
 use Rattle.replies.specs.declared.Row.{Row}
 use Rattle.replies.specs.declared.Lines.{Lines}
 use Rattle.replies.specs.declared.Lines.the-variants.{Ran, FalseTables, Unfit, NoRule}
-use Rattle.replies.specs.declared.Tally.{Tally}
 use Rattle.links.specs.Program.{program}
 use Rattle.matcher.specs.Answers.{lineOf}
 use Rattle.replies.specs.Replies.{numbered}

@@ -1,9 +1,9 @@
 -- What a visit to a node gives. Each visit takes one of the steps that are left, and one of the nested visits that are left.
 use mathlib.Core.Bool.{Bool, true, false}
-use Prim.Native.Nat.{ℕ, zero, suc, _+_, _-_}
+use Prim.Native.Nat.{ℕ, zero, suc, _+_}
 use mathlib.Core.List.{List, [], _∷_}
-use lib.Dec.{eqb, leb, ltb}
-use lib.ListN.{length, drop}
+use lib.Dec.{eqb, leb}
+use lib.ListN.{drop}
 use Rattle.table.specs.declared.Character.{Character}
 use Rattle.table.specs.declared.Character.the-variants.{Is, Broken}
 use Rattle.table.specs.Characters.{choose, and, within, charOf, character}

@@ -7,12 +7,8 @@ use Rattle.table.specs.declared.Named.{Named}
 use Rattle.table.specs.declared.Named.the-variants.{By, Nobody}
 use Rattle.table.specs.Check.{tables}
 use Rattle.table.specs.Names.{ruleNamed}
-use Rattle.replies.specs.declared.Answer.the-variants as Answer
-use Rattle.replies.specs.declared.Row.{Row}
 use Rattle.replies.specs.declared.Found.{Found}
 use Rattle.replies.specs.declared.Found.the-variants.{Rule, FalseTables, NoRule}
-use Rattle.replies.specs.declared.Finding.{Finding}
-use Rattle.replies.specs.Replies.{numbered}
 
 abbrev pub foundBy : Named → Found
 foundBy (By k) = Rule k

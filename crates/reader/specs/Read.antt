@@ -1,7 +1,7 @@
 -- What the reader answers, and what it leaves in the lent buffers.
 use Prim.Native.Nat.{ℕ, min}
 use mathlib.Core.Path.{_≡_}
-use mathlib.Core.List.{List, []}
+use mathlib.Core.List.{List}
 use lib.Dec.{leb}
 use lib.ListN.{length}
 use Rattle.text.specs.Choice.{choose}

@@ -5,6 +5,8 @@
 // there before, then what was used of each (of the longer ones a sum).
 use reader::Reading;
 use structure::Level;
+use table::inner::records::NODE_SIZE;
+use table::inner::records::RULE_SIZE;
 
 fn write_numbers(s: &[u32]) {
     if 300 < s.len() {
@@ -47,8 +49,8 @@ fn answer(
     if 5000 < count {
         return;
     }
-    let n = 6 * used;
-    let m = 6 * count;
+    let n = NODE_SIZE * used;
+    let m = RULE_SIZE * count;
     if nodes.len() < n {
         return;
     }

@@ -21,6 +21,8 @@ use forms::Style;
 use printer::Printed;
 use reader::Reading;
 use structure::Level;
+use table::inner::records::NODE_SIZE;
+use table::inner::records::RULE_SIZE;
 use token::Listed;
 ghost use Prim.Native.Nat.{_≤_, _+_};
 ghost use lib.ListN.{length};
@@ -77,8 +79,8 @@ fn answer_read(
     if 5000 < count {
         return;
     }
-    let n = 6 * used;
-    let m = 6 * count;
+    let n = NODE_SIZE * used;
+    let m = RULE_SIZE * count;
     if nodes.len() < n {
         return;
     }

@@ -1,5 +1,4 @@
 -- The numbers of what the matcher answers: 30 to 34 are its refusals.
-use Prim.Native.Nat.{ℕ}
 use Rattle.replies.specs.declared.Answer.{Answer}
 use Rattle.replies.specs.declared.Answer.the-variants as Answer
 use Rattle.replies.specs.declared.Row.{Row}

@@ -2,6 +2,8 @@
 // tables with the rule of a name. The entry points ask nothing of their callers.
 use forms::Style;
 use replies::Found;
+use table::inner::records::NODE_SIZE;
+use table::inner::records::RULE_SIZE;
 use text::Put;
 ghost use mathlib.Core.Path.{_≡_};
 ghost use lib.ListN.{length};
@@ -57,8 +59,8 @@ fn print_back(style: Style, text: &[u8], out: &mut [u8]) -> Answer
             place: read[1],
         };
     }
-    let n = 6 * read[2] as usize;
-    let r = 6 * read[3] as usize;
+    let n = NODE_SIZE * read[2] as usize;
+    let r = RULE_SIZE * read[3] as usize;
     let b = read[4] as usize;
     let mut printed = [0u64; 3];
     exports::print_styled(
@@ -130,8 +132,8 @@ pub fn read_layout(
             place: read[1],
         };
     }
-    let n = 6 * read[2] as usize;
-    let r = 6 * read[3] as usize;
+    let n = NODE_SIZE * read[2] as usize;
+    let r = RULE_SIZE * read[3] as usize;
     let b = read[4] as usize;
     let found = matcher::rule_named(&nodes[..n], &rules[..r], &store[..b], name);
     match found {

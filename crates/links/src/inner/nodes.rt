@@ -10,7 +10,6 @@ use table::Sort;
 use table::Unary;
 ghost use mathlib.Core.Path.{_≡_};
 ghost use Prim.Native.Nat.{_<_};
-ghost use lib.ListN.{getD};
 ghost use Rattle.table.specs.declared.Node.the-variants.{Tip};
 ghost use Rattle.table.specs.Record.{nodesIn};
 ghost use Rattle.links.specs.Program.{linked, unaryAct, actOf, linkedAt, mentionOf, isFit};

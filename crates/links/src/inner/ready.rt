@@ -11,7 +11,7 @@ use table::inner::records::NODE_SIZE;
 use table::inner::records::RULE_SIZE;
 ghost use mathlib.Core.Path.{_≡_};
 ghost use mathlib.Core.Bool.{true};
-ghost use Prim.Native.Nat.{_<_, _≤_};
+ghost use Prim.Native.Nat.{_<_};
 ghost use lib.ListN.{length};
 ghost use Rattle.table.specs.Characters.{faultOf};
 ghost use Rattle.table.specs.Record.{nodesIn, rulesIn, rootAt};

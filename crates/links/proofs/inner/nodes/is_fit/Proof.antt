@@ -1,7 +1,7 @@
 -- Each shape of node computes to whether it fits; its children don't matter.
 use mathlib.Core.Path.{sym}
 use Rattle.links.proofs.Naming.{fit-one, fit-two}
-use Rattle.links.specs.Program.{isFit, actOf}
+use Rattle.links.specs.Program.{actOf}
 use borrow.Author.Needs.{needs}
 use Rattle.links.proofs.inner.nodes.is_fit.Statement.{statement}
 use Rattle.links.proofs.inner.nodes.is_fit.Tie as tie

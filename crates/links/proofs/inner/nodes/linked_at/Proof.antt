@@ -1,4 +1,4 @@
-use Rattle.links.specs.Program.{actOf, linkedAt}
+use Rattle.links.specs.Program.{linkedAt}
 use borrow.Author.Needs.{needs}
 use Rattle.links.proofs.inner.nodes.linked_at.Statement.{statement}
 use Rattle.links.proofs.inner.nodes.linked_at.Tie as tie

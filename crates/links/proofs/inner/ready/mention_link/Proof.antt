@@ -2,10 +2,10 @@
 use Rattle.links.proofs.Naming.{mention-named}
 use Rattle.links.specs.Program.{Inside}
 use mathlib.Core.Path.{subst}
-use Rattle.links.specs.Program.{linkFor, Inside}
+use Rattle.links.specs.Program.{Inside}
 use denote.Ref.{now}
 use native.Mathlib.Omega.{arith}
-use mathlib.Core.Path.{sym, ap, _∙_, subst}
+use mathlib.Core.Path.{subst}
 use borrow.Author.Needs.{needs}
 use Rattle.links.proofs.inner.ready.mention_link.Statement.{statement}
 use Rattle.links.proofs.inner.ready.mention_link.Tie as tie

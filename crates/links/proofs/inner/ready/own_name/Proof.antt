@@ -1,7 +1,6 @@
 -- The head has the name in the store, and the search for it finds the rule itself or another.
 use Rattle.links.proofs.Naming.{own-any, own-by, own-nobody}
 use Rattle.table.proofs.Names.{head-name, head-inside}
-use mathlib.Core.Path.{sym, _∙_}
 use native.Mathlib.Omega.{arith}
 use borrow.Author.Needs.{needs}
 use Rattle.links.proofs.inner.ready.own_name.Statement.{statement}

@@ -6,7 +6,6 @@ use Rattle.table.specs.Check.{lowest}
 use Rattle.table.specs.Record.{rulesIn}
 use Rattle.table.specs.Characters.{Good}
 use borrow.Author.Tests.{not-true, not-false}
-use borrow.Author.Needs.{needs}
 use denote.Ref.{now}
 use native.Mathlib.Omega.{arith}
 use mathlib.Core.Path.{_≡_, refl, sym, _∙_}

@@ -4,7 +4,6 @@ use Rattle.table.proofs.Names.{valid-inside}
 use borrow.Author.Tests.{not-true, not-false}
 use native.Mathlib.Omega.{arith}
 use Prim.Native.Nat.{ℕ}
-use mathlib.Core.Path.{_≡_}
 use borrow.Author.Needs.{needs}
 use Rattle.links.proofs.inner.ready.prepare.Statement.{statement}
 use Rattle.links.proofs.inner.ready.prepare.Tie as tie

@@ -2,9 +2,6 @@ use Rattle.table.specs.Flat.{numbersOf}
 use borrow.Author.Needs.{needs}
 use Rattle.records.proofs.inner.nodes.put_range.Statement.{statement}
 use Rattle.records.proofs.inner.nodes.put_range.Tie as tie
-use Rattle.records.proofs.inner.nodes.put_range.Reads as reads
-use Rattle.records.proofs.inner.nodes.put_range.Lts as lts
-use Rattle.records.proofs.inner.nodes.put_node.Reads as put-node-reads
 
 -- src/inner/nodes.rt:115:5
 put-node-requires : tie.Need-put-node-requires

@@ -3,9 +3,6 @@ use Rattle.records.proofs.Patches.{slice-is}
 use borrow.Author.Needs.{needs}
 use Rattle.records.proofs.inner.nodes.put_slice.Statement.{statement}
 use Rattle.records.proofs.inner.nodes.put_slice.Tie as tie
-use Rattle.records.proofs.inner.nodes.put_slice.Reads as reads
-use Rattle.records.proofs.inner.nodes.put_slice.Lts as lts
-use Rattle.records.proofs.inner.nodes.put_node.Reads as put-node-reads
 
 -- src/inner/nodes.rt:124:31
 enum-told : tie.Need-enum-told

@@ -2,9 +2,6 @@ use Rattle.table.specs.Flat.{numbersOf}
 use borrow.Author.Needs.{needs}
 use Rattle.records.proofs.inner.nodes.put_tag.Statement.{statement}
 use Rattle.records.proofs.inner.nodes.put_tag.Tie as tie
-use Rattle.records.proofs.inner.nodes.put_tag.Reads as reads
-use Rattle.records.proofs.inner.nodes.put_tag.Lts as lts
-use Rattle.records.proofs.inner.nodes.put_node.Reads as put-node-reads
 
 -- src/inner/nodes.rt:135:37
 sub-put-node : tie.Need-sub-put-node

@@ -6,8 +6,6 @@ use mathlib.Core.Path.{refl}
 use borrow.Author.Needs.{needs}
 use Rattle.records.proofs.inner.rules.put_rule.Statement.{statement}
 use Rattle.records.proofs.inner.rules.put_rule.Tie as tie
-use Rattle.records.proofs.inner.rules.put_rule.Reads as reads
-use Rattle.records.proofs.inner.rules.put_rule.Lts as lts
 
 -- src/inner/rules.rt:21:13
 mul-i : tie.Need-mul-i
