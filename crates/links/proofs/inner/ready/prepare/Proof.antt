@@ -1,4 +1,5 @@
 -- The questions are asked in the order of their numbers, each once those before it are settled.
+use mathlib.Core.Path.{_≡_}
 use Rattle.links.proofs.Asked.{ready-shape, ready-node, ready-rule, ready-unfit, ready-start, ready-own, ready-known, ready-yes, ready-valid}
 use Rattle.table.proofs.Names.{valid-inside}
 use borrow.Author.Tests.{not-true, not-false}
