@@ -35,6 +35,7 @@ pub mod Examples
 pub mod Places
 pub mod Arrives
 -- the twelve examples, uniqueness, wrong programs
+pub mod Opened
 pub mod Sample
 pub mod Twelve
 pub mod Unique

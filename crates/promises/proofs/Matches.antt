@@ -4,36 +4,6 @@ use mathlib.Core.Path.{_≡_, refl, sym, ap, _∙_}
 use mathlib.Core.List.{List, [], _∷_}
 use native.Mathlib.Omega.{arith}
 use lib.ListN.{take, drop, getD}
-use Rattle.text.specs.Choice as TextChoice
-use Rattle.text.specs.Classes as TextClasses
-use Rattle.text.specs.Digits as TextDigits
-use Rattle.text.specs.Scans as TextScans
-use Rattle.text.specs.Splice as TextSplice
-use Rattle.text.specs.Utf8 as TextUtf8
-use Rattle.text.specs.Words as TextWords
-use Rattle.literal.specs.Escapes as LiteralEscapes
-use Rattle.literal.specs.Literals as LiteralLiterals
-use Rattle.token.specs.Blanks as TokenBlanks
-use Rattle.token.specs.Lister as TokenLister
-use Rattle.token.specs.Lists as TokenLists
-use Rattle.token.specs.Tokens as TokenTokens
-use Rattle.table.specs.Check as TableCheck
-use Rattle.table.specs.Flat as TableFlat
-use Rattle.table.specs.Record as TableRecord
-use Rattle.table.specs.Regroup as TableRegroup
-use Rattle.table.specs.Tree as TableTree
-use Rattle.structure.specs.Answers as StructureAnswers
-use Rattle.structure.specs.Structure as StructureStructure
-use Rattle.structure.specs.Tokens as StructureTokens
-use Rattle.structure.specs.Values as StructureValues
-use Rattle.records.specs.Records as RecordsRecords
-use Rattle.build.specs.Build as BuildBuild
-use Rattle.reader.specs.Read as ReaderRead
-use Rattle.table.specs.Names as TableNames
-use Rattle.links.specs.Program as MatcherProgram
-use Rattle.matcher.specs.Match as MatcherMatch
-use Rattle.matcher.specs.Answers as MatcherAnswers
-use Rattle.matcher.specs.Lines as MatcherLines
 use Rattle.table.specs.Tree.{rulesStored}
 use Rattle.table.specs.Flat.{nodesOf, recordsOf}
 use Rattle.structure.specs.declared.Level.the-variants.{Tagged}
@@ -41,8 +11,8 @@ use Rattle.build.specs.Rules.{rulesOf}
 use Rattle.replies.specs.declared.Answer.{Answer}
 use Rattle.replies.specs.declared.Answer.the-variants.{Matched, NoMatch, Unfit, NoRule, NotUtf8, Over}
 use Rattle.matcher.specs.Answers.{matchOf}
-use Rattle.matcher.specs.Lines.{recordsOf as linesRecordsOf}
 use Rattle.promises.specs.Twelve.{ascii}
+use Rattle.promises.proofs.Opened.{all-opened}
 
 -- rule 0 of a layout, read at the tagged level, over a line
 abbrev pub ran : List ℕ → List ℕ → ℕ → Answer
@@ -81,7 +51,7 @@ pub record Matching : Type 0 where
   pub two-lines : ranLines (ascii "r={\"a\"}") (97 ∷ 13 ∷ 10 ∷ 98 ∷ []) zeros ≡ 0 ∷ 0 ∷ 1 ∷ 1 ∷ 1 ∷ 0 ∷ 0 ∷ 0 ∷ 0 ∷ 1 ∷ []
 
 pub matching : Matching
-unfolding TextChoice.all TextClasses.classOf TextDigits.decimalFrom TextDigits.decimalOf TextDigits.digits TextDigits.decimal TextDigits.decimalPut TextDigits.decimalIn TextDigits.hexOf TextDigits.hexDigit TextDigits.hexes TextScans.spelled TextScans.sought TextSplice.spent TextSplice.fronted TextUtf8.scalar TextUtf8.leadOf TextUtf8.gathered TextUtf8.judged TextUtf8.charOf TextUtf8.firstBad TextUtf8.encoded TextUtf8.encodeOf TextUtf8.encodeIn TextWords.isWord TextWords.begins TextWords.wordOf LiteralEscapes.digitsOf LiteralEscapes.simpleOf LiteralEscapes.pairOf LiteralEscapes.bracedOf LiteralEscapes.afterOf LiteralEscapes.escapeOf LiteralEscapes.noEscape LiteralEscapes.badEscape LiteralEscapes.unescaped LiteralEscapes.unescapeOf LiteralEscapes.unescapeIn LiteralLiterals.hexCount LiteralLiterals.showOf LiteralLiterals.shownBy LiteralLiterals.shown LiteralLiterals.inside LiteralLiterals.literal LiteralLiterals.formatOf LiteralLiterals.formatIn TokenBlanks.run TokenBlanks.markOf TokenBlanks.closeOf TokenBlanks.lineBlank TokenBlanks.slashBlank TokenBlanks.returnBlank TokenBlanks.openerBlank TokenBlanks.blankBy TokenLister.nextOf TokenLister.lister TokenLists.tokensIn TokenLists.tokensFrom TokenLists.tokensOf TokenLists.filledOf TokenTokens.allowed TokenTokens.wordToken TokenTokens.tagToken TokenTokens.numberToken TokenTokens.minusToken TokenTokens.dotsToken TokenTokens.insideLook TokenTokens.stringOf TokenTokens.insensToken TokenTokens.quoted TokenTokens.charToken TokenTokens.docToken TokenTokens.openerToken TokenTokens.oneKind TokenTokens.tokenBy TokenTokens.tokenOf TokenTokens.tokenAt TableCheck.shaped TableCheck.isUtf8 TableCheck.isName TableCheck.isLabel TableCheck.goodLeaf TableCheck.goodOp TableCheck.goodAt TableCheck.goodName TableCheck.goodRoot TableCheck.goodRule TableCheck.lowest TableCheck.tables TableCheck.numbered TableCheck.verdict TableCheck.fine TableCheck.fineRule TableCheck.fineRules TableFlat.numbersOf TableFlat.flat TableFlat.front TableFlat.ruleRecord TableFlat.nodesFrom TableFlat.recordsFrom TableRecord.nodeOf TableRecord.nodeAt TableRecord.spanAt TableRecord.rowAt TableRecord.column TableRecord.treeAt TableRecord.firstAt TableRecord.headAt TableRecord.ruleRowAt TableRecord.ruleAt TableRecord.rulesFrom TableRecord.rulesOf TableRegroup.joined TableRegroup.regrouped TableRegroup.parts TableRegroup.regroup TableRegroup.links TableRegroup.grouped TableRegroup.untagged TableRegroup.items TableRegroup.unlabelled TableTree.below TableTree.counts TableTree.stored TableTree.ruleStored TableTree.rulesStored TableTree.aside StructureAnswers.unread StructureAnswers.summary StructureAnswers.wanted StructureAnswers.openingOf StructureAnswers.signs StructureAnswers.bracketOf StructureAnswers.tailOf StructureAnswers.tailed StructureAnswers.ruleSummary StructureAnswers.summaries StructureStructure.next StructureStructure.want StructureStructure.opened StructureStructure.join StructureStructure.closed TableTree.endsAt TableTree.startsAt StructureStructure.before StructureStructure.after StructureStructure.inTag StructureStructure.fromNumber StructureStructure.fromComma StructureStructure.postfixAt StructureStructure.sliceTo StructureStructure.slice StructureStructure.pushed StructureStructure.ranged StructureStructure.leafAt StructureStructure.body StructureStructure.run StructureStructure.Run StructureStructure.markAt StructureStructure.ruleOf StructureStructure.thenRules StructureStructure.ruleAt StructureStructure.rulesIn StructureStructure.docsIn StructureStructure.grammar StructureTokens.tokenOf StructureTokens.kind StructureTokens.start StructureTokens.end StructureTokens.is StructureTokens.part StructureTokens.word StructureTokens.label StructureTokens.spells StructureValues.number StructureValues.integer StructureValues.string StructureValues.character StructureValues.faultAt StructureValues.faultsFrom StructureValues.faults RecordsRecords.written RecordsRecords.ruleWritten BuildBuild.suffixOf ReaderRead.roomBy ReaderRead.listedOf ReaderRead.judgedOf ReaderRead.readOf ReaderRead.leftIn ReaderRead.numbered TableNames.sameText TableNames.otherName TableNames.ruleNamed MatcherProgram.actOf MatcherProgram.linkFor MatcherProgram.mentionOf MatcherProgram.linkAt MatcherProgram.program MatcherProgram.fitAt MatcherProgram.knownAt MatcherProgram.ownAt MatcherProgram.named MatcherMatch.after MatcherMatch.took MatcherMatch.lower MatcherMatch.starts MatcherMatch.one MatcherMatch.full MatcherMatch.rounds MatcherMatch.repeat MatcherMatch.enter MatcherMatch.visit MatcherAnswers.readyNames MatcherAnswers.readyOf MatcherAnswers.reply MatcherAnswers.lineOf MatcherAnswers.matchOf MatcherAnswers.numbered MatcherLines.lines MatcherLines.past MatcherLines.rows MatcherLines.ranOver MatcherLines.linesOf MatcherLines.recorded MatcherLines.recordsOf
+unfolding all-opened
 matching =
     record {
       swallows = refl;
