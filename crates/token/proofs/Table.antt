@@ -104,18 +104,26 @@ spans s i h =
     (p .some, p .within)
 
 -- and past the last one, too, its numbers are small
-pub low : (s : List ℕ) (i : ℕ) → (start s i ≤ end s i) × (end s i ≤ length s) × (kind s i ≤ 27)
-unfolding start end kind tokOf
-low s i = go (decLt i (length (toks s)))
-  where
-    Low : Tok → Type 0
-    Low t = (startOf t ≤ endOf t) × (endOf t ≤ length s) × (kindOf t ≤ 27)
+module _ (s : List ℕ) (i : ℕ) where
+  Low : Tok → Type 0
+  Low t = (startOf t ≤ endOf t) × (endOf t ≤ length s) × (kindOf t ≤ 27)
 
-    go : Dec (i < length (toks s)) → Low (getD (toks s) i (tok 0 (length s) (length s)))
-    go (yes l) =
-        let p = inside-at s i (tok 0 (length s) (length s)) l in
-        (omega arith, p .within, p .known)
-    go (no l) = rw (List·getD-eq-default (toks s) (tok 0 (length s) (length s)) {n = i} (omega arith)) (omega arith, omega arith, omega arith)
+  small : Dec (i < length (toks s)) → Low (tokOf s i)
+  unfolding Low tokOf
+  small (yes l) =
+      let p = inside-at s i (tok 0 (length s) (length s)) l in
+      (omega arith, p .within, p .known)
+  small (no l) = rw (List·getD-eq-default (toks s) (tok 0 (length s) (length s)) {n = i} (omega arith)) (omega arith, omega arith, omega arith)
+
+  pub low : (start s i ≤ end s i) × (end s i ≤ length s)
+  unfolding Low start end
+  low =
+      let p = small (decLt i (length (toks s))) in
+      (p .0, p .1)
+
+  pub known : kind s i ≤ 27
+  unfolding Low kind
+  known = small (decLt i (length (toks s))) .2
 
 -- ---- parts of a text
 

@@ -1,5 +1,5 @@
 -- The table has a token's kind where the code reads; past the last row the definition gives what the code returns.
-use Rattle.token.proofs.Table.{low, kind-in, kind-out}
+use Rattle.token.proofs.Table.{known, kind-in, kind-out}
 use native.Mathlib.Omega.{arith}
 use borrow.Author.Needs.{needs}
 use Rattle.token.proofs.inner.table.kind_at.Statement.{statement}
@@ -23,8 +23,7 @@ shared-slice-read-result c = search needs
 cast-result : tie.Need-cast-result
 cast-result c =
     let e = kind-in _ _ (c .before .before .before .pre) _ (c .before .if2 .left) in
-    let l = low (c .before .before .before .args .text .now) (c .before .before .before .args .at) in
-    omega (arith, c .before .before .before .pre .short)
+    omega (arith, known (c .before .before .before .args .text .now) (c .before .before .before .args .at))
 
 returns-3 : tie.Need-returns-3
 returns-3 c = kind-in _ _ (c .before .before .before .pre) _ (c .before .if2 .left)
