@@ -5,7 +5,7 @@ use mathlib.Core.List.{List}
 use lib.ListN.{length}
 use Rattle.structure.specs.declared.Level.{Level}
 use Rattle.reader.specs.Read.{roomForNodes, roomForRules, readOf, reported, Leaves}
-use Rattle.printer.specs.declared.Style.{Style}
+use Rattle.forms.specs.declared.Style.{Style}
 use Rattle.printer.specs.Answers as Answers
 use Rattle.token.specs.Lister.{lister}
 use Rattle.matcher.specs.Answers as Match

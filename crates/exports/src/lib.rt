@@ -3,11 +3,11 @@
 //
 // Each function answers every input and asks nothing of its caller but memory that is as the types
 // say. include/flascjuvan.h declares them for C.
-use printer::Style;
+use forms::Style;
 ghost use mathlib.Core.Path.{_≡_};
 ghost use lib.ListN.{length};
 ghost use Rattle.token.specs.Lister.{lister};
-ghost use Rattle.printer.specs.declared.Style.the-variants.{Full, Short};
+ghost use Rattle.forms.specs.declared.Style.the-variants.{Full, Short};
 ghost use Rattle.printer.specs.Answers.{printOf, printIn};
 ghost use Rattle.printer.specs.Answers.{reported as printReported};
 ghost use Rattle.reader.specs.Read.{roomForNodes, roomForRules, readOf, Leaves};

@@ -9,10 +9,10 @@ use Rattle.table.specs.declared.TableCheck.{TableCheck}
 use Rattle.table.specs.declared.TableCheck.the-variants as Table
 use Rattle.table.specs.Record.{rulesOf}
 use Rattle.table.specs.Check.{tables}
-use Rattle.printer.specs.declared.Style.{Style}
+use Rattle.forms.specs.declared.Style.{Style}
 use Rattle.printer.specs.declared.Printed.{Printed}
 use Rattle.printer.specs.declared.Printed.the-variants.{Used, Shape, Node, Rule, NoRoom}
-use Rattle.printer.specs.Printing.{printedRules}
+use Rattle.forms.specs.Printing.{printedRules}
 
 -- the text of tables: that of their rules
 unfoldable pub tableText : Style → List ℕ → List ℕ → List ℕ → List ℕ

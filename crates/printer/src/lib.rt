@@ -1,42 +1,15 @@
 // The printer: from tables to text.
 //
-// `print` stands here and asks nothing of its callers. `inner` has what it is made of: what decides
-// about brackets, the parts of a text, and the two walks from a node to its children, one that measures
-// and one that writes. They carry over `Display`, `as_postfix_operand` and `print_rule` of pest_meta's
-// ast.rs.
+// `print` stands here and asks nothing of its callers. `inner` has what it is made of: a bound on the
+// text, and the two walks from a node to its children, one that measures and one that writes. They carry
+// over `Display` and `print_rule` of pest_meta's ast.rs.
 pub mod inner;
 
-use table::Join;
+use forms::Style;
 use table::TableCheck;
 ghost use mathlib.Core.Path.{_≡_};
 ghost use lib.ListN.{length};
 ghost use Rattle.printer.specs.Answers.{printOf, printIn, numbered, reported};
-
-// The two texts of a tree: with the brackets of the Rust's `Display`, or with the fewest that keep it.
-pub enum Style {
-    Full,
-    Short,
-}
-
-// Where an expression stands: as a rule's body or in PUSH( ), behind a predicate or a tag, under a
-// postfix, or on a side of a join.
-pub enum Place {
-    Alone,
-    Prefixed,
-    Operand,
-    LeftOf(Join),
-    RightOf(Join),
-}
-
-// What decides, beside its place, whether an expression stands in brackets.
-pub enum Form {
-    Plain,
-    Range,
-    Prefix,
-    Postfix,
-    Tag,
-    Joined(Join),
-}
 
 // The bytes that the printed text uses; or no whole records, too many, or too long a store; or the
 // lowest false node; or the lowest false rule; or an output that is too short.

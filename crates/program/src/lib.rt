@@ -6,7 +6,7 @@
 // was refused, `2` input or output failed. Without an argument it leaves descriptor 3 alone.
 pub mod inner;
 
-use printer::Style;
+use forms::Style;
 ghost use lib.ListN.{length};
 ghost use Rattle.program.specs.Input.{Within};
 

@@ -19,7 +19,7 @@ use Rattle.table.proofs.Branches.{and-true}
 use Rattle.structure.specs.Tokens.{is}
 use Rattle.promises.specs.Pieces.{Piece, gap, tok, lbrace, rbrace, space, signedKind, endPieces, enclosed, closes, atomPieces, before, after, separator, pieces, markPieces, rulePieces, rulesPieces, Stand}
 use Rattle.promises.specs.Round.{one?, atomDepth, wrapDepth}
-use Rattle.printer.specs.declared.Style.the-variants.{Short}
+use Rattle.forms.specs.declared.Style.the-variants.{Short}
 use Rattle.promises.specs.Styled.{markedRules}
 use Rattle.promises.specs.Marked.{opens}
 use Rattle.promises.specs.Fewest.{opensTo, needs}

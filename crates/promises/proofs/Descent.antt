@@ -13,20 +13,20 @@ use Rattle.table.specs.declared.Join.{Join}
 use Rattle.table.specs.declared.Join.the-variants.{Seq, Choice}
 use Rattle.table.specs.declared.Unary.{Unary}
 use Rattle.table.specs.declared.Unary.the-variants.{PosPred, NegPred, Opt, Rep, RepOnce, RepExact, RepMin, RepMax, RepMinMax, Push}
-use Rattle.table.specs.Tree.{Span, Atom, text, range, peekSlice, Wrap, plain, nodeTag, Tree, leaf, one, two, Nowhere, aside, placeOf, placed}
+use Rattle.table.specs.Tree.{Span, Atom, text, range, peekSlice, Wrap, plain, nodeTag, Tree, leaf, one, two, Nowhere, aside, placeOf, placed, endsAt, startsAt}
 use Rattle.table.specs.Check.{fineAtom, fineWrap, fine}
 use Rattle.table.specs.Regroup.{untagged}
 use Rattle.table.proofs.Branches.{and-true}
 use Rattle.table.proofs.Regroups.{aside-placed}
-use Rattle.printer.specs.declared.Place.{Place}
-use Rattle.printer.specs.declared.Place.the-variants.{Alone, Prefixed, Operand, LeftOf, RightOf}
-use Rattle.printer.specs.declared.Form.{Form}
-use Rattle.printer.specs.declared.Form.the-variants as Form
-use Rattle.printer.specs.Printing.{unaryForm, wrapForm, under}
+use Rattle.forms.specs.declared.Place.{Place}
+use Rattle.forms.specs.declared.Place.the-variants.{Alone, Prefixed, Operand, LeftOf, RightOf}
+use Rattle.forms.specs.declared.Form.{Form}
+use Rattle.forms.specs.declared.Form.the-variants as Form
+use Rattle.forms.specs.Printing.{unaryForm, wrapForm, under}
 use Rattle.structure.specs.declared.Level.{Level}
 use Rattle.structure.specs.declared.Level.the-variants.{Tagged, Plain}
 use Rattle.structure.specs.Tokens.{kind, start, end, is, label, spells}
-use Rattle.structure.specs.Structure.{Parsed, got, refused, next, join, closed, endsAt, startsAt, before, after, inTag, Postfix, post, noPost, postfixAt, postsBy, expr, term, signed, node, chain, posts, Run}
+use Rattle.structure.specs.Structure.{Parsed, got, refused, next, join, closed, before, after, inTag, Postfix, post, noPost, postfixAt, postsBy, expr, term, signed, node, chain, posts, Run}
 use Rattle.structure.proofs.Steps.{choose-true, choose-false, next-good, want-true, opened-false}
 use Rattle.structure.proofs.Grammar.{expr-law, chain-law, term-law, signed-law, node-law, posts-law}
 use Rattle.structure.proofs.Cycle.{finished}
@@ -36,7 +36,7 @@ use Rattle.promises.proofs.Values.{yes, no, spells-by, label-is}
 use Rattle.promises.proofs.Leaves.{gots, posted, posted-first, Ends, unposted, unsliced, leaf-of}
 use Rattle.promises.proofs.Shapes.{cut, stand-as, Begins, begins-atom, begin-by}
 use Rattle.promises.proofs.Shapes as Shapes
-use Rattle.printer.specs.Levels.{own}
+use Rattle.forms.specs.Levels.{own}
 use Rattle.promises.specs.Marked.{least, stands, Fits, put, back, whole}
 use Rattle.promises.proofs.Backs.{back-two, back-free, back-put, goes-seq, goes-choice, enclosed-none, Closes, closes-leaf, closes-one, closes-two}
 

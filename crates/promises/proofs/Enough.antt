@@ -3,14 +3,14 @@ use Prim.Native.Nat.{ℕ, _≤_}
 use native.Mathlib.Omega.{arith}
 use Rattle.text.specs.Choice.{choose}
 use Rattle.table.specs.declared.Join.the-variants.{Seq, Choice}
-use Rattle.printer.specs.declared.Place.{Place}
-use Rattle.printer.specs.declared.Place.the-variants.{Alone, Prefixed, Operand, LeftOf, RightOf}
-use Rattle.printer.specs.declared.Form.{Form}
-use Rattle.printer.specs.declared.Form.the-variants.{Plain, Range, Prefix, Postfix, Tag, Joined}
-use Rattle.printer.specs.declared.Style.{Style}
-use Rattle.printer.specs.declared.Style.the-variants.{Full, Short}
-use Rattle.printer.specs.Printing.{brackets}
-use Rattle.printer.specs.Levels.{own}
+use Rattle.forms.specs.declared.Place.{Place}
+use Rattle.forms.specs.declared.Place.the-variants.{Alone, Prefixed, Operand, LeftOf, RightOf}
+use Rattle.forms.specs.declared.Form.{Form}
+use Rattle.forms.specs.declared.Form.the-variants.{Plain, Range, Prefix, Postfix, Tag, Joined}
+use Rattle.forms.specs.declared.Style.{Style}
+use Rattle.forms.specs.declared.Style.the-variants.{Full, Short}
+use Rattle.forms.specs.Printing.{brackets}
+use Rattle.forms.specs.Levels.{own}
 use Rattle.promises.specs.Marked.{least}
 
 -- how high a form stands at a place

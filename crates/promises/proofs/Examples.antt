@@ -20,9 +20,9 @@ use Rattle.text.specs.Scans.{sought}
 use Rattle.text.specs.Words.{begins, push}
 use Rattle.text.specs.Utf8.{encoded}
 use Rattle.literal.specs.Literals.{shown, showOf, shownBy}
-use Rattle.printer.specs.declared.Style.the-variants.{Full, Short}
-use Rattle.printer.specs.declared.Place.the-variants.{Alone}
-use Rattle.printer.specs.Printing.{brackets, enclosed, character, rangeText, sortText, tagText, printed}
+use Rattle.forms.specs.declared.Style.the-variants.{Full, Short}
+use Rattle.forms.specs.declared.Place.the-variants.{Alone}
+use Rattle.forms.specs.Printing.{brackets, enclosed, character, rangeText, sortText, tagText, printed}
 use Rattle.structure.specs.Tokens.{toks, tokenOf, kind, start, end, is, part, word, spells, pushLiteral}
 use Rattle.structure.proofs.Steps.{inside-is}
 use Rattle.promises.specs.Pairs.{here, past-close, past-open, past-other, Pair, without, cut}

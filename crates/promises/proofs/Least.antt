@@ -7,26 +7,26 @@ use mathlib.Core.Option.{Option, none, some}
 use native.Mathlib.Omega.{arith}
 use Rattle.text.specs.Choice.{choose}
 use Rattle.text.specs.Words.{push}
-use Rattle.table.specs.Tree.{Span, Atom, text, range, peekSlice, plain, nodeTag, Tree, leaf, one, two, placeOf}
+use Rattle.table.specs.Tree.{Span, Atom, text, range, peekSlice, plain, nodeTag, Tree, leaf, one, two, placeOf, endsAt, startsAt}
 use Rattle.table.specs.declared.Join.the-variants.{Seq, Choice}
 use Rattle.table.specs.declared.Unary.{Unary}
 use Rattle.table.specs.declared.Unary.the-variants.{PosPred, NegPred, Opt, Rep, RepOnce, RepExact, RepMin, RepMax, RepMinMax, Push}
 use Rattle.table.specs.declared.Sort.the-variants.{Str, Insens, Ident, PushLiteral}
 use Rattle.table.specs.declared.End.the-variants.{Open, At}
-use Rattle.printer.specs.declared.Place.{Place}
-use Rattle.printer.specs.declared.Place.the-variants.{Alone, Prefixed, Operand, LeftOf, RightOf}
-use Rattle.printer.specs.declared.Form.the-variants as Form
-use Rattle.printer.specs.Printing.{atomForm, unaryForm, under}
+use Rattle.forms.specs.declared.Place.{Place}
+use Rattle.forms.specs.declared.Place.the-variants.{Alone, Prefixed, Operand, LeftOf, RightOf}
+use Rattle.forms.specs.declared.Form.the-variants as Form
+use Rattle.forms.specs.Printing.{atomForm, unaryForm, under}
 use Rattle.structure.specs.declared.Level.{Level}
 use Rattle.structure.specs.declared.Level.the-variants.{Tagged, Plain}
 use Rattle.structure.specs.Tokens.{toks, start, end, is, word, label, across, spells, pushLiteral}
 use Rattle.structure.specs.Values.{number, isInteger, integer, string, character}
-use Rattle.structure.specs.Structure.{Parsed, got, refused, next, want, join, closed, endsAt, startsAt, before, after, inTag, post, fromNumber, fromComma, postfixAt, sliceTo, slice, pushed, ranged, slices, leafAt, Call, expr, term, signed, node, chain, posts, body, place, weight, run, Run}
+use Rattle.structure.specs.Structure.{Parsed, got, refused, next, want, join, closed, before, after, inTag, post, fromNumber, fromComma, postfixAt, sliceTo, slice, pushed, ranged, slices, leafAt, Call, expr, term, signed, node, chain, posts, body, place, weight, run, Run}
 use Rattle.structure.proofs.Steps.{split, no-tree, next-got, want-got, want-post, opened-got, posts-by}
 use Rattle.structure.proofs.Fuel.{postfix-past, leaf-went}
 use Rattle.promises.specs.Round.{one?, atomDepth, unaryDepth}
-use Rattle.printer.specs.Printing.{brackets}
-use Rattle.printer.specs.Levels.{asked}
+use Rattle.forms.specs.Printing.{brackets}
+use Rattle.forms.specs.Levels.{asked}
 use Rattle.promises.specs.Styled.{marked}
 use Rattle.promises.specs.Marked.{opens}
 use Rattle.promises.specs.Fewest.{opensTo, need}

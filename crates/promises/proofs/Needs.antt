@@ -10,16 +10,16 @@ use lib.Dec.{ltb}
 use lib.ListN.{length}
 use borrow.Author.Tests.{ltb-true, ltb-false}
 use Rattle.table.specs.Tree.{Tree, leaf, one, two, aside, placed}
-use Rattle.printer.specs.declared.Place.{Place}
-use Rattle.printer.specs.declared.Place.the-variants.{LeftOf, RightOf}
-use Rattle.printer.specs.declared.Form.the-variants.{Joined}
-use Rattle.printer.specs.Printing.{atomForm, wrapForm, under}
-use Rattle.printer.specs.Levels.{own, asked}
-use Rattle.printer.proofs.Levels.{short-by-level}
+use Rattle.forms.specs.declared.Place.{Place}
+use Rattle.forms.specs.declared.Place.the-variants.{LeftOf, RightOf}
+use Rattle.forms.specs.declared.Form.the-variants.{Joined}
+use Rattle.forms.specs.Printing.{atomForm, wrapForm, under}
+use Rattle.forms.specs.Levels.{own, asked}
+use Rattle.forms.proofs.Levels.{short-by-level}
 use Rattle.structure.specs.Tokens.{toks, is}
 use Rattle.structure.proofs.Steps.{inside-is}
 use Rattle.promises.specs.Round.{one?, atomDepth, wrapDepth}
-use Rattle.printer.specs.declared.Style.the-variants.{Short}
+use Rattle.forms.specs.declared.Style.the-variants.{Short}
 use Rattle.promises.specs.Styled.{marked}
 use Rattle.promises.specs.Marked.{formOf, opens}
 use Rattle.promises.specs.Fewest.{opensTo, opensIn, need}

@@ -9,12 +9,12 @@ use Rattle.table.specs.Tree.{Rule, Nowhere, ruleBy, asideRule}
 use Rattle.table.specs.Record as Record
 use Rattle.table.specs.Regroup.{regroup, untagged, regroupRules, untaggedRules}
 use Rattle.table.specs.Check.{fineRules}
-use Rattle.printer.specs.declared.Style.the-variants.{Full, Short}
+use Rattle.forms.specs.declared.Style.the-variants.{Full, Short}
 use Rattle.printer.specs.Answers.{tableText}
 use Rattle.structure.specs.declared.Level.{Level}
 use Rattle.structure.specs.declared.Level.the-variants.{Tagged, Plain}
 use Rattle.structure.specs.Tokens.{toks}
-use Rattle.reader.specs.Read.{rulesOf}
+use Rattle.build.specs.Rules.{rulesOf}
 use Rattle.promises.specs.Pieces.{spelled, rulesPieces}
 use Rattle.promises.specs.Pairs.{Pair, cut}
 use Rattle.promises.specs.Styled.{markedRules}

@@ -14,13 +14,13 @@ use Rattle.table.specs.Tree.{Atom, Wrap, Tree, leaf, one, two, Rule, Nowhere, a
 use Rattle.table.specs.Check.{isName, fineAtom, fineWrap, fine, fineRule, fineRules}
 use Rattle.table.specs.Regroup.{sameJoin, isJoin, joined, regroup, links}
 use Rattle.table.proofs.Regroups.{regroup-leaf, regroup-one, regroup-two, links-same, links-last}
-use Rattle.printer.specs.declared.Place.{Place}
-use Rattle.printer.specs.declared.Place.the-variants.{Alone, LeftOf, RightOf}
-use Rattle.printer.specs.declared.Form.the-variants.{Joined}
-use Rattle.printer.specs.Printing.{brackets, atomForm, wrapForm, under}
+use Rattle.forms.specs.declared.Place.{Place}
+use Rattle.forms.specs.declared.Place.the-variants.{Alone, LeftOf, RightOf}
+use Rattle.forms.specs.declared.Form.the-variants.{Joined}
+use Rattle.forms.specs.Printing.{brackets, atomForm, wrapForm, under}
 use Rattle.promises.specs.Round.{wrapCounts, counted, countedRules, pushing, holdsPushLiteral, readBack, sight, seen}
-use Rattle.printer.specs.declared.Style.{Style}
-use Rattle.printer.specs.declared.Style.the-variants.{Full, Short}
+use Rattle.forms.specs.declared.Style.{Style}
+use Rattle.forms.specs.declared.Style.the-variants.{Full, Short}
 use Rattle.promises.specs.Styled.{marked, markedRule, markedRules}
 use Rattle.promises.specs.Marked.{least, stands, Fits, FitRules, goesOn, back, whole}
 use Rattle.promises.proofs.Enough.{height, enough}

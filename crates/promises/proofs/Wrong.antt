@@ -24,18 +24,19 @@ use Rattle.table.specs.Record as TableRecord
 use Rattle.table.specs.Regroup as TableRegroup
 use Rattle.table.specs.Tree as TableTree
 use Rattle.printer.specs.Answers as PrinterAnswers
-use Rattle.printer.specs.Display as PrinterDisplay
-use Rattle.printer.specs.Printing as PrinterPrinting
+use Rattle.forms.specs.Display as PrinterDisplay
+use Rattle.forms.specs.Printing as PrinterPrinting
 use Rattle.structure.specs.Answers as StructureAnswers
 use Rattle.structure.specs.Structure as StructureStructure
 use Rattle.structure.specs.Tokens as StructureTokens
 use Rattle.structure.specs.Values as StructureValues
-use Rattle.reader.specs.Build as ReaderBuild
+use Rattle.records.specs.Records as RecordsRecords
+use Rattle.build.specs.Build as BuildBuild
 use Rattle.reader.specs.Read as ReaderRead
 use Rattle.table.specs.Tree.{Span, Tree, Rule, Nowhere, count, counts, rulesStored}
 use Rattle.table.specs.Flat.{nodesOf, recordsOf}
-use Rattle.printer.specs.declared.Style.{Style}
-use Rattle.printer.specs.declared.Style.the-variants.{Full, Short}
+use Rattle.forms.specs.declared.Style.{Style}
+use Rattle.forms.specs.declared.Style.the-variants.{Full, Short}
 use Rattle.printer.specs.Answers.{printOf, printIn}
 use Rattle.structure.specs.declared.Level.{Level}
 use Rattle.structure.specs.declared.Level.the-variants.{Tagged}
@@ -51,7 +52,8 @@ use Rattle.text.specs.Utf8.{firstBad}
 use Rattle.text.proofs.Tests.{choose-by}
 use Rattle.token.specs.Lists.{tokensOf}
 use Rattle.reader.specs.declared.Reading.the-variants as Reading
-use Rattle.reader.specs.Read.{numbered, readOf, listedOf, judgedOf, rulesOf, roomBy, roomFor, faulty, ruledBy, ruledOf, checkedBy}
+use Rattle.reader.specs.Read.{numbered, readOf, listedOf, judgedOf, roomBy, roomFor, faulty, ruledBy, checkedBy}
+use Rattle.build.specs.Rules.{rulesOf, ruledOf}
 use Rattle.promises.specs.Twelve.{ascii, treesOf}
 
 -- two texts of one rule, and one of two rules
@@ -108,7 +110,7 @@ record Facts : Type 0 where
   right-short : reprinted Short right twenty ≡ ascii "r = { a ~ (b ~ c) }\n"
 
 facts : Facts
-unfolding TextChoice.all TextClasses.classOf TextDigits.decimalFrom TextDigits.decimalOf TextDigits.digits TextDigits.decimal TextDigits.decimalPut TextDigits.decimalIn TextDigits.hexOf TextDigits.hexDigit TextDigits.hexes TextScans.spelled TextScans.sought TextSplice.spent TextSplice.fronted TextUtf8.scalar TextUtf8.leadOf TextUtf8.gathered TextUtf8.judged TextUtf8.charOf TextUtf8.firstBad TextUtf8.encoded TextUtf8.encodeOf TextUtf8.encodeIn TextWords.isWord TextWords.begins TextWords.wordOf LiteralEscapes.digitsOf LiteralEscapes.simpleOf LiteralEscapes.pairOf LiteralEscapes.bracedOf LiteralEscapes.afterOf LiteralEscapes.escapeOf LiteralEscapes.noEscape LiteralEscapes.badEscape LiteralEscapes.unescaped LiteralEscapes.unescapeOf LiteralEscapes.unescapeIn LiteralLiterals.hexCount LiteralLiterals.showOf LiteralLiterals.shownBy LiteralLiterals.shown LiteralLiterals.inside LiteralLiterals.literal LiteralLiterals.formatOf LiteralLiterals.formatIn TokenBlanks.run TokenBlanks.markOf TokenBlanks.closeOf TokenBlanks.lineBlank TokenBlanks.slashBlank TokenBlanks.returnBlank TokenBlanks.openerBlank TokenBlanks.blankBy TokenLister.nextOf TokenLister.lister TokenLists.tokensIn TokenLists.tokensFrom TokenLists.tokensOf TokenLists.filledOf TokenTokens.allowed TokenTokens.wordToken TokenTokens.tagToken TokenTokens.numberToken TokenTokens.minusToken TokenTokens.dotsToken TokenTokens.insideLook TokenTokens.stringOf TokenTokens.insensToken TokenTokens.quoted TokenTokens.charToken TokenTokens.docToken TokenTokens.openerToken TokenTokens.oneKind TokenTokens.tokenBy TokenTokens.tokenOf TokenTokens.tokenAt TableCheck.shaped TableCheck.isUtf8 TableCheck.isName TableCheck.isLabel TableCheck.goodLeaf TableCheck.goodOp TableCheck.goodAt TableCheck.goodName TableCheck.goodRoot TableCheck.goodRule TableCheck.lowest TableCheck.tables TableCheck.numbered TableCheck.verdict TableCheck.fine TableCheck.fineRule TableCheck.fineRules TableFlat.numbersOf TableFlat.flat TableFlat.front TableFlat.ruleRecord TableFlat.nodesFrom TableFlat.recordsFrom TableRecord.nodeOf TableRecord.nodeAt TableRecord.spanAt TableRecord.rowAt TableRecord.column TableRecord.treeAt TableRecord.firstAt TableRecord.headAt TableRecord.ruleRowAt TableRecord.ruleAt TableRecord.rulesFrom TableRecord.rulesOf TableRegroup.joined TableRegroup.regrouped TableRegroup.parts TableRegroup.regroup TableRegroup.links TableRegroup.grouped TableRegroup.untagged TableRegroup.items TableRegroup.unlabelled TableTree.below TableTree.counts TableTree.stored TableTree.ruleStored TableTree.rulesStored TableTree.aside PrinterAnswers.tableText PrinterAnswers.roomOf PrinterAnswers.printOf PrinterAnswers.printIn PrinterAnswers.numbered PrinterAnswers.reported PrinterDisplay.asPostfixOperand PrinterDisplay.displayOne PrinterDisplay.chain PrinterDisplay.spread PrinterDisplay.joinedBy PrinterDisplay.displayTwo PrinterPrinting.brackets PrinterPrinting.enclosed PrinterPrinting.character PrinterPrinting.signed PrinterPrinting.sortText PrinterPrinting.rangeText PrinterPrinting.sliceText PrinterPrinting.tagText PrinterPrinting.printed PrinterPrinting.markText PrinterPrinting.printedRule PrinterPrinting.printedRules StructureAnswers.unread StructureAnswers.summary StructureAnswers.wanted StructureAnswers.openingOf StructureAnswers.signs StructureAnswers.bracketOf StructureAnswers.tailOf StructureAnswers.tailed StructureAnswers.ruleSummary StructureAnswers.summaries StructureStructure.next StructureStructure.want StructureStructure.opened StructureStructure.join StructureStructure.closed StructureStructure.endsAt StructureStructure.startsAt StructureStructure.before StructureStructure.after StructureStructure.inTag StructureStructure.fromNumber StructureStructure.fromComma StructureStructure.postfixAt StructureStructure.sliceTo StructureStructure.slice StructureStructure.pushed StructureStructure.ranged StructureStructure.leafAt StructureStructure.body StructureStructure.run StructureStructure.Run StructureStructure.markAt StructureStructure.ruleOf StructureStructure.thenRules StructureStructure.ruleAt StructureStructure.rulesIn StructureStructure.docsIn StructureStructure.grammar StructureTokens.tokenOf StructureTokens.kind StructureTokens.start StructureTokens.end StructureTokens.is StructureTokens.part StructureTokens.word StructureTokens.label StructureTokens.spells StructureValues.number StructureValues.integer StructureValues.string StructureValues.character StructureValues.faultAt StructureValues.faultsFrom StructureValues.faults ReaderBuild.written ReaderBuild.suffixOf ReaderRead.roomBy ReaderRead.listedOf ReaderRead.judgedOf ReaderRead.readOf ReaderRead.leftIn ReaderRead.numbered
+unfolding TextChoice.all TextClasses.classOf TextDigits.decimalFrom TextDigits.decimalOf TextDigits.digits TextDigits.decimal TextDigits.decimalPut TextDigits.decimalIn TextDigits.hexOf TextDigits.hexDigit TextDigits.hexes TextScans.spelled TextScans.sought TextSplice.spent TextSplice.fronted TextUtf8.scalar TextUtf8.leadOf TextUtf8.gathered TextUtf8.judged TextUtf8.charOf TextUtf8.firstBad TextUtf8.encoded TextUtf8.encodeOf TextUtf8.encodeIn TextWords.isWord TextWords.begins TextWords.wordOf LiteralEscapes.digitsOf LiteralEscapes.simpleOf LiteralEscapes.pairOf LiteralEscapes.bracedOf LiteralEscapes.afterOf LiteralEscapes.escapeOf LiteralEscapes.noEscape LiteralEscapes.badEscape LiteralEscapes.unescaped LiteralEscapes.unescapeOf LiteralEscapes.unescapeIn LiteralLiterals.hexCount LiteralLiterals.showOf LiteralLiterals.shownBy LiteralLiterals.shown LiteralLiterals.inside LiteralLiterals.literal LiteralLiterals.formatOf LiteralLiterals.formatIn TokenBlanks.run TokenBlanks.markOf TokenBlanks.closeOf TokenBlanks.lineBlank TokenBlanks.slashBlank TokenBlanks.returnBlank TokenBlanks.openerBlank TokenBlanks.blankBy TokenLister.nextOf TokenLister.lister TokenLists.tokensIn TokenLists.tokensFrom TokenLists.tokensOf TokenLists.filledOf TokenTokens.allowed TokenTokens.wordToken TokenTokens.tagToken TokenTokens.numberToken TokenTokens.minusToken TokenTokens.dotsToken TokenTokens.insideLook TokenTokens.stringOf TokenTokens.insensToken TokenTokens.quoted TokenTokens.charToken TokenTokens.docToken TokenTokens.openerToken TokenTokens.oneKind TokenTokens.tokenBy TokenTokens.tokenOf TokenTokens.tokenAt TableCheck.shaped TableCheck.isUtf8 TableCheck.isName TableCheck.isLabel TableCheck.goodLeaf TableCheck.goodOp TableCheck.goodAt TableCheck.goodName TableCheck.goodRoot TableCheck.goodRule TableCheck.lowest TableCheck.tables TableCheck.numbered TableCheck.verdict TableCheck.fine TableCheck.fineRule TableCheck.fineRules TableFlat.numbersOf TableFlat.flat TableFlat.front TableFlat.ruleRecord TableFlat.nodesFrom TableFlat.recordsFrom TableRecord.nodeOf TableRecord.nodeAt TableRecord.spanAt TableRecord.rowAt TableRecord.column TableRecord.treeAt TableRecord.firstAt TableRecord.headAt TableRecord.ruleRowAt TableRecord.ruleAt TableRecord.rulesFrom TableRecord.rulesOf TableRegroup.joined TableRegroup.regrouped TableRegroup.parts TableRegroup.regroup TableRegroup.links TableRegroup.grouped TableRegroup.untagged TableRegroup.items TableRegroup.unlabelled TableTree.below TableTree.counts TableTree.stored TableTree.ruleStored TableTree.rulesStored TableTree.aside PrinterAnswers.tableText PrinterAnswers.roomOf PrinterAnswers.printOf PrinterAnswers.printIn PrinterAnswers.numbered PrinterAnswers.reported PrinterDisplay.asPostfixOperand PrinterDisplay.displayOne PrinterDisplay.chain PrinterDisplay.spread PrinterDisplay.joinedBy PrinterDisplay.displayTwo PrinterPrinting.brackets PrinterPrinting.enclosed PrinterPrinting.character PrinterPrinting.signed PrinterPrinting.sortText PrinterPrinting.rangeText PrinterPrinting.sliceText PrinterPrinting.tagText PrinterPrinting.printed PrinterPrinting.markText PrinterPrinting.printedRule PrinterPrinting.printedRules StructureAnswers.unread StructureAnswers.summary StructureAnswers.wanted StructureAnswers.openingOf StructureAnswers.signs StructureAnswers.bracketOf StructureAnswers.tailOf StructureAnswers.tailed StructureAnswers.ruleSummary StructureAnswers.summaries StructureStructure.next StructureStructure.want StructureStructure.opened StructureStructure.join StructureStructure.closed TableTree.endsAt TableTree.startsAt StructureStructure.before StructureStructure.after StructureStructure.inTag StructureStructure.fromNumber StructureStructure.fromComma StructureStructure.postfixAt StructureStructure.sliceTo StructureStructure.slice StructureStructure.pushed StructureStructure.ranged StructureStructure.leafAt StructureStructure.body StructureStructure.run StructureStructure.Run StructureStructure.markAt StructureStructure.ruleOf StructureStructure.thenRules StructureStructure.ruleAt StructureStructure.rulesIn StructureStructure.docsIn StructureStructure.grammar StructureTokens.tokenOf StructureTokens.kind StructureTokens.start StructureTokens.end StructureTokens.is StructureTokens.part StructureTokens.word StructureTokens.label StructureTokens.spells StructureValues.number StructureValues.integer StructureValues.string StructureValues.character StructureValues.faultAt StructureValues.faultsFrom StructureValues.faults RecordsRecords.written RecordsRecords.ruleWritten BuildBuild.suffixOf ReaderRead.roomBy ReaderRead.listedOf ReaderRead.judgedOf ReaderRead.readOf ReaderRead.leftIn ReaderRead.numbered
 facts =
     record {
       short-read = refl;

@@ -3,11 +3,11 @@ use Prim.Native.Nat.{ℕ, zero, suc, _+_}
 use mathlib.Core.List.{List, [], _∷_}
 use lib.ListN.{length}
 use Rattle.table.specs.Tree.{Tree, Rule}
-use Rattle.printer.specs.declared.Place.{Place}
-use Rattle.printer.specs.declared.Place.the-variants.{Alone}
+use Rattle.forms.specs.declared.Place.{Place}
+use Rattle.forms.specs.declared.Place.the-variants.{Alone}
 use Rattle.structure.specs.Tokens.{toks, is}
 use Rattle.promises.specs.Round.{one?}
-use Rattle.printer.specs.declared.Style.the-variants.{Short}
+use Rattle.forms.specs.declared.Style.the-variants.{Short}
 use Rattle.promises.specs.Styled.{marked}
 use Rattle.promises.specs.Marked.{opens}
 

@@ -8,12 +8,12 @@ use Rattle.table.specs.declared.Join.{Join}
 use Rattle.table.specs.declared.Join.the-variants.{Seq, Choice}
 use Rattle.table.specs.Tree.{Tree, leaf, one, two, Nowhere, Rule}
 use Rattle.table.specs.Regroup.{sameJoin}
-use Rattle.printer.specs.declared.Place.{Place}
-use Rattle.printer.specs.declared.Place.the-variants.{Alone, Prefixed, Operand, LeftOf, RightOf}
-use Rattle.printer.specs.declared.Form.{Form}
-use Rattle.printer.specs.declared.Form.the-variants.{Joined}
-use Rattle.printer.specs.Printing.{atomForm, wrapForm, under}
-use Rattle.printer.specs.Levels.{own}
+use Rattle.forms.specs.declared.Place.{Place}
+use Rattle.forms.specs.declared.Place.the-variants.{Alone, Prefixed, Operand, LeftOf, RightOf}
+use Rattle.forms.specs.declared.Form.{Form}
+use Rattle.forms.specs.declared.Form.the-variants.{Joined}
+use Rattle.forms.specs.Printing.{atomForm, wrapForm, under}
+use Rattle.forms.specs.Levels.{own}
 use Rattle.promises.specs.Round.{one?, atomDepth, wrapDepth}
 
 -- ---- the five levels of the grammar (printer/specs/Levels), and brackets enough

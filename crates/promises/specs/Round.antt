@@ -16,12 +16,13 @@ use Rattle.table.specs.Tree.{Atom, text, range, peekSlice, Wrap, plain, nodeTag
 use Rattle.table.specs.Record.{rulesIn, rulesOf}
 use Rattle.table.specs.Check.{maxNodes, maxRules, tables}
 use Rattle.table.specs.declared.TableCheck.the-variants as Table
-use Rattle.printer.specs.declared.Style.{Style}
-use Rattle.printer.specs.declared.Style.the-variants.{Full, Short}
+use Rattle.forms.specs.declared.Style.{Style}
+use Rattle.forms.specs.declared.Style.the-variants.{Full, Short}
 use Rattle.printer.specs.Answers.{tableText}
 use Rattle.promises.specs.Styled.{markedRules}
 use Rattle.reader.specs.declared.Reading.the-variants as Reading
 use Rattle.reader.specs.Read as Read
+use Rattle.build.specs.Rules as Built
 use Rattle.reader.specs.Read.{readOf}
 use Rattle.table.specs.Regroup.{regroup, untagged}
 use Rattle.structure.specs.declared.Level.{Level}
@@ -193,7 +194,7 @@ pub record Printable (style : Style) (ns rs st : List ℕ) : Type 0 where
 -- a text is read as these rules, spans aside, given room for them and no more; the limits leave room, and so does a
 -- store as long as the text
 pub record ReadAs (level : Level) (s : List ℕ) (us : List (Rule Nowhere)) : Type 0 where
-  pub rules : map asideRule (Read.rulesOf level s) ≡ us
+  pub rules : map asideRule (Built.rulesOf level s) ≡ us
   pub answer : (n r b : ℕ) → counts us ≤ n → length us ≤ r → length (rulesStored us) ≤ b → readOf level s n r b ≡ Reading.Read (counts us) (length us) (length (rulesStored us))
   pub few-nodes : counts us ≤ maxNodes
   pub few-rules : length us ≤ maxRules

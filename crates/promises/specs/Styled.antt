@@ -2,11 +2,11 @@
 use mathlib.Core.Bool.{Bool, false}
 use mathlib.Core.List.{List, map}
 use Rattle.table.specs.Tree.{Tree, leaf, one, two, Rule}
-use Rattle.printer.specs.declared.Style.{Style}
-use Rattle.printer.specs.declared.Place.{Place}
-use Rattle.printer.specs.declared.Place.the-variants.{Alone, LeftOf, RightOf}
-use Rattle.printer.specs.declared.Form.the-variants.{Joined}
-use Rattle.printer.specs.Printing.{brackets, atomForm, wrapForm, under}
+use Rattle.forms.specs.declared.Style.{Style}
+use Rattle.forms.specs.declared.Place.{Place}
+use Rattle.forms.specs.declared.Place.the-variants.{Alone, LeftOf, RightOf}
+use Rattle.forms.specs.declared.Form.the-variants.{Joined}
+use Rattle.forms.specs.Printing.{brackets, atomForm, wrapForm, under}
 
 unfoldable pub marked : {P : Type 0} → Style → Place → Tree P → Tree Bool
 marked style w (leaf s a) = leaf (brackets style w (atomForm a)) a

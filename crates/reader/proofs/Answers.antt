@@ -48,10 +48,10 @@ use Rattle.reader.specs.declared.Reading.the-variants as Reading
 use Rattle.reader.specs.declared.Tried.{Tried}
 use Rattle.reader.specs.declared.Tried.the-variants as Tried
 use Rattle.reader.proofs.Reading.{the-type}
-use Rattle.reader.specs.Read.{roomForNodes, roomForRules, roomBy, faulty, checkedBy, unreadable, ruledBy, judgedOf, listedOf, triedOf, readOf, ruledOf, rulesOf, leftIn, Numbered, numbered, reported, Leaves, TriedLeaves}
-use Rattle.reader.specs.Build.{Scalars}
-use Rattle.reader.specs.Rules.{RulesRoom, RulesBuilt}
-use Rattle.reader.proofs.Rules.{next-rule, no-rules}
+use Rattle.reader.specs.Read.{roomForNodes, roomForRules, roomBy, faulty, checkedBy, unreadable, ruledBy, judgedOf, listedOf, triedOf, readOf, leftIn, Numbered, numbered, reported, Leaves, TriedLeaves}
+use Rattle.build.specs.Build.{Scalars}
+use Rattle.build.specs.Rules.{RulesRoom, RulesBuilt, ruledOf, rulesOf}
+use Rattle.build.proofs.Rules.{next-rule, no-rules}
 
 -- ---- room
 

@@ -1,13 +1,2 @@
--- The laws of the building pass.
-pub mod Patches
-pub mod Lays
-pub mod Parts
-pub mod Worths
-pub mod Leaves
-pub mod Loops
-pub mod Chains
-pub mod Terms
-pub mod Rules
+-- The laws of the reader's phases.
 pub mod Answers
-pub mod Nodes
-pub mod Finishes

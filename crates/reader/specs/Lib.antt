@@ -1,4 +1,2 @@
 -- The reader: the definitions that the contracts of this crate cite.
 pub mod Read
-pub mod Build
-pub mod Rules

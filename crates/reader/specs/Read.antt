@@ -25,6 +25,7 @@ use Rattle.structure.specs.declared.Refusal.{Refusal}
 use Rattle.structure.specs.declared.Refusal.the-variants as Refusal
 use Rattle.structure.specs.Values.{faults}
 use Rattle.structure.specs.Structure.{Ruled, rules, unruled, grammar}
+use Rattle.build.specs.Rules.{rulesOf}
 
 -- room is the lower of what is lent and the limit; lent records are whole ones
 abbrev pub roomForNodes : List ℕ → ℕ
@@ -80,14 +81,6 @@ triedOf m level s n r b = choose (leb (length (tokensOf s .list)) m) (λ u. Trie
 unfoldable pub readOf : Level → List ℕ → ℕ → ℕ → ℕ → Reading
 readOf level s n r b =
     choose (leb (length s) 65536) (λ u. checkedBy (firstBad s) Reading.NotUtf8 (λ u. listedOf level s n r b)) (λ u. Reading.TooLong)
-
-abbrev pub ruledOf : Ruled → List (Rule Span)
-ruledOf (rules us) = us
-ruledOf (unruled r) = []
-
--- the rules of a text that is read
-abbrev pub rulesOf : Level → List ℕ → List (Rule Span)
-rulesOf level s = ruledOf (grammar level s)
 
 -- a success changes only the used part, a refusal nothing
 unfoldable pub leftIn : Reading → List ℕ → List ℕ → List ℕ

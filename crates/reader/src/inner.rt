@@ -1,11 +1,3 @@
-// The building pass. A text that is good in structure and values is read again and written as
-// records.
+// What a text gets, phase by phase, and the room for its tokens.
 pub mod answers;
-pub mod build;
-pub mod leaves;
-pub mod loops;
-pub mod records;
-pub mod rules;
 pub mod sizes;
-pub mod terms;
-pub mod values;

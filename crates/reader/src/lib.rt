@@ -5,13 +5,13 @@
 pub mod inner;
 
 use structure::Level;
-use table::Unary;
 use text::Check;
 ghost use mathlib.Core.Path.{_≡_};
 ghost use lib.ListN.{length};
 ghost use Rattle.table.specs.Tree.{rulesStored};
 ghost use Rattle.table.specs.Flat.{nodesOf, recordsOf};
-ghost use Rattle.reader.specs.Read.{roomForNodes, roomForRules, readOf, numbered, reported, rulesOf, leftIn};
+ghost use Rattle.reader.specs.Read.{roomForNodes, roomForRules, readOf, numbered, reported, leftIn};
+ghost use Rattle.build.specs.Rules.{rulesOf};
 
 // The nodes, rules and store bytes used, or why nothing was read, and where.
 pub enum Reading {
@@ -35,42 +35,6 @@ pub enum Reading {
 pub enum Tried {
     Done(Reading),
     Full,
-}
-
-// Where the building goes on: the token, the record and the store byte after what was built; and its
-// span.
-pub struct Placed {
-    pub next: usize,
-    pub used: usize,
-    pub free: usize,
-    pub from: usize,
-    pub to: usize,
-}
-
-// A postfix and the token after it, or none.
-pub enum Suffix {
-    Post(Unary, usize),
-    Nothing,
-}
-
-// Where postfixes end: the token and the record after them, and the end of the node that they make.
-pub struct Trailed {
-    pub next: usize,
-    pub used: usize,
-    pub to: usize,
-}
-
-// Past a term's tag: the token and the store byte after it.
-pub struct Tag {
-    pub next: usize,
-    pub free: usize,
-}
-
-// Past a rule: the token, the node record and the store byte after it.
-pub struct Past {
-    pub next: usize,
-    pub used: usize,
-    pub free: usize,
 }
 
 // Reads a text into tables: its rules in `rules`, their nodes in `nodes`, their texts in `store`.

@@ -17,8 +17,8 @@
 //   each call; the list's records.
 //
 // The input is read in blocks of 65,536 bytes, and no line lies in two of them: empty lines fill a block up.
+use forms::Style;
 use printer::Printed;
-use printer::Style;
 use reader::Reading;
 use structure::Level;
 use token::Listed;

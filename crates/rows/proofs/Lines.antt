@@ -6,7 +6,7 @@ use native.Mathlib.Omega.{arith}
 use lib.ListN.{length, length-append}
 use Rattle.text.specs.Digits.{decimal}
 use Rattle.text.specs.Splice.{spent}
-use Rattle.printer.proofs.Rows.{row}
+use Rattle.forms.proofs.Rows.{row}
 use Rattle.rows.specs.Line.{refusalLine}
 
 pub line-row : (n p : ℕ) → refusalLine n p

@@ -11,7 +11,7 @@ use Rattle.text.specs.Digits.{decimal}
 use Rattle.text.specs.Splice.{Room, Wrote}
 use Rattle.text.specs.declared.Put.the-variants as Put
 use Rattle.text.proofs.Splices.{wrote-then, wrote-none, wrote-length, wrote-front}
-use Rattle.printer.proofs.Rows.{row}
+use Rattle.forms.proofs.Rows.{row}
 use Rattle.printer.proofs.Bounds.{decimal-short}
 use Rattle.rows.specs.Put.{PutFits}
 use Rattle.rows.specs.Tokens.{tokenLine, tokenSize, recordLine, tokenLines, listLines, longestToken, tokensPut, tokensIn}

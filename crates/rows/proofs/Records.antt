@@ -16,7 +16,7 @@ use Rattle.text.specs.Splice.{Room, Wrote, spent}
 use Rattle.text.proofs.Tests.{lt-or-ge}
 use Rattle.text.proofs.Decimals.{decimal-one, decimal-more}
 use Rattle.text.proofs.Splices.{wrote-then, wrote-none, wrote-length}
-use Rattle.printer.proofs.Rows.{row}
+use Rattle.forms.proofs.Rows.{row}
 use Rattle.matcher.specs.declared.Row.{Row}
 use Rattle.matcher.specs.Lines.{rowSize}
 use Rattle.rows.specs.Line.{refusalLine}

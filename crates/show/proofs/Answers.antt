@@ -14,10 +14,11 @@ use Rattle.table.proofs.Rules.{length-nodes, length-records}
 use Rattle.structure.specs.declared.Level.the-variants.{Tagged}
 use Rattle.reader.specs.declared.Reading.{Reading}
 use Rattle.reader.specs.Read as Read
-use Rattle.reader.specs.Read.{roomForNodes, roomForRules, rulesOf, readOf, leftIn, Leaves}
+use Rattle.reader.specs.Read.{roomForNodes, roomForRules, readOf, leftIn, Leaves}
+use Rattle.build.specs.Rules.{rulesOf}
 use Rattle.printer.specs.declared.Printed.{Printed}
 use Rattle.printer.specs.declared.Printed.the-variants as Printed
-use Rattle.printer.specs.declared.Style.{Style}
+use Rattle.forms.specs.declared.Style.{Style}
 use Rattle.printer.specs.Answers as Printer
 use Rattle.printer.proofs.Answers.{print-reported}
 use Rattle.numbers.specs.Numbers.{levelOf, readNumbers, printNumbers}

@@ -13,7 +13,8 @@ use Rattle.table.proofs.Rules.{length-nodes, length-records}
 use Rattle.structure.specs.declared.Level.the-variants.{Tagged}
 use Rattle.structure.proofs.Steps.{split}
 use Rattle.reader.specs.Read as Read
-use Rattle.reader.specs.Read.{roomForNodes, roomForRules, rulesOf, readOf, leftIn, Leaves}
+use Rattle.reader.specs.Read.{roomForNodes, roomForRules, readOf, leftIn, Leaves}
+use Rattle.build.specs.Rules.{rulesOf}
 use Rattle.matcher.specs.declared.Answer.the-variants as Answer
 use Rattle.matcher.specs.declared.Found.{Found}
 use Rattle.matcher.specs.declared.Found.the-variants as Found

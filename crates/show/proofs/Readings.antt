@@ -22,7 +22,8 @@ use Rattle.structure.specs.Structure.{Ruled, rules, unruled, grammar}
 use Rattle.structure.proofs.Steps.{split}
 use Rattle.reader.specs.declared.Reading.{Reading}
 use Rattle.reader.specs.declared.Reading.the-variants as Reading
-use Rattle.reader.specs.Read.{roomBy, faulty, checkedBy, unreadable, ruledBy, ruledOf, rulesOf, judgedOf, listedOf, readOf, numbered, reported}
+use Rattle.reader.specs.Read.{roomBy, faulty, checkedBy, unreadable, ruledBy, judgedOf, listedOf, readOf, numbered, reported}
+use Rattle.build.specs.Rules.{ruledOf, rulesOf}
 
 -- the number 0 is a reading's
 zero-read : (x : Reading) → numbered x .number ≡ 0 → (a : ℕ) × (b : ℕ) × (c : ℕ) × (x ≡ Reading.Read a b c)

@@ -16,8 +16,8 @@ use Rattle.table.specs.declared.TableCheck.the-variants as Table
 use Rattle.table.specs.Flat.{nodesOf, recordsOf}
 use Rattle.table.specs.Check.{tables}
 use Rattle.structure.specs.declared.Level.the-variants.{Tagged}
-use Rattle.reader.specs.Read.{rulesOf}
-use Rattle.printer.specs.declared.Style.{Style}
+use Rattle.build.specs.Rules.{rulesOf}
+use Rattle.forms.specs.declared.Style.{Style}
 use Rattle.printer.specs.Answers as Printer
 use Rattle.show.specs.declared.Answer.{Answer}
 use Rattle.show.specs.declared.Answer.the-variants as Answer

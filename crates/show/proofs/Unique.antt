@@ -3,7 +3,7 @@ use Prim.Native.Nat.{ℕ}
 use mathlib.Core.Path.{_≡_, sym, _∙_}
 use mathlib.Core.List.{List}
 use lib.ListN.{length}
-use Rattle.printer.specs.declared.Style.{Style}
+use Rattle.forms.specs.declared.Style.{Style}
 use Rattle.structure.specs.declared.Level.the-variants.{Tagged}
 use Rattle.reader.specs.Read.{roomForNodes, roomForRules, readOf, Leaves}
 use Rattle.show.specs.declared.Layout.{Layout}

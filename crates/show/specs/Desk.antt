@@ -9,7 +9,8 @@ use Rattle.table.specs.Tree.{Span, Rule, rulesStored}
 use Rattle.table.specs.Flat.{nodesOf, recordsOf}
 use Rattle.structure.specs.declared.Level.the-variants.{Tagged}
 use Rattle.reader.specs.Read as Read
-use Rattle.printer.specs.declared.Style.{Style}
+use Rattle.build.specs.Rules as Built
+use Rattle.forms.specs.declared.Style.{Style}
 use Rattle.printer.specs.Answers as Answers
 use Rattle.show.specs.declared.Answer.{Answer}
 use Rattle.show.specs.declared.Answer.the-variants as Answer
@@ -37,11 +38,11 @@ printed p = choose (eqb (p .number) 0) (λ u. Answer.Printed (p .used)) (λ u. A
 -- the refusal of the reading; else what the printing of its rules gives
 unfoldable pub answerOf : Style → List ℕ → ℕ → Answer
 answerOf style s m =
-    choose (eqb (reading s .number) 0) (λ u. printed (printing style (Read.rulesOf Tagged s) m)) (λ u. Answer.Refused (reading s .number) (reading s .place))
+    choose (eqb (reading s .number) 0) (λ u. printed (printing style (Built.rulesOf Tagged s) m)) (λ u. Answer.Refused (reading s .number) (reading s .place))
 
 -- what the printing leaves in the output: a refused text leaves it alone
 unfoldable pub answerIn : Style → List ℕ → List ℕ → Answer → List ℕ
-answerIn style s o (Answer.Printed n) = fronted (textOf style (Read.rulesOf Tagged s)) o
+answerIn style s o (Answer.Printed n) = fronted (textOf style (Built.rulesOf Tagged s)) o
 answerIn style s o (Answer.Refused n p) = o
 
 -- what is answered for an output of m bytes: the text's bytes, or those of the refusal's line
@@ -54,7 +55,7 @@ deskOf style s m = shownBy (answerOf style s m) m
 
 -- what it leaves in the output: the text, or the refusal's line, at its front
 unfoldable pub leftBy : Style → List ℕ → List ℕ → Answer → List ℕ
-leftBy style s o (Answer.Printed n) = fronted (textOf style (Read.rulesOf Tagged s)) o
+leftBy style s o (Answer.Printed n) = fronted (textOf style (Built.rulesOf Tagged s)) o
 leftBy style s o (Answer.Refused n p) = refusalIn n p o (refusalPut n p (length o))
 
 unfoldable pub deskIn : Style → List ℕ → List ℕ → List ℕ

@@ -8,6 +8,7 @@ use Rattle.table.specs.Tree.{Span, Rule, rulesStored}
 use Rattle.table.specs.Flat.{nodesOf, recordsOf}
 use Rattle.structure.specs.declared.Level.the-variants.{Tagged}
 use Rattle.reader.specs.Read as Read
+use Rattle.build.specs.Rules as Built
 use Rattle.matcher.specs.declared.Answer.the-variants as Answer
 use Rattle.matcher.specs.declared.Row.{Row}
 use Rattle.matcher.specs.declared.Found.{Found}
@@ -30,6 +31,6 @@ layoutBy us Found.NoRule = NoRule
 unfoldable pub layoutOf : List ℕ → List ℕ → ℕ → ℕ → ℕ → Layout
 layoutOf s name n r b =
     choose (eqb (Read.reported Tagged s n r b .number) 0)
-    (λ u. layoutBy (Read.rulesOf Tagged s)
-    (foundOf (nodesOf (Read.rulesOf Tagged s)) (recordsOf (Read.rulesOf Tagged s)) (rulesStored (Read.rulesOf Tagged s)) name))
+    (λ u. layoutBy (Built.rulesOf Tagged s)
+    (foundOf (nodesOf (Built.rulesOf Tagged s)) (recordsOf (Built.rulesOf Tagged s)) (rulesStored (Built.rulesOf Tagged s)) name))
     (λ u. Refused (Read.reported Tagged s n r b .number) (Read.reported Tagged s n r b .place))

@@ -1,7 +1,7 @@
 // What programs do with a layout: all that the desk is to write, at the front of a lent output; and a layout's
 // tables with the rule of a name. The entry points ask nothing of their callers.
+use forms::Style;
 use matcher::Found;
-use printer::Style;
 use text::Put;
 ghost use mathlib.Core.Path.{_≡_};
 ghost use lib.ListN.{length};

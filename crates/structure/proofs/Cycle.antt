@@ -10,7 +10,7 @@ use lib.ListN.{length}
 use borrow.Author.Tests.{le-leb, lt-leb}
 use Rattle.text.specs.Choice.{choose}
 use Rattle.token.specs.Table.{toks, kind, start, is}
-use Rattle.table.specs.Tree.{Span, Tree, count, size}
+use Rattle.table.specs.Tree.{Span, Tree, count, size, startsAt}
 use Rattle.table.specs.declared.Join.the-variants.{Seq}
 use Rattle.structure.specs.declared.Level.{Level}
 use Rattle.structure.specs.declared.Refusal.{Refusal}
@@ -25,7 +25,7 @@ use Rattle.structure.specs.declared.Bracket.{Bracket}
 use Rattle.structure.specs.declared.Bracket.the-variants.{Unopened, Nothing}
 use Rattle.structure.specs.declared.Tails.{Tails}
 use Rattle.structure.specs.declared.Tails.the-variants as Tails
-use Rattle.structure.specs.Structure.{Parsed, got, refused, next, limit, join, closed, startsAt, leafAt, Call, expr, term, node, chain, posts, place, Run}
+use Rattle.structure.specs.Structure.{Parsed, got, refused, next, limit, join, closed, leafAt, Call, expr, term, node, chain, posts, place, Run}
 use Rattle.structure.specs.Answers.{unread, summary, wanted, openingOf, signs, Signed, bracketOf, Posted}
 use Rattle.structure.proofs.Steps.{choose-true, choose-false, inside-is, sees, misses, next-good, next-bad, next-assoc, next-on, opened-true, opened-false}
 use Rattle.structure.proofs.Sizes.{most, Grown, grown-none, grown-starts, count-closed, size-closed, count-more, size-more}

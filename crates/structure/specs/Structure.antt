@@ -10,7 +10,7 @@ use Rattle.text.specs.Choice.{choose, and, or}
 use Rattle.text.specs.Words.{begins, push}
 use Rattle.token.specs.Table.{toks, start, end, is, word, label}
 use Rattle.token.specs.Tokens.{pushLiteral}
-use Rattle.table.specs.Tree.{Span, text, range, peekSlice, Wrap, plain, nodeTag, Tree, leaf, one, two, Rule, placeOf, placed}
+use Rattle.table.specs.Tree.{Span, text, range, peekSlice, Wrap, plain, nodeTag, Tree, leaf, one, two, Rule, placeOf, endsAt, startsAt}
 use Rattle.table.specs.declared.Join.{Join}
 use Rattle.table.specs.declared.Join.the-variants.{Seq, Choice}
 use Rattle.table.specs.declared.Unary.{Unary}
@@ -57,13 +57,6 @@ join j a b = two (over a b) j a b
 unfoldable pub closed : Option (Tree Span) → Tree Span → Tree Span
 closed none l = l
 closed (some c) l = join Choice c l
-
--- what a node's end becomes where a token closes it, and its start where one opens it
-unfoldable pub endsAt : Tree Span → ℕ → Tree Span
-endsAt t z = placed (record { start = placeOf t .start; stop = z }) t
-
-unfoldable pub startsAt : Tree Span → ℕ → Tree Span
-startsAt t a = placed (record { start = a; stop = placeOf t .stop }) t
 
 -- a predicate or a tag before an expression, which starts there and ends with it
 unfoldable pub before : ℕ → Wrap → Tree Span → Tree Span

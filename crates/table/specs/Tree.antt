@@ -49,6 +49,13 @@ placed s (leaf _ a) = leaf s a
 placed s (one _ o t) = one s o t
 placed s (two _ j a b) = two s j a b
 
+-- a tree whose root ends or starts elsewhere, as where a token closes or opens it
+unfoldable pub endsAt : Tree Span → ℕ → Tree Span
+endsAt t z = placed (record { start = placeOf t .start; stop = z }) t
+
+unfoldable pub startsAt : Tree Span → ℕ → Tree Span
+startsAt t a = placed (record { start = a; stop = placeOf t .stop }) t
+
 -- how many nodes a tree has below its root
 unfoldable pub below : {P : Type 0} → Tree P → ℕ
 below (leaf s a) = 0

@@ -1,3 +1,4 @@
+-- A list shorter than the room is lent whole; of any other the first `room` numbers are lent, which lie in it. `called` asks nothing of either.
 use mathlib.Core.Path.{sym}
 use native.Mathlib.Omega.{arith}
 use lib.Seq.{length-take-le}

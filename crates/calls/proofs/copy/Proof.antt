@@ -1,3 +1,5 @@
+-- The invariant: i is at most `s`'s length, and `out` is as long as it was. Each i is tested against `out` before the store.
+-- What is left of `s` falls.
 use Prim.Native.Nat.{_≤_, _-_}
 use mathlib.Core.Path.{_≡_, refl}
 use native.Mathlib.Omega.{arith}

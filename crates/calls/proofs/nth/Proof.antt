@@ -1,3 +1,5 @@
+-- The invariant: `at` is at most the text's length. A turn goes behind a comma that lies inside the text, and k - i falls.
+-- The number lies between `at` and the next comma: `find` keeps that inside, and a test keeps it from lying before `at`.
 use Prim.Native.Nat.{_≤_, _-_}
 use native.Mathlib.Omega.{arith}
 use lib.ListN.{length}

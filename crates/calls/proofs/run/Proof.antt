@@ -1,3 +1,4 @@
+-- `numbers` promises nothing of its result, so it is compared with 600 before the front of the list is written.
 use mathlib.Core.Path.{sym}
 use native.Mathlib.Omega.{arith}
 use lib.Seq.{length-take-le}

@@ -1,3 +1,5 @@
+-- The invariant: the list is as long as it was. `find` gives no place before the one it starts at, and none behind the line:
+-- so each word lies in the line, the next turn starts behind it, and what is left of the line falls.
 use Prim.Native.Nat.{_-_}
 use mathlib.Core.Path.{_≡_, refl}
 use native.Mathlib.Omega.{arith}

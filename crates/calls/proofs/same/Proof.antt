@@ -1,3 +1,4 @@
+-- Nothing has to hold from turn to turn: i is tested against both lists before they are read. to - i falls.
 use Prim.Native.Nat.{_-_}
 use borrow.Author.Needs.{needs}
 use Rattle.calls.proofs.same.Statement.{statement}

@@ -1,3 +1,4 @@
+-- A room larger than the output is turned away, so the part that is lent lies in it. `answer` takes whatever count comes back.
 use lib.Seq.{length-take-le}
 use native.Mathlib.Omega.{arith}
 use mathlib.Core.Path.{sym}

@@ -1,3 +1,5 @@
+-- A room larger than the output is turned away, so the part that is lent lies in it.
+-- Each of the three answers is written by a function that asks nothing of its numbers.
 use lib.Seq.{length-take-le}
 use native.Mathlib.Omega.{arith}
 use mathlib.Core.Path.{sym}

@@ -1,3 +1,5 @@
+-- The stream is made of the array's numbers: `fed` carries what `feed_packet` promises of it over to `feedFrom` of the array.
+-- The answer is then the numbers of that call, and the array those of the stream that it leaves.
 use mathlib.Core.Path.{ap, _∙_}
 use Rattle.states.specs.declared.Call.{Call}
 use Rattle.numbers.specs.Numbers.{callNumbers, feedNumbers}

@@ -1,3 +1,5 @@
+-- The level is `levelOf` of the number passed. What `read` promises at the level holds at that one too: `numbers-at` for the answer,
+-- `left-at` for what the three buffers are left with.
 use Rattle.exports.proofs.Levels.{numbers-at, left-at}
 use mathlib.Core.Path.{_∙_}
 use borrow.Author.Needs.{needs}

@@ -1,3 +1,5 @@
+-- The returns are the cases of `escapeOf` at what is left of the text: nothing (`at-end`), a byte that is no backslash, or a backslash (`at-byte`).
+-- Behind a backslash `after_at` tells the escape.
 use Rattle.literal.specs.Escapes.{escapeOf}
 use Rattle.text.proofs.Tests.{at-byte, at-end}
 use borrow.Author.Tests.{ne-eqb}

@@ -1,3 +1,5 @@
+-- Three returns, each a law of Answers: no UTF-8 (`format-not-utf8`), no room (`format-no-room`), the literal at the front (`format-wrote`).
+-- The room that is spent is one more than there is, so that 0 is left exactly if the literal is too long; otherwise `put_literal` has its room (`room`).
 use mathlib.Core.Path.{sym, _∙_}
 use Rattle.literal.proofs.Answers.{room, format-not-utf8, format-no-room, format-wrote}
 use borrow.Author.Needs.{needs}

@@ -1,3 +1,5 @@
+-- Five returns, each a law of Answers: the three kinds of fault in turn, no room, the string at the front. Each is given what the checks before it found.
+-- The room that is spent is one more than there is, so that 0 is left exactly if the string is too long; otherwise `put_unescaped` has its room (`room`).
 use mathlib.Core.Path.{sym, _∙_}
 use Rattle.literal.proofs.Answers.{room, unescape-not-utf8, unescape-no-escape, unescape-not-scalar, unescape-no-room, unescape-wrote}
 use borrow.Author.Needs.{needs}

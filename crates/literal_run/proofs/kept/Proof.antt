@@ -1,3 +1,4 @@
+-- Nothing has to hold from turn to turn: i is below the length where a byte is read. What is left of the output falls.
 use native.Mathlib.Omega.{arith}
 use borrow.Author.Needs.{needs}
 use Prim.Native.Nat.{_-_}

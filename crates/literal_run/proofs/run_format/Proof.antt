@@ -1,3 +1,5 @@
+-- A room larger than the output is turned away, so the part that is lent lies in it.
+-- The bytes to be shown are compared with the output as well: no promise of `fmt_literal` is needed.
 use mathlib.Core.Path.{sym}
 use lib.Seq.{length-take-le}
 use borrow.Author.Needs.{needs}

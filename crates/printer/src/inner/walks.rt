@@ -1,12 +1,12 @@
 // The two walks from a node to its children, whose indexes are smaller: one measures a text, so that
 // nothing is written where it does not fit, and one writes it.
 use super::bounds::table_most;
-use super::forms;
-use super::leaves;
-use super::unary;
-use crate::Place;
 use crate::Printed;
-use crate::Style;
+use forms::Place;
+use forms::Style;
+use forms::inner::brackets;
+use forms::inner::leaves;
+use forms::inner::unary;
 use table::Node;
 use table::Op;
 use table::Unary;
@@ -24,7 +24,7 @@ ghost use Rattle.text.specs.Splice.{Room, Wrote, spent};
 ghost use Rattle.text.specs.Digits.{hexDigits};
 ghost use Rattle.table.specs.Record.{rulesIn, treeAt, ruleAt};
 ghost use Rattle.table.specs.Check.{Sound, Valid};
-ghost use Rattle.printer.specs.Printing.{printed, markText, printedRule};
+ghost use Rattle.forms.specs.Printing.{printed, markText, printedRule};
 ghost use Rattle.printer.specs.Answers.{tableText, roomOf, printIn};
 
 // What is left after node i's text. Once nothing is left, no node is looked at any more.
@@ -45,18 +45,18 @@ pub fn measure(
     let node = node_at(nodes, i);
     match node {
         Node::Tip(leaf) => {
-            let on = forms::leaf_brackets(style, place, leaf);
-            leaves::spend_leaf(store, leaf, forms::spend_brackets(on, left))
+            let on = brackets::leaf_brackets(style, place, leaf);
+            leaves::spend_leaf(store, leaf, brackets::spend_brackets(on, left))
         }
         Node::One(op, c) => {
-            let form = forms::op_form(op);
-            let on = forms::brackets(style, place, form);
-            let inside = unary::spend_op(store, op, forms::spend_brackets(on, left));
-            measure(nodes, store, c, forms::under(form), inside, style)
+            let form = brackets::op_form(op);
+            let on = brackets::brackets(style, place, form);
+            let inside = unary::spend_op(store, op, brackets::spend_brackets(on, left));
+            measure(nodes, store, c, brackets::under(form), inside, style)
         }
         Node::Two(join, a, b) => {
-            let on = forms::join_brackets(style, place, join);
-            let inside = spend(forms::spend_brackets(on, left), 3);
+            let on = brackets::join_brackets(style, place, join);
+            let inside = spend(brackets::spend_brackets(on, left), 3);
             let right = measure(nodes, store, a, Place::LeftOf(join), inside, style);
             measure(nodes, store, b, Place::RightOf(join), right, style)
         }
@@ -84,26 +84,26 @@ pub fn write(
     let node = node_at(nodes, i);
     match node {
         Node::Tip(leaf) => {
-            let on = forms::leaf_brackets(style, place, leaf);
-            let a1 = forms::put_open(on, out, at);
+            let on = brackets::leaf_brackets(style, place, leaf);
+            let a1 = brackets::put_open(on, out, at);
             let a2 = leaves::put_leaf(t, store, leaf, out, a1);
-            forms::put_close(on, out, a2)
+            brackets::put_close(on, out, a2)
         }
         Node::One(op, c) => match op {
             Op::Plain(unary) => match unary {
                 Unary::PosPred => {
-                    let on = forms::prefix_brackets(style, place);
-                    let a1 = forms::put_open(on, out, at);
+                    let on = brackets::prefix_brackets(style, place);
+                    let a1 = brackets::put_open(on, out, at);
                     let a2 = put_byte(b'&', out, a1);
                     let a3 = write(t, nodes, store, c, Place::Prefixed, out, a2, style);
-                    forms::put_close(on, out, a3)
+                    brackets::put_close(on, out, a3)
                 }
                 Unary::NegPred => {
-                    let on = forms::prefix_brackets(style, place);
-                    let a1 = forms::put_open(on, out, at);
+                    let on = brackets::prefix_brackets(style, place);
+                    let a1 = brackets::put_open(on, out, at);
                     let a2 = put_byte(b'!', out, a1);
                     let a3 = write(t, nodes, store, c, Place::Prefixed, out, a2, style);
-                    forms::put_close(on, out, a3)
+                    brackets::put_close(on, out, a3)
                 }
                 Unary::Opt => {
                     let a1 = write(t, nodes, store, c, Place::Operand, out, at, style);
@@ -140,20 +140,20 @@ pub fn write(
                 }
             },
             Op::NodeTag(p, n) => {
-                let on = forms::tag_brackets(style, place);
-                let a1 = forms::put_open(on, out, at);
+                let on = brackets::tag_brackets(style, place);
+                let a1 = brackets::put_open(on, out, at);
                 let a2 = unary::put_tag(store, p, n, out, a1);
                 let a3 = write(t, nodes, store, c, Place::Prefixed, out, a2, style);
-                forms::put_close(on, out, a3)
+                brackets::put_close(on, out, a3)
             }
         },
         Node::Two(join, a, b) => {
-            let on = forms::join_brackets(style, place, join);
-            let a1 = forms::put_open(on, out, at);
+            let on = brackets::join_brackets(style, place, join);
+            let a1 = brackets::put_open(on, out, at);
             let a2 = write(t, nodes, store, a, Place::LeftOf(join), out, a1, style);
-            let a3 = forms::put_separator(join, out, a2);
+            let a3 = brackets::put_separator(join, out, a2);
             let a4 = write(t, nodes, store, b, Place::RightOf(join), out, a3, style);
-            forms::put_close(on, out, a4)
+            brackets::put_close(on, out, a4)
         }
         Node::Unknown => at,
     }

@@ -1,3 +1,4 @@
+-- The text is written only where `used` is at most the output's length, so it lies in the output; nothing has to be known of `used`.
 use lib.Seq.{length-take-le}
 use mathlib.Core.Path.{sym}
 use native.Mathlib.Omega.{arith}

@@ -1,3 +1,5 @@
+-- The invariant: j is at least 1, the table has 12 n numbers or more, and is as long as it was; n - j falls.
+-- A turn writes node n - 1 + j, which ends at number 12 n - 6 at the latest: as many numbers are counted.
 use Prim.Native.Nat.{_≤_, _-_, _*_}
 use lib.Seq.{length-take-le}
 use lib.ListN.{length, length-set}

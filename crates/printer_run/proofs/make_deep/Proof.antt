@@ -1,3 +1,5 @@
+-- The invariant: i is at least 1, the table has 6 n numbers or more, and is as long as it was; n - i falls.
+-- The test before asks for one record more, so that the first one is inside even where n is 0.
 use Prim.Native.Nat.{_≤_, _-_, _*_}
 use lib.Seq.{length-take-le}
 use lib.ListN.{length, length-set}

@@ -1,3 +1,5 @@
+-- The invariant: the table has 6 n numbers or more, and is as long as it was; so record i is inside, and n - i falls.
+-- n is at most 4,097, so that no product overflows.
 use Prim.Native.Nat.{_≤_, _-_, _*_}
 use lib.Seq.{length-take-le}
 use lib.ListN.{length, length-set}

@@ -1,3 +1,5 @@
+-- The invariant: the table has 6 n numbers or more, and is as long as it was; so record k is inside, and n - k falls.
+-- n is at most 1,025, so that no product overflows and k fits 32 bits.
 use Prim.Native.Nat.{_≤_, _-_, _*_}
 use lib.Seq.{length-take-le}
 use lib.ListN.{length, length-set}

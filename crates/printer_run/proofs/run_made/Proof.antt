@@ -1,3 +1,5 @@
+-- `field` promises parts of the line, from which the three numbers are read.
+-- The store has 65,537 bytes: 65,536 of them are lent, or n, which is compared first.
 use lib.Seq.{length-take-le}
 use mathlib.Core.Path.{sym}
 use native.Mathlib.Omega.{arith}

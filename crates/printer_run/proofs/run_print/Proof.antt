@@ -1,3 +1,5 @@
+-- A room larger than the output is turned away, so the part that is lent lies in it.
+-- Each of the five answers is written by `answer`, which asks nothing of its numbers.
 use lib.Seq.{length-take-le}
 use mathlib.Core.Path.{sym}
 use native.Mathlib.Omega.{arith}

@@ -1,3 +1,5 @@
+-- The returns are three laws of Answers: too long (`read-long`), no UTF-8 (`read-bad`), and what `read_listed` answers (`read-good`).
+-- Each gives all five promises at once. With which arrays `read_listed` begins makes no difference: it promises the same for any.
 use Rattle.reader.proofs.Answers.{read-long, read-bad, read-good}
 use borrow.Author.Needs.{needs}
 use Rattle.reader.proofs.read.Statement.{statement}

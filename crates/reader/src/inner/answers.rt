@@ -1,17 +1,19 @@
 // What a text gets, phase by phase, and the room there is.
-use super::rules::consume_rules_with_spans;
 use crate::Reading;
 use crate::Tried;
+use build::inner::rules::consume_rules_with_spans;
 use structure::Counted;
 use structure::Fault;
 use structure::Level;
 use structure::Refusal;
 use structure::inner::rules::check_grammar;
 use structure::inner::values::faults;
+use table::inner::records::NODE_SIZE;
+use table::inner::records::RULE_SIZE;
 use token::Filled;
 use token::inner::fill;
 ghost use mathlib.Core.Path.{_≡_};
-ghost use Prim.Native.Nat.{_/_, min};
+ghost use Prim.Native.Nat.{_/_, _<_, min};
 ghost use lib.ListN.{length};
 ghost use Rattle.text.specs.Classes.{classes};
 ghost use Rattle.token.specs.Lists.{Space};
@@ -19,10 +21,11 @@ ghost use Rattle.structure.specs.Answers.{Lent};
 ghost use Rattle.reader.specs.Read.{roomForNodes, roomForRules, roomBy, judgedOf, triedOf, Leaves, TriedLeaves};
 
 // How many whole records there may be: the lower of what is lent and a limit.
-fn whole(numbers: usize, limit: usize) -> usize
-    ensures { λ r. ⌜ r ≡ min (numbers / 6) limit ⌝ }
+fn whole(numbers: usize, size: usize, limit: usize) -> usize
+    requires { ⌜ 0 < size ⌝ }
+    ensures { λ r. ⌜ r ≡ min (numbers / size) limit ⌝ }
 {
-    let lent = numbers / 6;
+    let lent = numbers / size;
     if lent < limit { lent } else { limit }
 }
 
@@ -95,8 +98,8 @@ fn build(
     ensures answer { λ r. ⌜ r ≡ judgedOf level (now (text .entry)) (roomForNodes (now (nodes .entry))) (roomForRules (now (rules .entry))) (length (now (store .entry))) ⌝ }
     ensures left { λ r. ⌜ Leaves level (now (text .entry)) r (now (nodes .entry)) (now (rules .entry)) (now (store .entry)) (now (nodes .exit)) (now (rules .exit)) (now (store .exit)) ⌝ }
 {
-    let n = whole(nodes.len(), 4096);
-    let r = whole(rules.len(), 1024);
+    let n = whole(nodes.len(), NODE_SIZE, 4096);
+    let r = whole(rules.len(), RULE_SIZE, 1024);
     let answer = judge(text, kinds, starts, ends, level, n, r, store.len());
     if let Reading::Read(_, _, _) = answer {
         consume_rules_with_spans(text, kinds, starts, ends, nodes, rules, store, level);

@@ -1,3 +1,5 @@
+-- Each count is compared before it is used: over 5,000 records nothing is multiplied, and no more is cut than a buffer has.
+-- So the three parts that are written lie in their buffers.
 use native.Mathlib.Omega.{arith}
 use mathlib.Core.Path.{sym}
 use lib.Seq.{length-take-le}

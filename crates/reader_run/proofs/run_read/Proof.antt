@@ -1,3 +1,5 @@
+-- Rooms larger than the buffers are turned away, so the three parts that are lent lie in them.
+-- Each of the fourteen answers is written by `answer`, which asks nothing of its numbers.
 use native.Mathlib.Omega.{arith}
 use mathlib.Core.Path.{sym}
 use lib.Seq.{length-take-le}

@@ -1,3 +1,4 @@
+-- The invariant: i is at most the list's length; what is left of the list falls. Of more than 300 numbers a sum is written, without a turn.
 use borrow.Author.Needs.{needs}
 use lib.ListN.{length}
 use native.Mathlib.Omega.{arith}

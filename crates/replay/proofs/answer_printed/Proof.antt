@@ -1,3 +1,4 @@
+-- A count larger than the output is turned away: so the bytes that are written lie in it, and what is left behind them isn't below 0.
 use native.Mathlib.Omega.{arith}
 use mathlib.Core.Path.{sym}
 use lib.Seq.{length-take-le}

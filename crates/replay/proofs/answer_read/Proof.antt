@@ -1,3 +1,5 @@
+-- Each count is compared before it is used: over 5,000 records nothing is multiplied, and no more is cut than a buffer has.
+-- So the three parts lie in their buffers, and what is left behind each isn't below 0.
 use lib.Seq.{length-take-le}
 use mathlib.Core.Path.{sym}
 use native.Mathlib.Omega.{arith}

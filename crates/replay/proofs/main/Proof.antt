@@ -1,3 +1,5 @@
+-- The invariant: the input has 65,536 bytes, there were at most 1,024 blocks, and at most 65,537 answers for each, as `run_block` promises.
+-- So the sum of the answers fits; the blocks that are still allowed fall.
 use native.Mathlib.Omega.{arith}
 use borrow.Author.Needs.{needs}
 use lib.ListN.{length}

@@ -1,3 +1,5 @@
+-- A room larger than the output is turned away, so the part that is lent lies in it.
+-- Each of the five answers is written by `answer_printed` or `answer_unprinted`, which ask nothing of their numbers.
 use native.Mathlib.Omega.{arith}
 use mathlib.Core.Path.{sym}
 use lib.Seq.{length-take-le}

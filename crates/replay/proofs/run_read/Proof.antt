@@ -1,3 +1,5 @@
+-- Rooms larger than the buffers are turned away, so the three parts that are lent lie in them.
+-- Each of the fourteen answers is written by `answer_read` or `answer_refused`, which ask nothing of their numbers.
 use lib.Seq.{length-take-le}
 use mathlib.Core.Path.{sym}
 use native.Mathlib.Omega.{arith}

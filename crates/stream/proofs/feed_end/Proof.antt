@@ -1,3 +1,5 @@
+-- A refusal that is held, one that the end shows, or tokens that are put into the list: each is a law of calls (`end-held`, `end-refused`, `end-good`).
+-- Numbers that open a stream open a sound one, as `last` asks (`opened-sound`); a good end has room for what it gives (`last-room`).
 use mathlib.Core.List.{_++_, []}
 use native.Mathlib.Omega.{arith}
 use mathlib.Core.Path.{sym, _∙_, ap}

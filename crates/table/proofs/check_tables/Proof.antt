@@ -1,3 +1,5 @@
+-- A law of Tables for each return: the shape, the lowest false node, the lowest false rule, good, or nodes left over.
+-- A good shape bounds the number of nodes; where no node is false, `firsts` has all first nodes, as the check of the rules asks.
 use Rattle.table.specs.Check.{maxNodes}
 use Prim.Native.Nat.{ℕ}
 use lib.ListN.{length-replicate}

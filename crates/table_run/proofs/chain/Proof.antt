@@ -1,3 +1,4 @@
+-- The invariant: i is from 1 to 4,097, and the table has 24,582 numbers, which are 4,097 records of six. 4,097 - i falls.
 use native.Mathlib.Omega.{arith}
 use lib.ListN.{length-set}
 use lib.ListN.{length}

@@ -1,3 +1,4 @@
+-- The invariant: i is at most 1,025, and both tables have 6,150 numbers, which are 1,025 records of six. 1,025 - i falls.
 use native.Mathlib.Omega.{arith}
 use lib.ListN.{length-set}
 use lib.ListN.{length}

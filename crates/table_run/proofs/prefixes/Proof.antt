@@ -1,3 +1,4 @@
+-- A length larger than its table is turned away, so the three fronts lie in their tables.
 use mathlib.Core.Path.{sym}
 use lib.Seq.{length-take-le}
 use borrow.Author.Needs.{needs}

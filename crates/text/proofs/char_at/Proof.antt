@@ -1,3 +1,5 @@
+-- Behind the text nothing is read. Otherwise the first byte's row decides, and `gather` and `judge` are the two parts of `charOf`.
+-- A row says at most three more bytes and bits below 256 (`lead-small`), as `gather` asks.
 use Prim.Native.Nat.{_<_}
 use mathlib.Core.Path.{sym, _∙_}
 use native.Mathlib.Omega.{arith}

@@ -1,3 +1,5 @@
+-- No scalar, no room, or written. The room is measured first: of one byte more than there is, 0 is left exactly where the bytes don't fit
+-- (`spent-over`, `spent-fits`). Where they do, they are put at the front (`wrote-front`).
 use mathlib.Core.Path.{refl, sym, _∙_}
 use native.Mathlib.Omega.{arith}
 use borrow.Author.Tests.{not-true, not-false, le-leb, lt-leb}

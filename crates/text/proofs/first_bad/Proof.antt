@@ -1,3 +1,5 @@
+-- The invariant: what is found from i on is what is found in the whole text. A sequence is passed by its length, which is at least 1
+-- (`look-ascii`, `look-step`), so what is left of the text falls. Where all is ASCII, nothing is bad (`low-good`).
 use Prim.Native.Nat.{_-_}
 use mathlib.Core.Path.{_≡_, sym, ap, _∙_}
 use native.Mathlib.Omega.{arith}

@@ -1,3 +1,4 @@
+-- At each return the tests before it say whether the byte lies below, within or above each of the three ranges of `hexOf`.
 use Prim.Native.Nat.{ℕ, _<_}
 use native.Mathlib.Omega.{arith}
 use borrow.Author.Needs.{needs}

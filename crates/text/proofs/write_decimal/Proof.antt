@@ -1,3 +1,5 @@
+-- The room is measured first: of one byte more than there is, 0 is left exactly where the digits don't fit (`spent-over`, `spent-fits`).
+-- Where they do, they are put at the front (`wrote-front`).
 use mathlib.Core.Path.{refl, sym, _∙_}
 use native.Mathlib.Omega.{arith}
 use borrow.Author.Tests.{le-leb, lt-leb}

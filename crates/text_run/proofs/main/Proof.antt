@@ -1,3 +1,5 @@
+-- The invariant: the n bytes read are the front of the input, which has 65,536. `line_end` gives no place before `at` and none behind them:
+-- so each line lies in them, the next turn starts behind it, and n - at falls.
 use Prim.Native.Nat.{_≤_, _-_}
 use mathlib.Core.Path.{_≡_}
 use native.Mathlib.Omega.{arith}

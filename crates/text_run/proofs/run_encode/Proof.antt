@@ -1,3 +1,4 @@
+-- A room larger than the output is turned away, so the part that is lent lies in it. After each of the three answers the whole output is shown.
 use mathlib.Core.Path.{sym}
 use lib.Seq.{length-take-le}
 use borrow.Author.Needs.{needs}

@@ -1,3 +1,4 @@
+-- The invariant: b is at most 255, and goes up only below that, so that it stays a byte. 255 - b falls.
 use Prim.Native.Nat.{_≤_, _-_}
 use native.Mathlib.Omega.{arith}
 use borrow.Author.Needs.{needs}

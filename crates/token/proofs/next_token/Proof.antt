@@ -1,3 +1,5 @@
+-- Three questions in their order: is the text too long, is it UTF-8, and what token stands at the place (`next-long`, `next-bad`, `next-good`).
+-- `answered` tells each answer in numbers too, which is the second promise.
 use mathlib.Core.Path.{sym, _∙_}
 use borrow.Author.Needs.{needs}
 use Rattle.token.specs.declared.Token.the-variants.{Found, End, NoToken}

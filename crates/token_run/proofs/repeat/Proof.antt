@@ -1,3 +1,5 @@
+-- Both loops have the invariant that the output is as long as it was; a place is tested against it before the store.
+-- Of the inner one what is left of the bytes falls, of the outer one the times that are left, count - k.
 use Prim.Native.Nat.{_-_}
 use mathlib.Core.Path.{_≡_}
 use lib.ListN.{length}

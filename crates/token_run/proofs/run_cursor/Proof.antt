@@ -1,3 +1,5 @@
+-- Nothing has to hold from turn to turn. Where the second call gives a token, the cursor stands further on and inside the text (`two-on`):
+-- so what is left of the text falls. Any other answer is the last.
 use Prim.Native.Nat.{_-_}
 use mathlib.Core.Path.{sym, ap, _∙_}
 use native.Mathlib.Omega.{arith}

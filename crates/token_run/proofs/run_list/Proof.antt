@@ -1,3 +1,5 @@
+-- Nothing has to hold from turn to turn. A token ends behind the place that was asked about, and inside the text (`next-in`):
+-- so what is left of the text falls. Any other answer is the last.
 use Prim.Native.Nat.{_-_}
 use mathlib.Core.Path.{sym, _∙_}
 use native.Mathlib.Omega.{arith}

@@ -1,3 +1,4 @@
+-- `repeat` promises nothing of its result, so it is compared with 65,537, the text's length, before the front of the text is lent.
 use Prim.Native.Nat.{_≤_}
 use mathlib.Core.Path.{sym}
 use native.Mathlib.Omega.{arith}

@@ -1,3 +1,5 @@
+-- The invariant: k is at most the output's length, which stays as it was. k is tested before each store, and goes up by 1.
+-- What is left of the piece falls.
 use borrow.Author.Needs.{needs}
 use lib.ListN.{length, length-set}
 use lib.Seq.{length-take-le}

@@ -1,3 +1,4 @@
+-- The invariant: the count is at most i, so that it fits. What is left of the bytes falls.
 use borrow.Author.Needs.{needs}
 use lib.ListN.{length}
 use native.Mathlib.Omega.{arith}

@@ -1,3 +1,4 @@
+-- The invariant: i is at most the length. What is left of the bytes falls; `mixed_byte` keeps the sum to 32 bits.
 use borrow.Author.Needs.{needs}
 use lib.ListN.{length}
 use native.Mathlib.Omega.{arith}

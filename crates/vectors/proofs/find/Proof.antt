@@ -1,3 +1,5 @@
+-- The invariant: i is at least `at` and at most the text's length, as is promised of the result. What is left of the text falls.
+-- If `at` lies behind the text, nothing is promised but that the result doesn't.
 use Prim.Native.Nat.{_≤_, _-_}
 use native.Mathlib.Omega.{arith}
 use lib.ListN.{length}

@@ -1,3 +1,5 @@
+-- The invariant: v is below 10 ^ 19 + 10. A turn begins below 10 ^ 18 and adds a digit of at most 15, so that v fits 64 bits.
+-- What is left of the text falls.
 use Prim.Native.Nat.{_<_, _-_}
 use native.Mathlib.Omega.{arith}
 use lib.ListN.{length}

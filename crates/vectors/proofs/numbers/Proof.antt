@@ -1,3 +1,5 @@
+-- The invariant: k is at most the output's length, which stays as it was. k is tested before each store, and goes up by at most 1.
+-- What is left of the text falls.
 use Prim.Native.Nat.{_≤_, _-_}
 use lib.Seq.{length-take-le}
 use lib.ListN.{length, length-set}

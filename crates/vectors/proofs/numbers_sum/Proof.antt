@@ -1,3 +1,4 @@
+-- The invariant: i is at most the length. What is left of the numbers falls; `mixed` keeps the sum to 32 bits.
 use borrow.Author.Needs.{needs}
 use lib.ListN.{length}
 use native.Mathlib.Omega.{arith}

@@ -1,3 +1,5 @@
+-- The invariant: k is at most the output's length, which stays as it was, and the piece has 1,024 bytes. `find` gives no place before the one
+-- it starts at, and none behind the text: so both parts lie in the text, and what is left of it falls.
 use Prim.Native.Nat.{_≤_, _-_}
 use mathlib.Core.Path.{_≡_, sym}
 use native.Mathlib.Omega.{arith}

@@ -1,3 +1,5 @@
+-- The invariant: k is at most the output's length, which stays as it was, and i at most `times`. `append` promises the next k.
+-- times - i falls.
 use borrow.Author.Needs.{needs}
 use lib.ListN.{length}
 use lib.Seq.{length-take-le}

@@ -1,3 +1,5 @@
+-- The invariant: k is at most the output's length, which stays as it was. Two digits of at most 15 make a byte.
+-- A turn takes two bytes of the text, so what is left of it falls.
 use Prim.Native.Nat.{_≤_, _-_}
 use mathlib.Core.Path.{_≡_, refl, sym}
 use native.Mathlib.Omega.{arith}

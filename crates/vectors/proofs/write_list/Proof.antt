@@ -1,3 +1,4 @@
+-- The invariant: i is at most the list's length. What is left of the list falls; an empty one is written as a dash, without a turn.
 use Prim.Native.Nat.{_≤_, _-_}
 use native.Mathlib.Omega.{arith}
 use lib.ListN.{length}

@@ -1,3 +1,4 @@
+-- Five arms: in each the answer is its variant at some values, at which `numbersOf` computes to the numbers of the array.
 use borrow.Author.Needs.{needs}
 use Rattle.numbers.proofs.inner.listed_numbers.Statement.{statement}
 use Rattle.numbers.proofs.inner.listed_numbers.Tie as tie

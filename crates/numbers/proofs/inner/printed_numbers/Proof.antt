@@ -1,3 +1,4 @@
+-- Five arms: in each the answer is its variant at some values, at which `numbered` computes to number, place and bytes used.
 use Rattle.printer.specs.Answers.{numbered}
 use borrow.Author.Needs.{needs}
 use Rattle.numbers.proofs.inner.printed_numbers.Statement.{statement}

@@ -1,3 +1,4 @@
+-- Fourteen arms: in each the answer is its variant at some values, at which `numbered` computes to number, place and the three counts.
 use Rattle.reader.specs.Read.{numbered}
 use borrow.Author.Needs.{needs}
 use Rattle.numbers.proofs.inner.read_numbers.Statement.{statement}

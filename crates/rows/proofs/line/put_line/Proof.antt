@@ -1,6 +1,6 @@
 -- The five parts of the line, one after the other.
 use Rattle.rows.proofs.Lines.{line-row}
-use Rattle.printer.proofs.Rows.{begin, part-room, go, finish}
+use Rattle.forms.proofs.Rows.{begin, part-room, go, finish}
 use borrow.Author.Needs.{needs}
 use Rattle.rows.proofs.line.put_line.Statement.{statement}
 use Rattle.rows.proofs.line.put_line.Tie as tie

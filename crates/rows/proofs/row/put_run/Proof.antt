@@ -1,6 +1,6 @@
 -- The four parts of the line, one after the other.
 use Rattle.rows.proofs.Records.{run-row}
-use Rattle.printer.proofs.Rows.{begin, part-room, go, finish}
+use Rattle.forms.proofs.Rows.{begin, part-room, go, finish}
 use borrow.Author.Needs.{needs}
 use Rattle.rows.proofs.row.put_run.Statement.{statement}
 use Rattle.rows.proofs.row.put_run.Tie as tie

@@ -1,6 +1,6 @@
 -- The six parts of the line, one after the other.
 use Rattle.rows.proofs.Listings.{token-row}
-use Rattle.printer.proofs.Rows.{begin, part-room, go, finish}
+use Rattle.forms.proofs.Rows.{begin, part-room, go, finish}
 use borrow.Author.Needs.{needs}
 use Rattle.rows.proofs.tokens.put_token.Statement.{statement}
 use Rattle.rows.proofs.tokens.put_token.Tie as tie

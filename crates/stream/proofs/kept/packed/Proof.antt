@@ -1,3 +1,4 @@
+-- Each of the thirty states computes to its four numbers; `lit_kind` and `tail_code` answer for the literal of an escape and for a tail.
 use borrow.Author.Needs.{needs}
 use Rattle.stream.proofs.kept.packed.Statement.{statement}
 use Rattle.stream.proofs.kept.packed.Tie as tie

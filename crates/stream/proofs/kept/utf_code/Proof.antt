@@ -1,3 +1,4 @@
+-- Each of the three states of UTF-8 computes to its code. A tail's code is at most 6 (`tail-small`), so that one more does not overflow.
 use native.Mathlib.Omega.{arith}
 use borrow.Author.Needs.{needs}
 use Rattle.states.proofs.Small.{tail-small}

@@ -1,3 +1,4 @@
+-- The code that `packed` answers is the state's, so that the match asks what the definition asks: is it DocCr's, Star's or Bar's?
 use mathlib.Core.Path.{ap}
 use borrow.Author.Tests.{ne-eqb}
 use borrow.Author.Needs.{needs}

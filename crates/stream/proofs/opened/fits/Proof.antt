@@ -1,3 +1,4 @@
+-- The definition is a row of `and`s. The first test that fails makes it false; where the first three hold, the state's test and UTF-8's are left.
 use borrow.Author.Tests.{le-leb, lt-leb}
 use borrow.Author.Needs.{needs}
 use Rattle.states.specs.Feed.{fits}

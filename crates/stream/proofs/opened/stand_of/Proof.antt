@@ -1,3 +1,4 @@
+-- The callees' answers are put into the definition. The state comes first: the size is what was seen from the start on, less the byte that may wait.
 use borrow.Author.Needs.{needs}
 use Rattle.states.specs.Feed.{standOf}
 use Rattle.stream.proofs.opened.stand_of.Statement.{statement}

@@ -1,3 +1,4 @@
+-- Each of the thirty states computes to its test. Where it is made of several tests, the callees answer as the definition does.
 use borrow.Author.Needs.{needs}
 use Rattle.stream.proofs.opened.state_fits.Statement.{statement}
 use Rattle.stream.proofs.opened.state_fits.Tie as tie

@@ -1,3 +1,5 @@
+-- The definition reads a list of 29 states. Each number of the match computes to its place there; any other is 29 or more (`beyond`), and is read
+-- as Refused.
 use lib.ListN.{List·getD-eq-default}
 use mathlib.Core.Path.{sym}
 use borrow.Author.Needs.{needs}

@@ -1,3 +1,5 @@
+-- Four ways out, as in the definition. Number 0: where the numbers stand, if they fit one another, or a fresh stream. Another number: the refusal
+-- that is held, if it is one of a refusal, or a fresh stream.
 use borrow.Author.Tests.{ne-eqb, eq-eqb}
 use borrow.Author.Needs.{needs}
 use Rattle.states.specs.Feed.{opened}

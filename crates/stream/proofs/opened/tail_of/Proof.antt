@@ -1,3 +1,4 @@
+-- The definition reads a list of seven tails. Each number of the match computes to its place there; any other is 7 or more (`beyond`), and is read as T1.
 use lib.ListN.{List·getD-eq-default}
 use mathlib.Core.Path.{sym}
 use borrow.Author.Needs.{needs}

@@ -1,3 +1,5 @@
+-- The definition reads a list of eight states. Each number of the match computes to its place there; any other is 8 or more (`beyond`), and is read
+-- as Broke.
 use lib.ListN.{List·getD-eq-default}
 use mathlib.Core.Path.{sym}
 use Rattle.states.specs.Keep.{utfs, utfOf}

@@ -1,3 +1,5 @@
+-- The end's faults in the order 2, 3, 14. On each way out the tests before it are settled, so that the definition comes to the same: `last-2`,
+-- `last-3`, `last-14`, and `last-goes` where there is none.
 use mathlib.Core.Path.{sym, _∙_}
 use borrow.Author.Needs.{needs}
 use Rattle.stream.proofs.Sounds.{last-2, last-3, last-14, last-goes}

@@ -1,3 +1,5 @@
+-- Invariant: i is at most the packet's length, c is sound, and the bytes from i on, run from c, end as the whole packet does: at its place or refusal.
+-- A byte that goes on keeps it (`run-moves`), one that is refused ends the packet's run (`run-stops`). The bytes that are left fall.
 use Prim.Native.Nat.{_≤_, _-_}
 use borrow.Author.Needs.{needs}
 use lib.ListN.{length, drop}

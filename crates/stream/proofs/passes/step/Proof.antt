@@ -1,3 +1,5 @@
+-- 1, then 2, then what `take` finds: `stops-1`, `stops-2`, `stops-later`. On each way out the tests before it are settled.
+-- The table and `take` ask for small numbers and a state that fits, which a sound stream has.
 use mathlib.Core.Path.{sym, _∙_}
 use borrow.Author.Needs.{needs}
 use Rattle.steps.specs.Shapes.{outOf}

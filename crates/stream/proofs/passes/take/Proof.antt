@@ -1,3 +1,4 @@
+-- 3, then 14, or the stream moves on: `takes-3`, `takes-14`, `takes-on`. A byte ends two tokens at most (`many-small`), so that the count does not overflow.
 use native.Mathlib.Omega.{arith}
 use mathlib.Core.Path.{sym, _∙_}
 use borrow.Author.Needs.{needs}

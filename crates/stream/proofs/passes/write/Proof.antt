@@ -1,3 +1,5 @@
+-- Invariant: the list's length stays, c is sound, the bytes from i on are good from c, and with their tokens put behind c's records the list is the one
+-- that is promised. A good packet has no byte that is refused (`good-goes`); `write-moves` is a turn. The bytes that are left fall.
 use Prim.Native.Nat.{_≤_, _-_, _*_}
 use borrow.Author.Needs.{needs}
 use mathlib.Core.Bool.{true}

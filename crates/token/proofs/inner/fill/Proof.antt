@@ -1,4 +1,5 @@
--- The invariant: the tokens before a place are done, and the table holds them. A token that is found and has room is one row more.
+-- Invariant (`Filling`): the text's tokens are n that are done and then those from `at` on; the table holds the n at its front. A token that is found
+-- is stored (`fill-more`) or has no room (`fill-full`). It ends behind `at` and inside the text, so that the bytes that are left fall.
 use Rattle.token.proofs.Fills.{Filling, fill-start, fill-length, fill-end, fill-none, fill-full, fill-room, fill-more}
 use borrow.Author.Needs.{needs}
 use lib.ListN.{length}

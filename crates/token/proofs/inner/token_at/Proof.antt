@@ -1,3 +1,5 @@
+-- Invariant: the token at i is the token at `at`. A turn goes past a blank, so that the bytes that are left fall (`at-space`, `at-blank`, `at-next`);
+-- each way out is a law of Places, by the class of the byte at i, or for the text's end.
 use Prim.Native.Nat.{_-_, _<_}
 use mathlib.Core.Path.{_≡_, refl, sym, _∙_}
 use native.Mathlib.Omega.{arith}

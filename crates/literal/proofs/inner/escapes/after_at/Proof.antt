@@ -1,3 +1,5 @@
+-- The returns are the cases of `afterOf` over the byte at `at`: none, a letter of the simple escapes, `x`, `u`, or another.
+-- What `simple_of`, `pair_at` and `braced_at` ensure is what stands in each case; `at-byte` parts the byte from the bytes behind it.
 use Rattle.literal.specs.Escapes.{afterOf}
 use Rattle.text.proofs.Tests.{at-byte, at-end}
 use borrow.Author.Tests.{ne-eqb}

@@ -1,3 +1,5 @@
+-- The loop keeps: what a search from i on finds, counted from the start, is what the search of the whole text finds. The bytes left fall.
+-- A turn goes past a byte (`plain-look`) or past an escape of a character, of two bytes or more (`means-look`), or stops at an escape of none (`bad-look`).
 use Prim.Native.Nat.{_-_}
 use lib.ListN.{length, drop}
 use mathlib.Core.Path.{_≡_, sym, _∙_}

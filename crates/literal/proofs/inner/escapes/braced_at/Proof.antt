@@ -1,3 +1,5 @@
+-- The returns are the cases of `bracedOf`, test by test: no `{`, fewer than two digits, no `}` behind them, or the escape.
+-- At most six digits are read (`digits-count`), so that no index overflows; the byte behind the n digits is that of the text at j + n (`drop-drop`).
 use Rattle.literal.specs.Escapes.{bracedOf}
 use Rattle.literal.proofs.Escaped.{digits-count}
 use Rattle.text.proofs.Tests.{at-byte, at-end}

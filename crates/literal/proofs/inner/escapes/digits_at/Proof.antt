@@ -1,3 +1,5 @@
+-- The loop keeps: reading on from i, after k digits that came to v, gives what reading from `at` gives; v < 16 ^ k, and k ≤ m. The bytes left fall.
+-- A digit is read only after fewer than six, so that v has room for it (`pow-room`). `digitsOf` ends where the returns do: `digits-full`, `-stop`, `-end`.
 use Prim.Native.Nat.{_-_, _^_, _≤_, _<_}
 use mathlib.Core.Path.{_≡_, refl, sym, _∙_}
 use lib.ListN.{length, drop}

@@ -1,3 +1,5 @@
+-- The loop keeps: what a search from i on finds, counted from the start, is what the search of the whole text finds. The bytes left fall.
+-- A turn goes past a byte (`other-stray`) or past an escape, of two bytes or more (`means-stray`), or stops at a backslash that begins none (`slash-stray`).
 use Prim.Native.Nat.{_-_}
 use lib.ListN.{length, drop}
 use mathlib.Core.Path.{_≡_, sym, _∙_}

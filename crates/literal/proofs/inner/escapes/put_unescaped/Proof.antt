@@ -1,3 +1,5 @@
+-- The loop keeps: writing at a what the text means from i on comes to the same as writing all of it at `at` (Same), and no escape from i on is bad.
+-- So an escape's number is a character (`good-scalar`), and there is room for what a turn writes (`turn-room`). The bytes left fall.
 use Prim.Native.Nat.{_-_}
 use mathlib.Core.Path.{_≡_, sym, _∙_}
 use lib.ListN.{length, drop}

@@ -1,3 +1,4 @@
+-- Each of the seven letters computes to what `simpleOf` says of it; any other byte fails all seven tests.
 use Rattle.literal.specs.Escapes.{simpleOf}
 use borrow.Author.Tests.{ne-eqb}
 use Rattle.literal.proofs.inner.escapes.simple_of.Statement.{statement}

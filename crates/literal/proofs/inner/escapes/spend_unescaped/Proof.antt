@@ -1,3 +1,5 @@
+-- The loop keeps: to spend from `left` what the text means from i on leaves what all that it means leaves of `room`. The length less i falls.
+-- A turn spends the length of what it goes past means: a byte (`plain-turn`) or an escape, which has two bytes or more (`means-turn`).
 use Prim.Native.Nat.{_-_}
 use mathlib.Core.Path.{_≡_, refl, sym, _∙_}
 use lib.ListN.{length, drop}

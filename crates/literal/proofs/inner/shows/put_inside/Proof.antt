@@ -1,3 +1,5 @@
+-- The loop keeps Same: writing at a what is printed for the text from i on comes to the same as writing all of it at `at`. The bytes left fall.
+-- A turn writes a bare byte (`bare-turn`) or a character as it is shown (`shown-turn`), or goes past a byte that begins none (`shown-skip`).
 use Prim.Native.Nat.{_-_}
 use mathlib.Core.Path.{sym, _∙_}
 use lib.ListN.{length, drop}

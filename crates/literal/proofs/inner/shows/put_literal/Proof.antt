@@ -1,3 +1,5 @@
+-- The quote, the inside and the quote, one after the other, are the literal (`literal-wrote`).
+-- Room for the literal is room for each of them in its turn (`open-room`, `inside-room`, `close-room`).
 use Rattle.literal.proofs.Printed.{open-room, inside-room, close-room, literal-wrote}
 use borrow.Author.Needs.{needs}
 use Rattle.literal.proofs.inner.shows.put_literal.Statement.{statement}

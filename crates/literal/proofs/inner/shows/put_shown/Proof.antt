@@ -1,3 +1,5 @@
+-- By how the character is shown: a backslash and a byte, the character itself, or `\u{`, its hex digits and `}`, one after the other (`wrote-then`).
+-- `shown-pair`, `shown-bare` and `shown-hex` say which bytes these are, so that room for what is shown is room for each store.
 use mathlib.Core.Path.{refl, sym, _∙_}
 use native.Mathlib.Omega.{arith}
 use lib.ListN.{length-set}

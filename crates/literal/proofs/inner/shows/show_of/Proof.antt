@@ -1,3 +1,5 @@
+-- The tests come in the order of `showOf`: the quote, the five characters with a pair of their own, then whether it is one of U+0020 to U+007E.
+-- Each return rewrites by the tests before it, the ones that failed and the one that held.
 use Rattle.literal.specs.Literals.{showOf}
 use Rattle.text.proofs.Tests.{within-low, within-high, within-yes}
 use borrow.Author.Tests.{eq-eqb, ne-eqb}

@@ -1,3 +1,5 @@
+-- The loop keeps: to spend from `left` what is printed for the text from i on leaves what all of it leaves of `room`. The length less i falls.
+-- A turn spends a character as it is shown (`shown-turn`), or nothing for a byte that begins none (`shown-skip`).
 use Prim.Native.Nat.{_-_}
 use mathlib.Core.Path.{_≡_, refl, sym, _∙_}
 use lib.ListN.{length, drop}

@@ -1,3 +1,5 @@
+-- By how the character is shown, what is spent is the length of that: two bytes, the character's own, or its hex digits and four more (`length-braced`).
+-- There are six digits at most (`fewest`), so that the sum doesn't overflow.
 use mathlib.Core.Path.{refl, sym, _∙_}
 use Prim.Native.Nat.{_<_}
 use Rattle.literal.proofs.Hexes.{fewest}

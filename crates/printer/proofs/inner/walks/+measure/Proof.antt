@@ -1,5 +1,7 @@
+-- The index falls: a node that isn't false has its children below it, and the nodes up to them aren't false either. Each kind has its law of
+-- Nodes: `leaf-spent`, `one-spent`, `two-spent`. Of nothing nothing is left, so that it may return early; no such node is unknown.
 use Rattle.printer.proofs.Nodes.{leaf-spent, one-spent, two-spent}
-use Rattle.printer.proofs.Measures.{spent-zero}
+use Rattle.forms.proofs.Measures.{spent-zero}
 use denote.Ref.{now}
 use Rattle.table.proofs.Nodes.{sound-tip, sound-one, sound-two, sound-unknown, sound-below}
 use borrow.Author.Needs.{needs}
@@ -11,14 +13,14 @@ use borrow.Fn.PlainCycle.{Measures, is, falls, and}
 use Rattle.printer.proofs.inner.walks.measure.Reads as measure
 use Rattle.printer.proofs.inner.walks.measure.Kinds as measure-kinds
 use Rattle.printer.proofs.inner.walks.+measure.Lts-measure as measure-lts
-use Rattle.printer.proofs.inner.forms.brackets.Reads as brackets-reads
-use Rattle.printer.proofs.inner.forms.join_brackets.Reads as join-brackets-reads
-use Rattle.printer.proofs.inner.forms.leaf_brackets.Reads as leaf-brackets-reads
-use Rattle.printer.proofs.inner.forms.op_form.Reads as op-form-reads
-use Rattle.printer.proofs.inner.forms.spend_brackets.Reads as spend-brackets-reads
-use Rattle.printer.proofs.inner.forms.under.Reads as under-reads
-use Rattle.printer.proofs.inner.leaves.spend_leaf.Reads as spend-leaf-reads
-use Rattle.printer.proofs.inner.unary.spend_op.Reads as spend-op-reads
+use Rattle.forms.proofs.inner.brackets.brackets.Reads as brackets-reads
+use Rattle.forms.proofs.inner.brackets.join_brackets.Reads as join-brackets-reads
+use Rattle.forms.proofs.inner.brackets.leaf_brackets.Reads as leaf-brackets-reads
+use Rattle.forms.proofs.inner.brackets.op_form.Reads as op-form-reads
+use Rattle.forms.proofs.inner.brackets.spend_brackets.Reads as spend-brackets-reads
+use Rattle.forms.proofs.inner.brackets.under.Reads as under-reads
+use Rattle.forms.proofs.inner.leaves.spend_leaf.Reads as spend-leaf-reads
+use Rattle.forms.proofs.inner.unary.spend_op.Reads as spend-op-reads
 use Rattle.table.proofs.inner.records.node_at.Reads as node-at-reads
 use Rattle.text.proofs.inner.splice.spend.Reads as spend-reads
 use Rattle.printer.proofs.inner.walks.+measure.{statement}

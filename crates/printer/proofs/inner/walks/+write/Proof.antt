@@ -1,9 +1,11 @@
+-- The index falls: a node that isn't false has its children below it. In each arm the text is a row of parts, by the law of Nodes for its
+-- kind (`leaf-row`, `prefix-row` and so on): the laws of Rows find room for each part, the children's among them, and put them together.
 use mathlib.Core.Path.{refl, sym, _∙_}
 use native.Mathlib.Omega.{arith}
 use borrow.Author.Needs.{needs}
 use Rattle.table.proofs.Nodes.{sound-tip, sound-one, sound-two, sound-unknown, sound-below}
 use denote.Ref.{now}
-use Rattle.printer.proofs.Rows.{begin, part-room, go, finish}
+use Rattle.forms.proofs.Rows.{begin, part-room, go, finish}
 use Rattle.text.proofs.Splices.{wrote-length}
 use Rattle.printer.proofs.Nodes.{leaf-row, prefix-row, postfix-row, push-row, tagged-row, two-row, plain-at, tag-at}
 use Prim.Native.Nat.{ℕ, _<_}
@@ -12,20 +14,20 @@ use borrow.Fn.PlainCycle.{Measures, is, falls, and}
 use Rattle.printer.proofs.inner.walks.write.Reads as write
 use Rattle.printer.proofs.inner.walks.write.Kinds as write-kinds
 use Rattle.printer.proofs.inner.walks.+write.Lts-write as write-lts
-use Rattle.printer.proofs.inner.forms.join_brackets.Reads as join-brackets-reads
-use Rattle.printer.proofs.inner.forms.leaf_brackets.Reads as leaf-brackets-reads
-use Rattle.printer.proofs.inner.forms.prefix_brackets.Reads as prefix-brackets-reads
-use Rattle.printer.proofs.inner.forms.tag_brackets.Reads as tag-brackets-reads
-use Rattle.printer.proofs.inner.forms.put_close.Reads as put-close-reads
-use Rattle.printer.proofs.inner.forms.put_open.Reads as put-open-reads
-use Rattle.printer.proofs.inner.forms.put_separator.Reads as put-separator-reads
-use Rattle.printer.proofs.inner.leaves.put_leaf.Reads as put-leaf-reads
-use Rattle.printer.proofs.inner.unary.put_counts.Reads as put-counts-reads
-use Rattle.printer.proofs.inner.unary.put_exact.Reads as put-exact-reads
-use Rattle.printer.proofs.inner.unary.put_max.Reads as put-max-reads
-use Rattle.printer.proofs.inner.unary.put_min.Reads as put-min-reads
-use Rattle.printer.proofs.inner.unary.put_push.Reads as put-push-reads
-use Rattle.printer.proofs.inner.unary.put_tag.Reads as put-tag-reads
+use Rattle.forms.proofs.inner.brackets.join_brackets.Reads as join-brackets-reads
+use Rattle.forms.proofs.inner.brackets.leaf_brackets.Reads as leaf-brackets-reads
+use Rattle.forms.proofs.inner.brackets.prefix_brackets.Reads as prefix-brackets-reads
+use Rattle.forms.proofs.inner.brackets.tag_brackets.Reads as tag-brackets-reads
+use Rattle.forms.proofs.inner.brackets.put_close.Reads as put-close-reads
+use Rattle.forms.proofs.inner.brackets.put_open.Reads as put-open-reads
+use Rattle.forms.proofs.inner.brackets.put_separator.Reads as put-separator-reads
+use Rattle.forms.proofs.inner.leaves.put_leaf.Reads as put-leaf-reads
+use Rattle.forms.proofs.inner.unary.put_counts.Reads as put-counts-reads
+use Rattle.forms.proofs.inner.unary.put_exact.Reads as put-exact-reads
+use Rattle.forms.proofs.inner.unary.put_max.Reads as put-max-reads
+use Rattle.forms.proofs.inner.unary.put_min.Reads as put-min-reads
+use Rattle.forms.proofs.inner.unary.put_push.Reads as put-push-reads
+use Rattle.forms.proofs.inner.unary.put_tag.Reads as put-tag-reads
 use Rattle.table.proofs.inner.records.node_at.Reads as node-at-reads
 use Rattle.text.proofs.inner.splice.put_byte.Reads as put-byte-reads
 use Rattle.printer.proofs.inner.walks.+write.{statement}

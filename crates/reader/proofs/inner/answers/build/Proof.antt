@@ -1,3 +1,5 @@
+-- Where `judge` answers Read, the rules are read, every string means characters and there is room: what the building asks for (`build-room`).
+-- Then the rules stand at the fronts of the buffers (`build-read`). After any other answer nothing was written (`build-kept`).
 use Rattle.reader.proofs.Answers.{build-room, build-read, build-kept}
 use borrow.Author.Needs.{needs}
 use Rattle.reader.proofs.inner.answers.build.Statement.{statement}

@@ -1,3 +1,5 @@
+-- The returns go through `judgedOf` in its order: a refusal of the structure (`judge-refused`), a fault of a value (`judge-by`), then room (`judge-room`).
+-- What `check_grammar` counts are the rules, nodes and bytes of the rules that `judgedOf` has, so that both ask for the same room.
 use Rattle.reader.proofs.Answers.{judge-refused, judge-by, judge-room}
 use borrow.Author.Needs.{needs}
 use Rattle.reader.proofs.inner.answers.judge.Statement.{statement}

@@ -1,3 +1,5 @@
+-- By what `fill` answers: full arrays (`work-full`), a place with no token (`work-stopped`), or all n tokens.
+-- In that case the first n entries of the three arrays are the text's tokens and nothing else (`lent`), as `build` asks, whose answer is handed on.
 use Rattle.reader.proofs.Answers.{work-full, work-stopped, work-filled, room-in, takes, lent}
 use denote.Ref.{now}
 use borrow.Author.Needs.{needs}

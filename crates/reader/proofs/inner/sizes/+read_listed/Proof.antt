@@ -1,3 +1,5 @@
+-- Arrays that were full left all as it was, so that the answer of the next size is the answer (`listed-again`). 65536 less `room` falls at each call.
+-- The largest are never full, since no text has more tokens than bytes (`tried-all`).
 use Prim.Native.Nat.{_-_}
 use borrow.Author.Needs.{needs}
 use native.Mathlib.Omega.{arith}

@@ -1,3 +1,4 @@
+-- Three arrays of the same length, 65536, are the space that `work` asks for; what `work` ensures for that length is handed on.
 use borrow.Author.Needs.{needs}
 use Rattle.reader.proofs.inner.sizes.try_large.Statement.{statement}
 use Rattle.reader.proofs.inner.sizes.try_large.Tie as tie

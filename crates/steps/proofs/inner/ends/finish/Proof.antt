@@ -1,3 +1,5 @@
+-- Each of the thirty states computes to what the end makes of it. In a state that fits, a backslash stands inside the token, so that its place does not
+-- overflow (`esc-small`, `un-small`), and a doc's kind is small (`doc-small`). In DocCr the CR that waited is one more byte of the doc.
 use native.Mathlib.Omega.{arith}
 use native.Mathlib.Numerals.{add-one}
 use borrow.Author.Needs.{needs}

@@ -1,3 +1,5 @@
+-- Each of the thirty states leads to its row, and a callee answers for that row; Start's row gives one token at most, as the code tells it (`start-one`).
+-- What rows ask of kinds, backslashes, digits and depths follows from a state that fits (the laws of Small).
 use native.Mathlib.Omega.{arith}
 use mathlib.Core.Path.{_∙_, ap}
 use borrow.Author.Needs.{needs}

@@ -1,3 +1,5 @@
+-- Ten ways out, in the order of the definition. At one of the bytes 0xe0, 0xed, 0xf0 and 0xf4 it computes; elsewhere the tests up to there are put
+-- in as they came out.
 use borrow.Author.Tests.{ne-eqb, lt-ltb, le-ltb}
 use Rattle.states.specs.Utf.{utfLead}
 use Rattle.steps.proofs.inner.utf8.lead.Statement.{statement}

@@ -1,3 +1,4 @@
+-- Each of the seven tails computes to what is left behind its next byte: a whole character, or a shorter tail with the same start.
 use borrow.Author.Needs.{needs}
 use Rattle.steps.proofs.inner.utf8.next.Statement.{statement}
 use Rattle.steps.proofs.inner.utf8.next.Tie as tie

@@ -1,3 +1,5 @@
+-- Between characters the byte is a first one, for `lead`. Inside one, `tail_ok` decides: the tail gets shorter, or the sequence is broken at its start.
+-- A broken one stays as it is.
 use borrow.Author.Needs.{needs}
 use Rattle.steps.proofs.inner.utf8.step.Statement.{statement}
 use Rattle.steps.proofs.inner.utf8.step.Tie as tie

@@ -1,3 +1,4 @@
+-- Each of the seven tails computes to its range of bytes, for which `within` answers.
 use borrow.Author.Needs.{needs}
 use Rattle.steps.proofs.inner.utf8.tail_ok.Statement.{statement}
 use Rattle.steps.proofs.inner.utf8.tail_ok.Tie as tie

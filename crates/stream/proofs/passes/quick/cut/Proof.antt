@@ -1,3 +1,5 @@
+-- The loop goes back from the packet's end. Invariant: `end` is at most the packet's length. `end` falls.
+-- The contract asks for that bound alone, not for what byte stands before `end`, so that all is arithmetic.
 use Prim.Native.Nat.{_≤_}
 use native.Mathlib.Omega.{arith}
 use lib.ListN.{length}

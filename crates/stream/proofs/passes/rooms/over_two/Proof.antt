@@ -1,3 +1,4 @@
+-- With no first token it is `over` of the second. With one, it has no room itself, or `over` is asked about the second behind n + 1 records.
 use borrow.Author.Tests.{lt-ltb, le-ltb}
 use native.Mathlib.Numerals.{add-one}
 use borrow.Author.Needs.{needs}

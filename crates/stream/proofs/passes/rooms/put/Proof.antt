@@ -1,3 +1,4 @@
+-- Room for the record means that its row lies in the list (`over-room`), so that it may be put there. With no token nothing is stored.
 use Rattle.stream.proofs.Writes.{over-room}
 use borrow.Author.Needs.{needs}
 use Rattle.stream.proofs.passes.rooms.put.Statement.{statement}

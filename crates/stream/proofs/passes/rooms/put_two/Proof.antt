@@ -1,3 +1,5 @@
+-- Room for both is room for the first (`over-first`) and, since stores keep the list's length, for the second behind it (`over-second`).
+-- The two runs of stores are one (`put-more`).
 use lib.Seq.{length-sets}
 use lib.ListN.{length}
 use native.Mathlib.Omega.{arith}

@@ -1,4 +1,5 @@
--- Each member of the cycle answers the summary of what the grammar reads at its index. The measure is three times what is unread, and a rank.
+-- Falls: 3 times the unread bytes, plus 2 for an expression, 1 for a term, 0 for a node; a node calls for an expression only past a `(`.
+-- Loop of `check_expr` (`ChainInv`): the expression is the chain read so far, with its nodes and bytes, going on at i; the tokens left fall.
 use Rattle.structure.proofs.Cycle.{ChainInv, expr-refused, chain-start, chain-done, joint-in, chain-more, chain-refused, term-untied, term-refused, term-unposted, term-sums, term-good, node-leaf, node-unopened, node-deep, node-refused, node-unclosed, node-sum, node-closed, falls-term, falls-node}
 use Rattle.structure.proofs.Checks.{was-from, was-untied, was-open, was-unopened}
 use Rattle.structure.specs.Answers.{unread}

@@ -1,3 +1,5 @@
+-- The tests are those of the definition, in its order: `(`, then PUSH, then `(` behind it, and each way out has its law of Checks. The level
+-- that these laws take plays no part here. PUSH is a token, so that the next index fits.
 use borrow.Author.Tests.{not-true, not-false}
 use Rattle.structure.proofs.Checks.{bracket-group, bracket-nothing, push-in, bracket-push, bracket-unopened}
 use Rattle.structure.specs.declared.Level.the-variants.{Plain}

@@ -1,3 +1,5 @@
+-- Invariant (`PostInv`): the postfixes from the start on, around any tree, are those from i on around a tree with `count` more nodes and the
+-- same bytes. A postfix takes a token at least, so that the tokens left fall and `count` can't overflow.
 use Rattle.structure.proofs.Checks.{PostInv, post-start, post-more, post-bad, post-done}
 use borrow.Author.Needs.{needs}
 use native.Mathlib.Omega.{arith}

@@ -1,3 +1,5 @@
+-- Invariant (`SignInv`): a term from the start on is the term from i on, with a predicate around it for each token between. Each turn takes
+-- one `&` or `!`, so that the tokens left fall.
 use Rattle.structure.proofs.Checks.{SignInv, sign-none, sign-more, sign-done}
 use mathlib.Core.Logic.{⊎-elim, inl, inr}
 use native.Mathlib.Omega.{arith}

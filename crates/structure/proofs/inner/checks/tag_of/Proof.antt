@@ -1,3 +1,5 @@
+-- Four ways, each a law of Checks: no tag, a tag without `=`, a tag that is kept, one that is dropped. A token has a byte at least, so that
+-- the bytes behind the `#` can be counted.
 use Rattle.structure.proofs.Checks.{tag-none, tag-untied, tag-kept, tag-dropped}
 use Rattle.structure.proofs.Leaves.{post-in}
 use native.Mathlib.Omega.{arith}

@@ -1,3 +1,5 @@
+-- By the kind of the token, a law of Leaves for each: a word is left to `check_word`, the two kinds of string are read, a character must begin
+-- a range, and any other is refused. A kind above 0 says that there is a token, so that the next index fits.
 use Rattle.structure.proofs.Leaves.{post-in, leaf-string, leaf-insens, leaf-range, leaf-none}
 use native.Mathlib.Omega.{arith}
 use borrow.Author.Needs.{needs}

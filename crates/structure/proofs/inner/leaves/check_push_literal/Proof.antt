@@ -1,3 +1,5 @@
+-- The tokens are wanted in the order of the definition (`pushed`), and each way out has its law: no `(`, too deep, no string, no `)`, and all
+-- there. Then it is one node with the bytes of its string.
 use Rattle.structure.proofs.Leaves.{pushed-bare, pushed-deep, pushed-empty, pushed-unclosed, pushed-read}
 use native.Mathlib.Omega.{arith}
 use borrow.Author.Needs.{needs}

@@ -1,3 +1,5 @@
+-- The tokens are wanted in the order of the definition (`ranged`), and each way out has its law: no `..`, no second character, and both there.
+-- Then it is one node without bytes.
 use Rattle.structure.proofs.Leaves.{range-undotted, range-open, range-read}
 use native.Mathlib.Omega.{arith}
 use borrow.Author.Needs.{needs}

@@ -1,3 +1,5 @@
+-- The tokens are wanted in the order of the definition (`slice`), and each way out has its law: no `..`, no `]`, and both there. Either number
+-- may be absent; what they are worth doesn't matter, for a slice is one node without bytes.
 use Rattle.structure.proofs.Leaves.{slice-undotted, slice-unclosed, slice-read}
 use borrow.Author.Needs.{needs}
 use Rattle.structure.proofs.inner.leaves.check_slice.Statement.{statement}

@@ -1,3 +1,5 @@
+-- By the tests of the definition: PUSH_LITERAL, or PEEK before `[`. Any other word is a name, since it isn't PEEK (`no-peek`) or no `[` is
+-- behind it (`no-slice`). The word is a token, so that the next indexes fit.
 use Rattle.structure.proofs.Leaves.{word-pushes, word-slices, no-slice, no-peek, word-named}
 use Rattle.structure.proofs.Steps.{inside-is, sees}
 use mathlib.Core.Logic.{⊎-elim}

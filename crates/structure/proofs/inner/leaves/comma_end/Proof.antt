@@ -1,3 +1,4 @@
+-- The tokens are wanted in the order of the definition (`fromComma`), and each way out has its law: no comma, no number, no `}`, and all there.
 use Rattle.structure.proofs.Leaves.{comma-none, comma-bare, comma-unclosed, comma-most}
 use borrow.Author.Needs.{needs}
 use Rattle.structure.proofs.inner.leaves.comma_end.Statement.{statement}

@@ -1,3 +1,5 @@
+-- The tokens are looked for in the order of the definition (`fromNumber`), a law for each of six ways out: `{n}`, `{n,}` and `{n, m}` end, and
+-- what has no comma, no number or no `}` where one is due is refused.
 use Rattle.structure.proofs.Leaves.{number-exact, number-open, number-least, number-comma, number-unclosed, number-both}
 use Rattle.structure.proofs.Wants.{here-in}
 use native.Mathlib.Omega.{arith}

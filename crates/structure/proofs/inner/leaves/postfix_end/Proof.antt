@@ -1,3 +1,5 @@
+-- By the kind of the token, a law of Leaves for each: `?`, `*` and `+` are one token, `{` goes on by whether a number follows, and any other is
+-- no postfix. A kind above 0 says that there is a token, so that the next index fits.
 use Rattle.structure.proofs.Leaves.{post-in, post-opt, post-rep, post-once, post-number, post-comma, post-none}
 use Rattle.structure.proofs.Steps.{inside-is, sees}
 use native.Mathlib.Omega.{arith}

@@ -1,4 +1,5 @@
--- The invariant: what was counted, with the rules from i on, is what the grammar counts. The tokens are as many as `token_count` says.
+-- Invariant (`RulesInv`): the whole grammar's counts are those so far and those of the rules from i on; and so far there are at most i rules,
+-- i nodes and i times `most` bytes, so that no sum overflows. A doc or a rule takes a token at least: the tokens left fall.
 use Rattle.structure.proofs.Rules.{RulesInv, grammar-none, grammar-start, grammar-done, grammar-doc, grammar-refused, grammar-more}
 use borrow.Author.Needs.{needs}
 use native.Mathlib.Omega.{arith}

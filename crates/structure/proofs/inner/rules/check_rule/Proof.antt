@@ -1,3 +1,5 @@
+-- Along the definition (`ruleAt`), a law for each way out: no name, no `=`, no `{`, a refused expression, no `}`, and all there. The bytes of
+-- the name and of the expression are few (`word-short`, `expr-ends`), so that their sum fits.
 use Rattle.structure.proofs.Rules.{name-in, rule-unnamed, rule-untied, rule-unbraced, rule-refused, rule-unclosed, rule-read}
 use Rattle.structure.proofs.Cycle.{expr-ends}
 use Rattle.structure.proofs.Sizes.{word-short}

@@ -1,3 +1,5 @@
+-- Invariant (`DocsInv`): the docs of the text end where those from i on end. Each turn takes one token, so that the tokens left fall; at a
+-- token that is no doc they end.
 use Rattle.structure.proofs.Rules.{DocsInv, docs-start, docs-more, docs-done}
 use native.Mathlib.Omega.{arith}
 use lib.ListN.{length}

@@ -1,3 +1,5 @@
+-- What is no word is no name. A word's slice lies inside the text (`spans`) and has the word's bytes, so that whether it begins with PUSH is
+-- what the definition asks (`name-by`).
 use Rattle.structure.proofs.Rules.{name-other, name-by}
 use Rattle.structure.proofs.Leaves.{post-in}
 use native.Mathlib.Omega.{arith}

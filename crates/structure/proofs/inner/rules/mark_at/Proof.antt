@@ -1,3 +1,4 @@
+-- By the kind of the token: the definition asks for `_`, `@`, `$` and `!` in turn, and a law of Rules for each kind answers all its questions.
 use Rattle.structure.proofs.Rules.{mark-silent, mark-word, mark-atomic, mark-compound, mark-non, mark-none}
 use borrow.Author.Needs.{needs}
 use Rattle.structure.proofs.inner.rules.mark_at.Statement.{statement}

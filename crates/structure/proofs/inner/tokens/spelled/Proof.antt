@@ -1,3 +1,5 @@
+-- Three tests: the kind, the length, the bytes. Where word and spelling have the same length, whether the text from the word's start on begins
+-- so is whether the word does (`spells-by`).
 use native.Mathlib.Omega.{arith}
 use borrow.Author.Needs.{needs}
 use Rattle.token.proofs.Table.{low}

@@ -1,3 +1,5 @@
+-- The inside of a literal begins behind 2 bytes for kind 24, else behind 1, and ends before the last one (`string-bytes`). Where the token ends
+-- at 0 the string is empty (`string-none`); elsewhere there is a byte to take off.
 use native.Mathlib.Omega.{arith}
 use borrow.Author.Needs.{needs}
 use Rattle.token.proofs.Table.{low}

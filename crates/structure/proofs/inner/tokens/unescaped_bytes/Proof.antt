@@ -1,3 +1,5 @@
+-- The count is what is gone from 262,144, and that is enough: at most 65,536 bytes mean at most four each (`bytes-left`). A part that doesn't
+-- end behind its start is empty.
 use Rattle.literal.specs.Escapes.{unescaped}
 use Rattle.text.specs.Splice.{spent}
 use Rattle.token.proofs.Table.{part-is}

@@ -1,3 +1,4 @@
+-- A part that doesn't end behind its start is empty and has no bad escape (`bad-none`). Any other is the slice that is searched (`part-is`).
 use Rattle.literal.specs.Escapes.{badEscape}
 use Rattle.token.proofs.Table.{part-is}
 use Rattle.structure.proofs.Bytes.{bad-none}

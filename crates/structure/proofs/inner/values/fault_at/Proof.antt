@@ -1,3 +1,5 @@
+-- By the kind of the token, a law of Faults for each. What `literal_fault` is told of the opening bytes, 2 for kind 24 and 1 for the two other
+-- literals, is what the definition takes (`opens-two`, `opens-one`).
 use Rattle.structure.specs.declared.Fault.the-variants.{Sound}
 use Rattle.structure.proofs.Faults.{value-word, value-number, value-minus, value-string, value-insens, value-character, value-none}
 use native.Mathlib.Omega.{arith}

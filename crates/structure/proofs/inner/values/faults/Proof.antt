@@ -1,4 +1,5 @@
--- The invariant: the first fault of the text is the first one from i on. The tokens are as many as `token_count` says.
+-- Invariant (`FaultInv`): the first fault of the text is the first from token i on, the token before being of kind `before`. A sound token is
+-- passed, so that the tokens left fall; any fault is the first (`faults-stop`).
 use Rattle.structure.proofs.Faults.{FaultInv, faults-start, faults-more, faults-stop, faults-none}
 use Rattle.structure.specs.declared.Fault.the-variants.{Over, Zero, PeekRange, NotScalar, NotPlain}
 use borrow.Author.Needs.{needs}

@@ -1,3 +1,5 @@
+-- By the kind: of a negative number the bytes behind `-` are read against 2^31, of any other all bytes against 2^31 - 1. A token has a byte at
+-- least and lies inside the text (`spans`), so that both slices exist.
 use Rattle.structure.proofs.Faults.{integer-negative, integer-positive}
 use native.Mathlib.Omega.{arith}
 use borrow.Author.Needs.{needs}

@@ -1,3 +1,5 @@
+-- The part that is searched is the inside of the literal, so that its bad escape is the definition's, counted from where the inside begins.
+-- It stands inside the text (`literal-low`), so that the sum fits.
 use Rattle.structure.proofs.Faults.{literal-sound, literal-bad, literal-low}
 use native.Mathlib.Omega.{arith}
 use Prim.Native.Nat.{_-_, _+_}

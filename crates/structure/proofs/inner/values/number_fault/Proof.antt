@@ -1,3 +1,4 @@
+-- By the kind of the token before: behind `[` and `..` it is a number of a slice, behind any other a repeat number. A law of Faults for each.
 use Rattle.structure.proofs.Faults.{number-after-bracket, number-after-dots, number-repeats}
 use borrow.Author.Needs.{needs}
 use Rattle.structure.proofs.inner.values.number_fault.Statement.{statement}

@@ -1,3 +1,4 @@
+-- The token lies inside the text (`spans`), and the slice from its start to its end has the bytes of the word (`number-is`).
 use Rattle.structure.proofs.Faults.{number-is}
 use native.Mathlib.Omega.{arith}
 use borrow.Author.Needs.{needs}

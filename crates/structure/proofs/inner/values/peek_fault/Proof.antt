@@ -1,3 +1,4 @@
+-- By the three answers of `integer_of`, a law of Faults for each: only a number that is too large is a fault, at the token's start.
 use Rattle.structure.proofs.Faults.{peek-fits, peek-over, peek-other}
 use borrow.Author.Needs.{needs}
 use Rattle.structure.proofs.inner.values.peek_fault.Statement.{statement}

@@ -1,3 +1,4 @@
+-- By what the number is worth, a law of Faults for each way: too large is a fault; 0 is one exactly where `}` follows; all else is sound.
 use Rattle.structure.proofs.Faults.{repeat-other, repeat-over, repeat-some, repeat-zero, repeat-least}
 use native.Mathlib.Omega.{arith}
 use borrow.Author.Needs.{needs}

@@ -1,3 +1,4 @@
+-- At the tagged level no word is a fault. At the plain level PUSH_LITERAL is one, as `spelled` finds it.
 use Rattle.structure.proofs.Faults.{word-pushed, word-plain}
 use borrow.Author.Needs.{needs}
 use Rattle.structure.proofs.inner.values.word_fault.Statement.{statement}

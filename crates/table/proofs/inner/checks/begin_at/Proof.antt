@@ -1,3 +1,4 @@
+-- Rule 0 begins at 0; any other right behind the root of the rule before it (`begin-after`). A root has 32 bits, so 1 more fits.
 use denote.Ref.{now}
 use Prim.Native.Nat.{_+_, _-_, _*_}
 use mathlib.Core.Path.{sym, ap, _∙_}

@@ -1,3 +1,4 @@
+-- Four arms, one for each sort: a name is asked whether it is one, any other text whether it is UTF-8. `fineText` computes to that.
 use mathlib.Core.Path.{_∙_}
 use borrow.Author.Needs.{needs}
 use Rattle.table.proofs.inner.checks.fine_text.Statement.{statement}

@@ -1,3 +1,4 @@
+-- Kind 4 is a leaf with a name: where the name is good, the node is its own first node (`name-good`); otherwise it is false (`name-out`).
 use Prim.Native.Nat.{_+_, _*_}
 use mathlib.Core.Path.{sym, _∙_}
 use denote.Ref.{now}

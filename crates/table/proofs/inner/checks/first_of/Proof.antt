@@ -1,3 +1,5 @@
+-- A law of Verdicts for each return, by the node's shape. `Firsts` says what the entries of nodes before this one are;
+-- a first node is not behind its node (`first-le`), so a left child that stands before the right child's first node has an entry too.
 use mathlib.Core.Path.{sym, ap, _∙_}
 use denote.Ref.{now}
 use native.Mathlib.Omega.{arith}

@@ -1,3 +1,4 @@
+-- Three arms, at which `goodLeaf` computes: a text is judged by `good_text`, a range by its two ends, and a PEEK is always good.
 use Rattle.table.specs.Check.{goodLeaf}
 use mathlib.Core.Path.{sym, _∙_}
 use borrow.Author.Needs.{needs}

@@ -1,3 +1,4 @@
+-- A root that is a node has its first node in `firsts`, which is compared with where the rule's tree begins. Any other root is false.
 use denote.Ref.{now}
 use Prim.Native.Nat.{ℕ}
 use lib.Dec.{eqb}

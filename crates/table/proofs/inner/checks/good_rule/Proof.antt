@@ -1,3 +1,5 @@
+-- Name, mark and root are asked in this order. A bad name or mark makes the rule false (`rule-name-out`, `rule-mark-out`);
+-- where both are good, the root decides (`rule-root`).
 use denote.Ref.{now}
 use mathlib.Core.Path.{sym, _∙_}
 use borrow.Author.Tests.{not-true, not-false}

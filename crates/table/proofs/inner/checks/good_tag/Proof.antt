@@ -1,3 +1,4 @@
+-- A tag that isn't inside the store is false (`tag-out`). Of one that is, offset and length can be added, and its bytes decide (`tag-in`).
 use Rattle.table.proofs.Texts.{tag-in, tag-out, part-between}
 use Rattle.table.specs.Check.{isLabel}
 use mathlib.Core.Path.{sym, ap, _∙_}

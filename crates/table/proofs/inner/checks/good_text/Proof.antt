@@ -1,3 +1,5 @@
+-- A text that isn't inside the store is false (`text-out`). Of one that is, offset and length can be added, and its bytes decide,
+-- by its sort (`text-in`).
 use Rattle.table.proofs.Texts.{text-in, text-out, part-between}
 use Rattle.table.specs.Check.{fineText}
 use mathlib.Core.Path.{sym, ap, _∙_}

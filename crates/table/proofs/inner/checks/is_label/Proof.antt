@@ -1,3 +1,4 @@
+-- Three arms, by what `word` finds, at which `mayTag` computes: a name or a word that begins PUSH may be a tag, what is no word may not.
 use mathlib.Core.Path.{sym, ap, _∙_}
 use Rattle.table.specs.Check.{isLabel, mayTag}
 use borrow.Author.Needs.{needs}

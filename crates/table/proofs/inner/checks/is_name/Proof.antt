@@ -1,3 +1,4 @@
+-- Three arms, by what `word` finds, at which `mayName` computes: a word that begins PUSH is no name.
 use mathlib.Core.Path.{sym, ap, _∙_}
 use Rattle.table.specs.Check.{isName, mayName}
 use borrow.Author.Needs.{needs}

@@ -1,3 +1,4 @@
+-- The tests come in the order of `shaped`: at each return its `and` computes by those that went before. The last test is the result itself.
 use Prim.Native.Nat.{_%_}
 use denote.Ref.{now}
 use lib.ListN.{length}

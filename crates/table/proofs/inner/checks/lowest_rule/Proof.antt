@@ -1,3 +1,4 @@
+-- The invariant: k is at most m, and no rule below k is false; m - k falls. So the first rule that fails is the lowest (`lowest-bad`).
 use Rattle.table.specs.Record.{rulesIn}
 use Prim.Native.Nat.{_-_, _≤_}
 use mathlib.Core.Path.{_≡_, sym, ap, _∙_}

@@ -1,3 +1,4 @@
+-- The record is inside the table, and so are the four of its numbers that are read. Each has 32 bits, so that a `usize` holds it.
 use Prim.Native.Nat.{_+_, _*_}
 use native.Mathlib.Omega.{arith}
 use Rattle.table.specs.Record.{ruleSize, headAt}

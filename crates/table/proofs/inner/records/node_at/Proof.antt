@@ -1,3 +1,4 @@
+-- The record is inside the table, and so are its kind, p, q and r, of which `node_of` makes the node, as `nodeAt` does.
 use Rattle.table.specs.Record.{nodeAt}
 use borrow.Author.Needs.{needs}
 use Rattle.table.proofs.inner.records.node_at.Statement.{statement}

@@ -1,3 +1,4 @@
+-- An arm for each of the nineteen kinds, at whose number `nodeOf` computes. A number that is none of them is unknown (`kind-none`).
 use mathlib.Core.Path.{sym, _∙_}
 use Rattle.table.proofs.Records.{kind-none}
 use Rattle.table.specs.Record.{nodeOf}

@@ -1,3 +1,5 @@
+-- A number's last digit goes behind those of its tenth (`decimal-more`); the number falls at the call.
+-- Room for all digits is room for those of the tenth (`room-front`), and behind them for the last (`room-next`).
 use Prim.Native.Nat.{_+_, _/_, _%_, ℕ, _<_}
 use mathlib.Core.List.{[], _∷_}
 use mathlib.Core.Path.{_∙_}

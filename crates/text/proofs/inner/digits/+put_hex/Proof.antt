@@ -1,3 +1,5 @@
+-- The last of k digits goes behind the k - 1 digits of the number's sixteenth (`hexes-more`); k falls at the call.
+-- Room for all digits is room for the first ones (`room-front`), and behind them for the last (`room-next`).
 use Prim.Native.Nat.{_-_, _/_, _%_, ℕ, _<_}
 use mathlib.Core.List.{[], _∷_}
 use mathlib.Core.Path.{_∙_}

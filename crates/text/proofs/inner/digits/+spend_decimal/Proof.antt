@@ -1,3 +1,5 @@
+-- A number takes one byte more than its tenth (`decimal-more`); the number falls at the call.
+-- What is spent on one text and then on another is spent on both in a row (`spent-append`).
 use Prim.Native.Nat.{_+_, _%_, _/_, ℕ, _<_}
 use mathlib.Core.List.{List, [], _∷_}
 use mathlib.Core.Path.{ap, refl, _∙_}

@@ -1,3 +1,5 @@
+-- The invariant: the text from i on, after digits that are worth v, answers as the whole text does. What is left of the text falls.
+-- Over the limit v stays as it is: more digits don't change that answer (`from-step`).
 use Prim.Native.Nat.{_-_}
 use mathlib.Core.Path.{_≡_, refl, sym, _∙_}
 use native.Mathlib.Omega.{arith}

@@ -1,3 +1,5 @@
+-- The invariant: i is at most the text's length, and its first i bytes were stored from `at` on and nothing else was (`wrote-more`).
+-- There is room for all, so each store is inside; what is left of the text falls.
 use Prim.Native.Nat.{_+_, _-_, _≤_}
 use native.Mathlib.Nat.{add-zero}
 use native.Mathlib.Omega.{arith}

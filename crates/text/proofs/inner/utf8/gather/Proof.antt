@@ -1,3 +1,5 @@
+-- The invariant: after j bytes, v with the more - j that are left comes to what all come to; j is at most `more`; and v is below
+-- 256 * 64 ^ j, so that one byte more fits 32 bits (`gather-room`). more - j falls.
 use Prim.Native.Nat.{_+_, _-_, _*_, _^_, _≤_, _<_}
 use mathlib.Core.Path.{_≡_, sym, _∙_}
 use native.Mathlib.Nat.{add-zero, sub-zero}

@@ -1,3 +1,5 @@
+-- The invariant: x is at least each byte before i, x is below 128 if all bytes are, and i is at most the length.
+-- What is left of the text falls; at its end x is below 128 exactly where all bytes are (`low-all`).
 use Prim.Native.Nat.{ℕ, _-_, _≤_, _<_}
 use mathlib.Core.Path.{_≡_}
 use mathlib.Core.Logic.{⊎-elim}

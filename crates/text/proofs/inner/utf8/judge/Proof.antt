@@ -1,3 +1,4 @@
+-- Each return is `judged` at the tests that led there: below the row's least, a scalar, no scalar, or no number at all.
 use borrow.Author.Tests.{lt-leb, le-leb}
 use borrow.Author.Needs.{needs}
 use Rattle.text.specs.Utf8.{judged}

@@ -1,3 +1,5 @@
+-- Four lengths, by the tests of c: `encoded-one` to `encoded-four` say which bytes they are, so that the room allows each store,
+-- and `wrote-one` to `wrote-four` that stores one by one are one run of stores.
 use native.Mathlib.Omega.{arith}
 use lib.ListN.{length-set}
 use borrow.Author.Needs.{needs}

@@ -1,3 +1,4 @@
+-- Four lengths, by the tests of c: `encoded-one` to `encoded-four` say which bytes they are, and `spent-size` that their number is spent.
 use mathlib.Core.Path.{refl, _∙_}
 use borrow.Author.Needs.{needs}
 use Rattle.text.proofs.Decodes.{encoded-one, encoded-two, encoded-three, encoded-four}

@@ -1,3 +1,5 @@
+-- The invariant: the answer for what stands from i on is the answer for what stands from `at` on. A word byte moves i on (`all-step`),
+-- any other ends it (`all-stop`); what is left of the text falls.
 use Prim.Native.Nat.{_-_}
 use mathlib.Core.Path.{_≡_, refl, sym, _∙_}
 use native.Mathlib.Omega.{arith}

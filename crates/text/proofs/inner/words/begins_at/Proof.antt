@@ -1,3 +1,5 @@
+-- The invariant: whether the rest of `p` after j bytes stands at `at` + j is the answer, and `at` + j is at most the text's length.
+-- Two equal bytes move j on (`begins-step`); what is left of `p` falls.
 use Prim.Native.Nat.{_+_, _-_, _≤_}
 use mathlib.Core.Path.{_≡_, sym, _∙_}
 use native.Mathlib.Nat.{add-zero}

@@ -1,3 +1,4 @@
+-- No byte, or one that may not stand where it does, makes no word (`word-empty`, `word-at`). Of a word, PUSH at its front decides.
 use mathlib.Core.Path.{sym, _∙_}
 use borrow.Author.Tests.{not-true, not-false}
 use borrow.Author.Needs.{needs}

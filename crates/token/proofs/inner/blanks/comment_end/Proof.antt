@@ -1,3 +1,5 @@
+-- Invariant of both loops: from i with `opened` comments open, the last is closed where it is from `at` with one; and 1 ≤ `opened` ≤ i + 1. The inner
+-- loop also knows that i did not go back since it began, so that in both the bytes that are left fall. Each turn is a law of Comments.
 use Prim.Native.Nat.{_+_, _-_, _≤_}
 use mathlib.Core.Path.{_≡_, sym, _∙_}
 use native.Mathlib.Omega.{arith}

@@ -1,3 +1,4 @@
+-- CR is a blank exactly if LF stands behind it, and for `/` the answer is that of `slash_end`. No other opener begins a blank: the place stays.
 use mathlib.Core.Path.{sym, _∙_}
 use borrow.Author.Tests.{ne-eqb}
 use borrow.Author.Needs.{needs}

@@ -1,3 +1,5 @@
+-- Six ways out, as in the definition. `///` and `//!` are no blanks, any other `//` goes up to the line's end; `/*` is closed (`comment-closed`) or never
+-- (`comment-open`); another byte begins no comment. `drop-next` counts what stands behind the second byte from the text's start.
 use Prim.Native.Nat.{_+_}
 use mathlib.Core.Path.{sym, _∙_}
 use native.Mathlib.Omega.{arith}

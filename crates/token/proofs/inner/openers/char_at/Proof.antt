@@ -1,3 +1,5 @@
+-- A backslash that begins no escape is told (`char-bad`); behind an escape or a character `quoted_at` looks for the `'`; a broken sequence is no token.
+-- An escape has ten bytes at most (`meant`) and a character four (`decoded`), as `quoted_at` asks.
 use mathlib.Core.Path.{sym, _∙_}
 use native.Mathlib.Omega.{arith}
 use borrow.Author.Needs.{needs}

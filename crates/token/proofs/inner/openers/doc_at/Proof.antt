@@ -1,3 +1,5 @@
+-- Four ways out, by the two bytes behind the `/`: no second slash, `//!`, `///`, or another byte behind `//`. A doc goes up to the line's end.
+-- `drop-next` counts the byte behind the second slash from the text's start.
 use mathlib.Core.Path.{sym, _∙_}
 use native.Mathlib.Omega.{arith}
 use borrow.Author.Tests.{not-true, not-false}

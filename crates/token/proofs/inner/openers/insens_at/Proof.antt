@@ -1,3 +1,4 @@
+-- Behind the `^` the text ends, a `"` stands, or another byte. Only with a `"` it is a string, which these two bytes open.
 use Prim.Native.Nat.{_+_}
 use borrow.Author.Needs.{needs}
 use Rattle.text.proofs.Tests.{at-end}

@@ -1,3 +1,5 @@
+-- Invariant: the walk from i ends where the walk from `at` does. A turn goes past a byte (`inside-byte`) or an escape, which has two bytes or more
+-- (`inside-escape`, `meant`), so that the bytes that are left fall. It stops at a `"` or at a bad backslash (`inside-quote`, `inside-bad`).
 use Prim.Native.Nat.{_-_}
 use mathlib.Core.Path.{_≡_, refl, sym, _∙_}
 use native.Mathlib.Omega.{arith}

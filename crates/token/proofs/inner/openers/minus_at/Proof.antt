@@ -1,3 +1,4 @@
+-- Zeros and digits are both counted from behind the `-`, so that the ends compare as the counts do: the zeros end first exactly if not all digits are 0.
 use Prim.Native.Nat.{_+_, _<_, _≤_}
 use native.Mathlib.Omega.{arith}
 use lib.ListN.{drop}

@@ -1,3 +1,4 @@
+-- A kind is the byte's place in the list of the one-byte tokens, plus 1. Each of those 17 bytes computes to its own; any other is none of them: 18.
 use borrow.Author.Tests.{ne-eqb}
 use Rattle.token.specs.Tokens.{oneKind}
 use Rattle.token.proofs.inner.openers.one_kind.Statement.{statement}

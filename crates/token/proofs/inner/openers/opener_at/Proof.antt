@@ -1,3 +1,4 @@
+-- Each of seven bytes leads to its rule in the definition, and a callee answers for that rule; any other byte is none of them, and begins no token.
 use borrow.Author.Tests.{ne-eqb}
 use borrow.Author.Needs.{needs}
 use Rattle.token.specs.Tokens.{openerToken}

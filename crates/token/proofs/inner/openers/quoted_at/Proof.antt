@@ -1,3 +1,4 @@
+-- The code counts the byte from the text's start, the definition from behind the first `'`: `drop-drop` makes it one place. There stands a `'` or not.
 use Prim.Native.Nat.{_+_}
 use mathlib.Core.Path.{sym, ap, _∙_}
 use native.Mathlib.Omega.{arith}

@@ -1,3 +1,5 @@
+-- By where the inside ends: at a `"` (`string-closed`), at a bad backslash (`string-bad`), or with the text (`string-open`).
+-- A walk that stops does so at a byte of the text (`string-inside`), so that this byte can be read.
 use mathlib.Core.Path.{sym, _∙_}
 use native.Mathlib.Omega.{arith}
 use borrow.Author.Needs.{needs}

@@ -1,3 +1,4 @@
+-- Behind the `#` the text ends, or a byte stands that begins a word or doesn't (`first-at`). If it does, the tag goes up to the word's end.
 use Prim.Native.Nat.{_+_}
 use mathlib.Core.Path.{sym, _∙_}
 use native.Mathlib.Omega.{arith}

@@ -1,3 +1,5 @@
+-- A word that doesn't begin with P doesn't begin with PUSH: the first test only saves time. The others are the definition's: it begins with PUSH,
+-- it has 4 bytes, it has 12 and is PUSH_LITERAL.
 use mathlib.Core.Path.{sym, _∙_}
 use borrow.Author.Tests.{ne-eqb, not-true, not-false}
 use borrow.Author.Needs.{needs}

@@ -1,3 +1,4 @@
+-- The word's end less its start is how many bytes of a word the definition counts, so that `word_allowed` is asked about the same word.
 use Prim.Native.Nat.{_-_}
 use mathlib.Core.Path.{_≡_, sym, _∙_}
 use native.Mathlib.Omega.{arith}

@@ -1,3 +1,5 @@
+-- Invariant: i and what is left of the line from i on have the sum that `at` and what is left from `at` on have. A byte of the line keeps it (`run-step`);
+-- at LF, CRLF or the text's end nothing is left (`run-stop`, `run-over`). The bytes that are left fall.
 use Prim.Native.Nat.{_+_, _-_}
 use mathlib.Core.Bool.{not}
 use mathlib.Core.Path.{_≡_, refl, sym, ap, _∙_}

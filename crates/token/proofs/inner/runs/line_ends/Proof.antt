@@ -1,3 +1,4 @@
+-- LF ends a line, and CR where LF follows. A byte above 13 is neither (`over`): the first test only saves time.
 use Prim.Native.Nat.{ℕ, _≤_, _<_}
 use mathlib.Core.Path.{_≡_}
 use mathlib.Core.Bool.{false}

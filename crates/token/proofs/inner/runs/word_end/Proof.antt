@@ -1,3 +1,5 @@
+-- Invariant: i and the number of word bytes from i on have the sum that `at` and the number from `at` on have. A byte of a word keeps it (`byte-step`);
+-- at another byte, or where the text ends, none is left (`byte-stop`, `run-over`). The bytes that are left fall.
 use Prim.Native.Nat.{_+_, _-_}
 use mathlib.Core.Path.{_≡_, refl, sym, _∙_}
 use native.Mathlib.Omega.{arith}

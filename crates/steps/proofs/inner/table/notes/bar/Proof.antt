@@ -1,3 +1,4 @@
+-- `*` makes `/*` of the `/` that waits: one more comment is open. At any other byte the `/` is counted, and the row is Com's from there (`bar-else`).
 use mathlib.Core.Path.{_∙_}
 use borrow.Author.Tests.{ne-eqb}
 use borrow.Author.Needs.{needs}

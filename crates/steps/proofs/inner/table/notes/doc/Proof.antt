@@ -1,3 +1,4 @@
+-- LF ends the doc before itself, CR waits without being counted, and any other byte is one more of the doc.
 use borrow.Author.Tests.{ne-eqb}
 use native.Mathlib.Numerals.{add-one}
 use borrow.Author.Needs.{needs}

@@ -1,3 +1,4 @@
+-- LF makes CRLF of the CR that waits: the doc ends before both. At any other byte the CR is counted, and the row is Doc's from there (`doc-cr-else`).
 use mathlib.Core.Path.{_∙_}
 use borrow.Author.Tests.{ne-eqb}
 use borrow.Author.Needs.{needs}

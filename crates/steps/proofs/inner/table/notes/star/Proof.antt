@@ -1,3 +1,5 @@
+-- `/` makes `*/` of the `*` that waits: the last comment is closed, or one of several. At any other byte the `*` is counted, and the row is Com's from
+-- there (`star-else`).
 use mathlib.Core.Path.{_∙_}
 use borrow.Author.Tests.{ne-eqb, le-leb, lt-leb}
 use borrow.Author.Needs.{needs}

@@ -1,3 +1,4 @@
+-- Each of the seven tails computes to the state behind its next byte: Quote where that was the last one, and More with a shorter tail where not.
 use borrow.Author.Needs.{needs}
 use Rattle.steps.proofs.inner.table.texts.after_tail.Statement.{statement}
 use Rattle.steps.proofs.inner.table.texts.after_tail.Tie as tie

@@ -1,3 +1,5 @@
+-- Three ways on, as in the definition: a hex digit where fewer than six stand, `}` where two or more do, and otherwise a refusal at the backslash.
+-- `grow_if` answers for the last two.
 use native.Mathlib.Numerals.{add-one}
 use borrow.Author.Needs.{needs}
 use Rattle.steps.proofs.inner.table.texts.braced.Statement.{statement}

@@ -1,3 +1,5 @@
+-- A backslash begins an escape. At any other byte the definition asks what UTF-8's machine asks of a first byte, so that `lead` may answer (`chr-else`):
+-- Whole is Quote, Mid is More, Broke is a refusal.
 use mathlib.Core.Path.{sym, _∙_, ap}
 use borrow.Author.Tests.{ne-eqb}
 use borrow.Author.Needs.{needs}

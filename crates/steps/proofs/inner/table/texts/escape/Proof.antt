@@ -1,3 +1,5 @@
+-- Four ways on: an escape of one letter leads back into the literal, `x` and `u` lead to digits, any other byte is refused at the backslash.
+-- The backslash stands inside the token, so that its place does not overflow.
 use borrow.Author.Tests.{ne-eqb}
 use borrow.Author.Needs.{needs}
 use Rattle.steps.proofs.inner.table.texts.escape.Statement.{statement}

@@ -1,3 +1,4 @@
+-- Each of the seven letters computes to a value in the definition; any other byte is none of them, and has no value.
 use borrow.Author.Tests.{ne-eqb}
 use Rattle.literal.specs.Escapes.{simpleOf}
 use Rattle.steps.proofs.inner.table.texts.is_simple.Statement.{statement}

@@ -1,3 +1,4 @@
+-- Each of the eight openers computes to its state with one byte seen; any other byte is none of them, and is refused.
 use borrow.Author.Tests.{ne-eqb}
 use borrow.Author.Needs.{needs}
 use Rattle.steps.proofs.inner.table.words.opener.Statement.{statement}

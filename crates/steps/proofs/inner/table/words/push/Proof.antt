@@ -1,3 +1,5 @@
+-- The next letter of PUSH_LITERAL; with fewer than 4 letters, a word; the token, where PUSH or PUSH_LITERAL is whole and no word goes on; or a refusal.
+-- That is five returns for four cases of the definition: the code asks its last question in two tests, and refuses at either.
 use borrow.Author.Tests.{lt-ltb, le-ltb, not-true, not-false}
 use borrow.Author.Needs.{needs}
 use Rattle.states.specs.Machine.{pushRow}

@@ -1,3 +1,5 @@
+-- The class of the byte decides, as in the definition. In class 2 only P leads to Push, class 4 is a token of one byte, class 5 is left to `opener`; a class
+-- that is none of the five is refused.
 use borrow.Author.Tests.{ne-eqb}
 use native.Mathlib.Numerals.{add-one}
 use borrow.Author.Needs.{needs}

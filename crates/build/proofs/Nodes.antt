@@ -1,0 +1,178 @@
+-- Nodes that hold an expression: in brackets, whose end moves, or in PUSH, which ends with it.
+use Prim.Native.Nat.{ℕ, _+_, _-_, _*_, _≤_, _<_}
+use mathlib.Core.Path.{_≡_, refl, sym, ap, _∙_}
+use mathlib.Core.Bool.{true, false}
+use mathlib.Core.List.{List}
+use native.Mathlib.Omega.{arith}
+use lib.Dec.{leb}
+use lib.ListN.{length}
+use lib.Seq.{sets}
+use borrow.Author.Tests.{leb-false}
+use Rattle.text.specs.Words.{push}
+use Rattle.table.specs.declared.Unary.the-variants.{Push}
+use Rattle.table.specs.declared.Op.the-variants.{Plain}
+use Rattle.table.specs.declared.Node.the-variants.{One}
+use Rattle.table.specs.Tree.{Span, plain, Tree, leaf, one, two, count, size, placeOf, placed, endsAt}
+use Rattle.table.specs.Record.{nodeSize}
+use Rattle.table.specs.Flat.{recordOf, flat}
+use Rattle.structure.specs.declared.Level.{Level}
+use Rattle.structure.specs.Tokens.{toks, start, end, is, spells}
+use Rattle.structure.specs.Structure.{got, refused, next, want, limit, before, expr, node, Run, leafAt}
+use Rattle.structure.proofs.Steps.{choose-true, choose-false, inside-is, next-got, next-good, want-true, want-got, opened-got, opened-false}
+use Rattle.structure.proofs.Sizes.{stored-placed, grown-ends, grown-before}
+use Rattle.structure.proofs.Grammar.{node-law}
+use Rattle.build.specs.declared.Placed.{Placed}
+use Rattle.build.specs.Build.{Room, Built}
+use Rattle.records.specs.Records.{written, most, Over, EndMoved}
+use Rattle.records.proofs.Patches.{spanned}
+use Rattle.build.proofs.Lays.{laid-long, one-laid}
+
+pub place-placed : (p : Span) (t : Tree Span) → placeOf (placed p t) ≡ p
+place-placed p (leaf _ a) = refl
+place-placed p (one _ o t) = refl
+place-placed p (two _ j a b) = refl
+
+module _ (level : Level) (s : List ℕ) (o at used free : ℕ) (table store : List ℕ) (g : Room (Run level s (node o at)) table store used free) where
+  -- ---- `(` expression `)`
+  module _ (v : is s at 6 ≡ true) where
+    pub group-in : at < length (toks s)
+    group-in = inside-is s at 6 (omega arith) v
+
+    group-open : leb limit o ≡ false
+    group-open = opened-got o s at _ (sym (node-law level s o at ∙ choose-true (is s at 6) _ _ v) ∙ g .read) .0
+
+    pub group-deep : o < 1024
+    group-deep = leb-false limit o group-open
+
+    group-read : Run level s (node o at) ≡ next (Run level s (expr (o + 1) (at + 1))) (λ t n. want refused s n 7 (λ m. got (endsAt t (end s n)) m))
+    group-read = node-law level s o at ∙ choose-true (is s at 6) _ _ v ∙ opened-false o s at _ group-open
+
+    pub group-room : Room (Run level s (expr (o + 1) (at + 1))) table store used free
+    group-room =
+        let (t, n, e₁, e₂) = next-got _ _ (sym group-read ∙ g .read) in
+        let (a, p, e₃) = want-got s n 7 _ (omega arith) e₂ in
+        let y : endsAt t (end s n) ≡ g .tree = cc e₃ in
+        let c = ap (count {P = Span}) y in
+        let d = ap (size {P = Span}) y in
+        let w = grown-ends t (end s n) in
+        let w₁ = w .counts in
+        let w₂ = w .sizes in
+        let h₁ = g .room in
+        let h₂ = g .few in
+        let h₃ = g .fits in
+        let h₄ = g .low in
+        record { tree = t; end = n; read = e₁; room = omega arith; few = omega arith; fits = omega arith; low = omega arith }
+
+    pub group-last : (r : Placed) (tbl st : List ℕ) → Built (Run level s (expr (o + 1) (at + 1))) table store used free r tbl st → (nodeSize * r .used ≤ length tbl) × (0 < r .used)
+    group-last r tbl st d =
+        let h = group-room in
+        let m : got (h .tree) (h .end) ≡ got (d .tree) (r .next) = sym (h .read) ∙ d .read in
+        let y : h .tree ≡ d .tree = cc m in
+        let c = ap (count {P = Span}) y in
+        let l = laid-long (d .tree) table store used free tbl st (d .laid) in
+        let h₁ = h .room in
+        let x = d .used-is in
+        (omega arith, omega arith)
+
+    pub group-built : (r : Placed) (tbl st : List ℕ) → Built (Run level s (expr (o + 1) (at + 1))) table store used free r tbl st → (z : ℕ) → z ≡ end s (r .next) → z ≤ most
+        → (tbl′ : List ℕ) → EndMoved tbl (r .used) z tbl′
+        → (r .next < length (toks s)) × Built (Run level s (node o at)) table store used free (record { next = r .next + 1; used = r .used; free = r .free; from = r .from; to = z }) tbl′ st
+    unfolding endsAt
+    group-built r tbl st d z e b tbl′ m =
+        let t = d .tree in
+        let (a, p, e₃) = want-got s (r .next) 7 _ (omega arith) (sym (group-read ∙ next-good _ _ (d .read)) ∙ g .read) in
+        let q : Span = record { start = placeOf t .start; stop = end s (r .next) } in
+        let w = grown-ends t (end s (r .next)) in
+        let w₁ = w .counts in
+        let w₂ = w .sizes in
+        let x₁ = d .used-is in
+        let x₂ = d .free-is in (
+          p,
+          record {
+            tree = endsAt t (end s (r .next));
+            read = group-read ∙ next-good _ _ (d .read) ∙ want-true refused s (r .next) 7 _ a;
+            used-is = omega arith;
+            free-is = omega arith;
+            from-is = d .from-is ∙ sym (ap (λ (k : Span). k .start) (place-placed q t));
+            to-is = e ∙ sym (ap (λ (k : Span). k .stop) (place-placed q t));
+            short = (d .short .0, b);
+            laid = record {
+              holds = m .same table t used free (d .used-is) (d .laid .holds) ∙ ap (λ (j : ℕ). written table used (flat used free (endsAt t j))) e;
+              keeps = d .laid .keeps ∙ ap (sets store free) (sym (stored-placed q t));
+            };
+          },
+        )
+
+  -- ---- `PUSH(` expression `)`
+  module _ (v : is s at 6 ≡ false) (v₁ : spells push s at ≡ true) where
+    push-shape : (is s (at + 1) 6 ≡ true) × (at + 1 < length (toks s)) × (leb limit o ≡ false)
+    push-shape =
+        let (a, p, e) = want-got s (at + 1) 6 _ (omega arith) (sym (node-law level s o at ∙ choose-false (is s at 6) _ _ v ∙ choose-true (spells push s at) _ _ v₁) ∙ g .read) in
+        (a, p, opened-got o s (at + 1) _ e .0)
+
+    pub push-in : (at + 1 < length (toks s)) × (o < 1024)
+    push-in = (push-shape .1, leb-false limit o (push-shape .2))
+
+    push-read : Run level s (node o at) ≡ next (Run level s (expr (o + 1) (at + 1 + 1))) (λ t n. want refused s n 7 (λ m. got (before (start s at) (plain Push) t) m))
+    push-read =
+        node-law level s o at ∙ choose-false (is s at 6) _ _ v ∙ choose-true (spells push s at) _ _ v₁ ∙ want-true refused s (at + 1) 6 _ (push-shape .0)
+        ∙ opened-false o s (at + 1) _ (push-shape .2)
+
+    pub push-room : Room (Run level s (expr (o + 1) (at + 1 + 1))) table store used free
+    push-room =
+        let (t, n, e₁, e₂) = next-got _ _ (sym push-read ∙ g .read) in
+        let (a, p, e₃) = want-got s n 7 _ (omega arith) e₂ in
+        let y : before (start s at) (plain Push) t ≡ g .tree = cc e₃ in
+        let c = ap (count {P = Span}) y in
+        let d = ap (size {P = Span}) y in
+        let w = grown-before (start s at) Push t in
+        let w₁ = w .counts in
+        let w₂ = w .sizes in
+        let h₁ = g .room in
+        let h₂ = g .few in
+        let h₃ = g .fits in
+        let h₄ = g .low in
+        record { tree = t; end = n; read = e₁; room = omega arith; few = omega arith; fits = omega arith; low = omega arith }
+
+    pub push-over : (r : Placed) (tbl st : List ℕ) → Built (Run level s (expr (o + 1) (at + 1 + 1))) table store used free r tbl st → (a : ℕ) → a ≤ most → Over tbl (r .used) a (r .to) × (r .used < most)
+    push-over r tbl st d a b =
+        let (i, p, e) = want-got s (r .next) 7 _ (omega arith) (sym (push-read ∙ next-good _ _ (d .read)) ∙ g .read) in
+        let y : before (start s at) (plain Push) (d .tree) ≡ g .tree = cc e in
+        let c = ap (count {P = Span}) y in
+        let w₁ = grown-before (start s at) Push (d .tree) .counts in
+        let l = laid-long (d .tree) table store used free tbl st (d .laid) in
+        let h₁ = g .room in
+        let h₂ = g .few in
+        let x = d .used-is in
+        (record { room = omega arith; from = b; to = d .short .1; few = omega arith; after = omega arith }, omega arith)
+
+    pub push-built : (r : Placed) (tbl st : List ℕ) → Built (Run level s (expr (o + 1) (at + 1 + 1))) table store used free r tbl st → (a : ℕ) → a ≡ start s at → a ≤ most
+        → (tbl′ : List ℕ) → tbl′ ≡ written tbl (r .used) (recordOf (spanned a (r .to)) (One (Plain Push) (r .used - 1)))
+        → (r .next < length (toks s)) × Built (Run level s (node o at)) table store used free (record { next = r .next + 1; used = r .used + 1; free = r .free; from = a; to = r .to }) tbl′ st
+    unfolding before
+    push-built r tbl st d a e b tbl′ m =
+        let t = d .tree in
+        let (i, p, e₃) = want-got s (r .next) 7 _ (omega arith) (sym (push-read ∙ next-good _ _ (d .read)) ∙ g .read) in
+        let w = grown-before (start s at) Push t in
+        let w₁ = w .counts in
+        let w₂ = w .sizes in
+        let x₁ = d .used-is in
+        let x₂ = d .free-is in (
+          p,
+          record {
+            tree = before (start s at) (plain Push) t;
+            read = push-read ∙ next-good _ _ (d .read) ∙ want-true refused s (r .next) 7 _ i;
+            used-is = omega arith;
+            free-is = omega arith;
+            from-is = e;
+            to-is = d .to-is;
+            short = (b, d .short .1);
+            laid = one-laid table store used free t tbl st tbl′ (spanned (start s at) (placeOf t .stop)) Push (r .used) (r .used - 1) (d .laid) (d .used-is) (omega arith)
+                (m ∙ ap (λ (k : ℕ). written tbl (r .used) (recordOf (spanned k (r .to)) (One (Plain Push) (r .used - 1)))) e
+                ∙ ap (λ (k : ℕ). written tbl (r .used) (recordOf (spanned (start s at) k) (One (Plain Push) (r .used - 1)))) (d .to-is));
+          },
+        )
+
+  -- ---- a leaf
+  pub leaf-read : is s at 6 ≡ false → spells push s at ≡ false → Run level s (node o at) ≡ leafAt o s at
+  leaf-read v v₁ = node-law level s o at ∙ choose-false (is s at 6) _ _ v ∙ choose-false (spells push s at) _ _ v₁

@@ -1,0 +1,8 @@
+// Rules, expressions and terms over tokens, then what stands around a node, leaves, values and texts.
+pub mod build;
+pub mod leaves;
+pub mod loops;
+pub mod rules;
+pub mod store;
+pub mod terms;
+pub mod values;

@@ -1,0 +1,281 @@
+// Expressions, terms and nodes, built. A term's tag, predicates and postfixes are gone through by
+// loops: only brackets nest.
+use super::leaves::put_leaf;
+use super::loops::put_choice;
+use super::loops::put_postfixes;
+use super::loops::put_signs;
+use super::terms::get_node_tag;
+use super::terms::head_at;
+use super::terms::open_at;
+use super::terms::put_tag;
+use crate::Placed;
+use records::inner::nodes::move_end;
+use records::inner::nodes::put_join;
+use records::inner::nodes::put_unary;
+use structure::Level;
+use structure::inner::checks::signs_end;
+use structure::inner::tokens::end_at;
+use structure::inner::tokens::kind_at;
+use structure::inner::tokens::spelled;
+use structure::inner::tokens::start_at;
+use table::Join;
+use table::Unary;
+ghost use Rattle.structure.specs.Structure.{Run, expr, term, node};
+ghost use Rattle.structure.specs.Answers.{Lent};
+ghost use Rattle.build.specs.Build.{Scalars, Room, Built};
+
+// Terms joined by `~` or `|`, both grouped left.
+pub fn consume_expr(
+    text: &[u8],
+    kinds: &[u8],
+    starts: &[u32],
+    ends: &[u32],
+    nodes: &mut [u32],
+    store: &mut [u8],
+    level: Level,
+    deep: usize,
+    at: usize,
+    used: usize,
+    free: usize,
+) -> Placed
+    requires { ⌜ Lent (now text) (now kinds) (now starts) (now ends) ⌝ }
+    requires { ⌜ Scalars (now text) ⌝ }
+    requires { ⌜ Room (Run level (now text) (expr deep at)) (now nodes) (now store) used free ⌝ }
+    ensures { λ r. ⌜ Built (Run level (now (text .entry)) (expr deep at)) (now (nodes .entry)) (now (store .entry)) used free r (now (nodes .exit)) (now (store .exit)) ⌝ }
+{
+    let first = unaries(
+        text,
+        kinds,
+        starts,
+        ends,
+        nodes,
+        store,
+        level,
+        deep,
+        at,
+        used,
+        free,
+    );
+    let a = first.from;
+    let mut i = first.next;
+    let mut u = first.used;
+    let mut f = first.free;
+    let mut b = first.from;
+    let mut z = first.to;
+    let mut chosen = false;
+    let mut left: usize = 0;
+    loop {
+        let k = kind_at(text, kinds, starts, ends, i);
+        if k == 10 {
+            let right = unaries(
+                text,
+                kinds,
+                starts,
+                ends,
+                nodes,
+                store,
+                level,
+                deep,
+                i + 1,
+                u,
+                f,
+            );
+            put_join(nodes, right.used, b, right.to, Join::Seq, u - 1);
+            i = right.next;
+            u = right.used + 1;
+            f = right.free;
+            z = right.to;
+        } else {
+            u = put_choice(nodes, chosen, left, u, a, z);
+            if k != 11 {
+                return Placed {
+                    next: i,
+                    used: u,
+                    free: f,
+                    from: a,
+                    to: z,
+                };
+            }
+            chosen = true;
+            left = u - 1;
+            let right = unaries(
+                text,
+                kinds,
+                starts,
+                ends,
+                nodes,
+                store,
+                level,
+                deep,
+                i + 1,
+                u,
+                f,
+            );
+            i = right.next;
+            u = right.used;
+            f = right.free;
+            b = right.from;
+            z = right.to;
+        }
+    }
+}
+
+// At most one (tag, `=`), any `&` and `!`, a node, any postfixes.
+pub fn unaries(
+    text: &[u8],
+    kinds: &[u8],
+    starts: &[u32],
+    ends: &[u32],
+    nodes: &mut [u32],
+    store: &mut [u8],
+    level: Level,
+    deep: usize,
+    at: usize,
+    used: usize,
+    free: usize,
+) -> Placed
+    requires { ⌜ Lent (now text) (now kinds) (now starts) (now ends) ⌝ }
+    requires { ⌜ Scalars (now text) ⌝ }
+    requires { ⌜ Room (Run level (now text) (term deep at)) (now nodes) (now store) used free ⌝ }
+    ensures { λ r. ⌜ Built (Run level (now (text .entry)) (term deep at)) (now (nodes .entry)) (now (store .entry)) used free r (now (nodes .exit)) (now (store .exit)) ⌝ }
+{
+    let tag = get_node_tag(text, kinds, starts, ends, store, level, at, free);
+    let first = signs_end(text, kinds, starts, ends, tag.next);
+    let inner = consume_node(
+        text,
+        kinds,
+        starts,
+        ends,
+        nodes,
+        store,
+        level,
+        deep,
+        first,
+        used,
+        tag.free,
+    );
+    let tail = put_postfixes(
+        text,
+        kinds,
+        starts,
+        ends,
+        nodes,
+        inner.next,
+        inner.used,
+        inner.from,
+        inner.to,
+    );
+    open_at(text, kinds, starts, ends, nodes, first, tail.used);
+    let u = put_signs(
+        text,
+        kinds,
+        starts,
+        ends,
+        nodes,
+        tag.next,
+        first,
+        tail.used,
+        tail.to,
+    );
+    let a = head_at(text, kinds, starts, ends, tag.next, first, inner.from);
+    let built = Placed {
+        next: tail.next,
+        used: u,
+        free: inner.free,
+        from: a,
+        to: tail.to,
+    };
+    put_tag(
+        text,
+        kinds,
+        starts,
+        ends,
+        nodes,
+        level,
+        at,
+        free,
+        tag.free,
+        built,
+    )
+}
+
+// An expression in brackets, after PUSH or not; or a leaf.
+pub fn consume_node(
+    text: &[u8],
+    kinds: &[u8],
+    starts: &[u32],
+    ends: &[u32],
+    nodes: &mut [u32],
+    store: &mut [u8],
+    level: Level,
+    deep: usize,
+    at: usize,
+    used: usize,
+    free: usize,
+) -> Placed
+    requires { ⌜ Lent (now text) (now kinds) (now starts) (now ends) ⌝ }
+    requires { ⌜ Scalars (now text) ⌝ }
+    requires { ⌜ Room (Run level (now text) (node deep at)) (now nodes) (now store) used free ⌝ }
+    ensures { λ r. ⌜ Built (Run level (now (text .entry)) (node deep at)) (now (nodes .entry)) (now (store .entry)) used free r (now (nodes .exit)) (now (store .exit)) ⌝ }
+{
+    if kind_at(text, kinds, starts, ends, at) == 6 {
+        let inner = consume_expr(
+            text,
+            kinds,
+            starts,
+            ends,
+            nodes,
+            store,
+            level,
+            deep + 1,
+            at + 1,
+            used,
+            free,
+        );
+        let z = end_at(text, kinds, starts, ends, inner.next);
+        move_end(nodes, inner.used, z);
+        return Placed {
+            next: inner.next + 1,
+            used: inner.used,
+            free: inner.free,
+            from: inner.from,
+            to: z,
+        };
+    }
+    if spelled(b"PUSH", text, kinds, starts, ends, at) {
+        let inner = consume_expr(
+            text,
+            kinds,
+            starts,
+            ends,
+            nodes,
+            store,
+            level,
+            deep + 1,
+            at + 1 + 1,
+            used,
+            free,
+        );
+        let a = start_at(text, kinds, starts, ends, at);
+        put_unary(nodes, inner.used, a, inner.to, Unary::Push);
+        return Placed {
+            next: inner.next + 1,
+            used: inner.used + 1,
+            free: inner.free,
+            from: a,
+            to: inner.to,
+        };
+    }
+    put_leaf(
+        text,
+        kinds,
+        starts,
+        ends,
+        nodes,
+        store,
+        deep,
+        at,
+        used,
+        free,
+    )
+}

@@ -1,0 +1,111 @@
+// Rules: a name, a mark, a tree and a record each.
+use super::build::consume_expr;
+use super::store::put_bytes;
+use crate::Past;
+use records::inner::rules::put_rule;
+use structure::Level;
+use structure::inner::rules::docs_end;
+use structure::inner::rules::mark_at;
+use structure::inner::rules::past_bar;
+use structure::inner::rules::past_mark;
+use structure::inner::tokens::end_at;
+use structure::inner::tokens::kind_at;
+use structure::inner::tokens::start_at;
+ghost use Rattle.structure.specs.Answers.{Lent};
+ghost use Rattle.structure.specs.Structure.{ruleAt, grammar};
+ghost use Rattle.build.specs.Rules.{rulesOf};
+ghost use Rattle.build.specs.Build.{Scalars};
+ghost use Rattle.build.specs.Rules.{RuleRoom, RuleBuilt, RulesRoom, RulesBuilt};
+
+// Writes a rule: its name, its tree, then its record.
+fn consume_rule(
+    text: &[u8],
+    kinds: &[u8],
+    starts: &[u32],
+    ends: &[u32],
+    nodes: &mut [u32],
+    rules: &mut [u32],
+    store: &mut [u8],
+    level: Level,
+    at: usize,
+    index: usize,
+    used: usize,
+    free: usize,
+) -> Past
+    requires { ⌜ Lent (now text) (now kinds) (now starts) (now ends) ⌝ }
+    requires { ⌜ Scalars (now text) ⌝ }
+    requires { ⌜ RuleRoom (ruleAt level (now text) at) (now nodes) (now rules) (now store) index used free ⌝ }
+    ensures { λ r. ⌜ RuleBuilt (ruleAt level (now (text .entry)) at) (now (nodes .entry)) (now (rules .entry)) (now (store .entry)) index used free r (now (nodes .exit)) (now (rules .exit)) (now (store .exit)) ⌝ }
+{
+    let a = start_at(text, kinds, starts, ends, at);
+    let z = end_at(text, kinds, starts, ends, at);
+    let named = put_bytes(text, store, a, z, free);
+    let mark = mark_at(text, kinds, starts, ends, at + 1 + 1);
+    let open = past_mark(text, kinds, starts, ends, at + 1 + 1);
+    let body = past_bar(text, kinds, starts, ends, open + 1);
+    let tree = consume_expr(
+        text,
+        kinds,
+        starts,
+        ends,
+        nodes,
+        store,
+        level,
+        0,
+        body,
+        used,
+        named,
+    );
+    put_rule(rules, index, free, z - a, mark, tree.used - 1, a, z);
+    Past {
+        next: tree.next + 1,
+        used: tree.used,
+        free: tree.free,
+    }
+}
+
+// Writes the rules of a text that is good in structure and values, and for which there is room.
+pub fn consume_rules_with_spans(
+    text: &[u8],
+    kinds: &[u8],
+    starts: &[u32],
+    ends: &[u32],
+    nodes: &mut [u32],
+    rules: &mut [u32],
+    store: &mut [u8],
+    level: Level,
+)
+    requires { ⌜ Lent (now text) (now kinds) (now starts) (now ends) ⌝ }
+    requires { ⌜ Scalars (now text) ⌝ }
+    requires { ⌜ RulesRoom (grammar level (now text)) (rulesOf level (now text)) (now nodes) (now rules) (now store) ⌝ }
+    ensures { λ _. ⌜ RulesBuilt (rulesOf level (now (text .entry))) (now (nodes .entry)) (now (rules .entry)) (now (store .entry)) (now (nodes .exit)) (now (rules .exit)) (now (store .exit)) ⌝ }
+{
+    let mut i = docs_end(text, kinds, starts, ends);
+    let mut index = 0;
+    let mut used = 0;
+    let mut free = 0;
+    while i < kinds.len() {
+        if kind_at(text, kinds, starts, ends, i) == 27 {
+            i += 1;
+        } else {
+            let rule = consume_rule(
+                text,
+                kinds,
+                starts,
+                ends,
+                nodes,
+                rules,
+                store,
+                level,
+                i,
+                index,
+                used,
+                free,
+            );
+            i = rule.next;
+            index += 1;
+            used = rule.used;
+            free = rule.free;
+        }
+    }
+}

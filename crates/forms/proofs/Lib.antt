@@ -1,0 +1,8 @@
+-- The laws of texts and of their parts, for this crate's own functions and for the crates above.
+pub mod Displays
+pub mod Levels
+pub mod Joins
+pub mod Spans
+pub mod Rows
+pub mod Measures
+pub mod Leaves

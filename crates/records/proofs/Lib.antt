@@ -1,0 +1,2 @@
+-- Records: the laws of its writers.
+pub mod Patches

@@ -1,0 +1,2 @@
+-- Records: the definitions that the contracts of this crate cite.
+pub mod Records
