@@ -13,13 +13,14 @@ use Rattle.text.specs.Choice.{choose}
 use Rattle.text.specs.Splice.{Wrote}
 use Rattle.text.specs.Splice as Splice
 use Rattle.text.proofs.Splices.{wrote-length}
+use Rattle.token.specs.Table.{start, is, label}
+use Rattle.token.proofs.Table.{low}
 use Rattle.table.specs.Tree.{Span, Tree, count, size, stored, placeOf, startsAt}
 use Rattle.table.specs.Record.{nodeSize}
 use Rattle.structure.specs.declared.Level.{Level}
 use Rattle.structure.specs.declared.Level.the-variants as Level
 use Rattle.structure.specs.declared.Opening.the-variants.{From}
-use Rattle.structure.specs.Tokens.{start, is, label}
-use Rattle.structure.specs.Answers.{Lent, unread, openingOf, tagNodes, tagBytes, signs, Signed}
+use Rattle.structure.specs.Answers.{unread, openingOf, tagNodes, tagBytes, signs, Signed}
 use Rattle.structure.specs.Structure.{Parsed, got, next, before, term, signed, node, posts, Run}
 use Rattle.structure.proofs.Steps.{choose-true, choose-false, next-got, next-good, next-assoc, next-fun, next-on, want-got}
 use Rattle.structure.proofs.Sizes.{Grown, grown-none, grown-starts, stored-placed}
@@ -32,7 +33,6 @@ use Rattle.build.specs.declared.Placed.{Placed}
 use Rattle.build.specs.declared.Trailed.{Trailed}
 use Rattle.build.specs.Build.{Room, Built, SignsRoom, SignsPut, PostsRoom, PostsPut, Trails, labelled, tagText, pastTag, bracketed, Opened, headAt, tagCount, TagRoom, Tied}
 use Rattle.records.specs.Records.{most}
-use Rattle.structure.proofs.Arrays.{low}
 use Rattle.records.proofs.Patches.{spanned}
 use Rattle.build.proofs.Lays.{laid-long}
 use Rattle.build.proofs.Loops.{stop-signs}
@@ -135,8 +135,8 @@ module _ (level : Level) (s : List ℕ) (o at used free : ℕ) (table store : Li
       record { fits = omega arith }
 
   module _ (store₁ : List ℕ) (mid from first : ℕ) (w : Wrote store free (tagText level s at) store₁ mid) (e : from ≡ pastTag s at) (v : Signed s from first) where
-    pub node-falls : (ks ss es : List ℕ) → Lent s ks ss es → unread s es first ≤ unread s es at
-    node-falls ks ss es l = falls-term level s ks ss es at (pastTag s at) (tagCount level s at) (length (tagText level s at)) first l opened-term (subst (λ (k : ℕ). Signed s k first) e v)
+    pub node-falls : unread s first ≤ unread s at
+    node-falls = falls-term level s at (pastTag s at) (tagCount level s at) (length (tagText level s at)) first opened-term (subst (λ (k : ℕ). Signed s k first) e v)
 
     abbrev finished : Tree Span → Tree Span
     finished x = signs s from (first - from) (bracketed s first x)

@@ -20,8 +20,11 @@ use Rattle.table.specs.Record.{nodeSize}
 use Rattle.table.specs.Flat.{recordOf}
 use Rattle.table.specs.Flat as Flat
 use Rattle.text.specs.Choice.{choose, and}
+use Rattle.token.specs.Table.{toks, start, end, is, part, word}
+use Rattle.token.specs.Tokens.{pushLiteral}
+use Rattle.token.proofs.Table.{low, spans, word-is, part-length}
 use Rattle.structure.specs.declared.Refusal.the-variants.{NotAllowed}
-use Rattle.structure.specs.Tokens.{toks, start, end, is, across, part, word, same, spells, peek, pushLiteral}
+use Rattle.structure.specs.Tokens.{across, same, spells, peek}
 use Rattle.structure.specs.Values.{isInteger, integer, opening, inside, string, character}
 use Rattle.structure.specs.Structure.{Parsed, got, refused, sliceTo, slice, pushed, ranged, leafAt}
 use Rattle.structure.proofs.Steps.{choose-true, choose-false, split, inside-is, want-true, no-tree, want-got, opened-got, opened-false}
@@ -30,7 +33,6 @@ use Rattle.build.specs.Build.{Room, Built, wordLeaf, stringLeaf}
 use Rattle.records.specs.Records.{written, most, Fits}
 use Rattle.records.proofs.Patches.{spanned}
 use Rattle.build.proofs.Lays.{leaf-laid}
-use Rattle.structure.proofs.Arrays.{low, spans, word-is, part-length}
 
 -- what room for a leaf is
 pub record LeafRoom (table store : List ℕ) (used free n : ℕ) : Type 0 where

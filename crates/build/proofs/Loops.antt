@@ -6,6 +6,8 @@ use mathlib.Core.List.{List, []}
 use native.Mathlib.Omega.{arith}
 use lib.ListN.{length}
 use lib.Seq.{sets}
+use Rattle.token.specs.Table.{toks, kind, start, end}
+use Rattle.token.proofs.Table.{low}
 use Rattle.table.specs.declared.Unary.{Unary}
 use Rattle.table.specs.declared.Unary.the-variants.{PosPred, NegPred}
 use Rattle.table.specs.declared.Op.the-variants.{Plain}
@@ -15,7 +17,6 @@ use Rattle.table.specs.Tree.{Span, plain, Tree, one, below, count, stored, plac
 use Rattle.table.specs.Record.{nodeSize}
 use Rattle.table.specs.Flat.{recordOf, flat}
 use Rattle.structure.specs.declared.Level.{Level}
-use Rattle.structure.specs.Tokens.{toks, kind, start, end}
 use Rattle.structure.specs.Answers.{signOf, signs}
 use Rattle.structure.specs.Structure.{got, before, after, posts, Run, Postfix, post, notPost, noPost, postfixAt, postsBy}
 use Rattle.structure.proofs.Steps.{sees, misses, no-tree}
@@ -28,7 +29,6 @@ use Rattle.build.specs.Build.{SignsRoom, SignsPut, PostsRoom, PostsPut, 
 use Rattle.records.specs.Records.{written, most, Over}
 use Rattle.records.proofs.Patches.{spanned, length-written}
 use Rattle.build.proofs.Lays.{one-laid}
-use Rattle.structure.proofs.Arrays.{low}
 
 -- a record over a tree's records
 pub one-holds : (o tbl tbl′ : List ℕ) (t : Tree Span) (f free : ℕ) (s : Span) (u : Unary) (g c : ℕ) → tbl ≡ written o f (flat f free t) → g ≡ f + count t → c ≡ f + below t

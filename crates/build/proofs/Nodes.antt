@@ -9,6 +9,7 @@ use lib.ListN.{length}
 use lib.Seq.{sets}
 use borrow.Author.Tests.{leb-false}
 use Rattle.text.specs.Words.{push}
+use Rattle.token.specs.Table.{toks, start, end, is}
 use Rattle.table.specs.declared.Unary.the-variants.{Push}
 use Rattle.table.specs.declared.Op.the-variants.{Plain}
 use Rattle.table.specs.declared.Node.the-variants.{One}
@@ -16,7 +17,7 @@ use Rattle.table.specs.Tree.{Span, plain, Tree, leaf, one, two, count, size, pl
 use Rattle.table.specs.Record.{nodeSize}
 use Rattle.table.specs.Flat.{recordOf, flat}
 use Rattle.structure.specs.declared.Level.{Level}
-use Rattle.structure.specs.Tokens.{toks, start, end, is, spells}
+use Rattle.structure.specs.Tokens.{spells}
 use Rattle.structure.specs.Structure.{got, refused, next, want, limit, before, expr, node, Run, leafAt}
 use Rattle.structure.proofs.Steps.{choose-true, choose-false, inside-is, next-got, next-good, want-true, want-got, opened-got, opened-false}
 use Rattle.structure.proofs.Sizes.{stored-placed, grown-ends, grown-before}

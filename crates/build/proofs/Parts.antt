@@ -9,10 +9,10 @@ use borrow.Author.Tests.{eqb-true, ne-eqb}
 use Rattle.token.specs.Lists.{tok}
 use Rattle.token.proofs.Bounds.{least}
 use Rattle.token.proofs.Lists.{inside-at}
-use Rattle.structure.specs.Tokens.{toks, tokenOf, kind, start, end, is, part, label}
+use Rattle.token.specs.Table.{toks, tokOf, kind, start, end, is, part, label}
+use Rattle.token.proofs.Table.{low}
 use Rattle.structure.specs.Values.{opening}
 use Rattle.structure.proofs.Steps.{inside-is}
-use Rattle.structure.proofs.Arrays.{low}
 use Rattle.records.specs.Records.{most}
 
 pub label-is : (s : List ℕ) (i a z : ℕ) → a ≡ start s i + 1 → z ≡ end s i → part s a z ≡ label s i
@@ -24,7 +24,7 @@ label-is s i a z e f =
 -- ---- the quotes of a literal
 
 long-at : (s : List ℕ) (i : ℕ) → i < length (toks s) → start s i + least (kind s i) ≤ end s i
-unfolding kind start end tokenOf
+unfolding kind start end tokOf
 long-at s i h = inside-at s i (tok 0 (length s) (length s)) h .long
 
 is-kind : (s : List ℕ) (i k : ℕ) → is s i k ≡ true → kind s i ≡ k

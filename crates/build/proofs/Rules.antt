@@ -15,9 +15,11 @@ use Rattle.table.specs.Flat.{flat, ruleRecord, nodesFrom, recordsFrom, nodesOf,
 use Rattle.table.proofs.Flats.{length-flat}
 use Rattle.table.proofs.Rules.{length-rule, length-nodes, length-records}
 use Rattle.structure.specs.declared.Level.{Level}
-use Rattle.structure.specs.Tokens.{toks, kind, start, end, is, part, word, across, spells}
+use Rattle.structure.specs.Tokens.{across, spells}
 use Rattle.structure.specs.Structure.{got, expr, Run, silent, markAt, pastMark, pastBar, Ruled, rules, unruled, withRule, Ruling, ruling, noRule, thenRules, ruleAt, rulesIn, docs, grammar}
 use Rattle.token.proofs.Lists.{few}
+use Rattle.token.specs.Table.{toks, kind, start, end, is, part, word}
+use Rattle.token.proofs.Table.{low, word-is, part-length}
 use borrow.Author.Tests.{leb-false}
 use Rattle.structure.proofs.Steps.{split, sees, misses}
 use Rattle.structure.proofs.Cases.{rule-read}
@@ -28,7 +30,6 @@ use Rattle.build.specs.Build.{Room, Built}
 use Rattle.records.specs.Records.{written, ruleWritten, RuleFits}
 use Rattle.build.specs.Rules.{RuleRoom, RuleBuilt, RulesRoom, RulesBuilt}
 use Rattle.records.proofs.Patches.{length-written, length-rule-written, sets-on, written-on, rule-written-on}
-use Rattle.structure.proofs.Arrays.{low, word-is, part-length}
 
 -- ---- one rule
 

@@ -11,6 +11,8 @@ use borrow.Author.Tests.{lt-ltb, le-ltb}
 use Rattle.text.specs.Splice.{Wrote}
 use Rattle.text.specs.Splice as Splice
 use Rattle.text.proofs.Splices.{wrote-none}
+use Rattle.token.specs.Table.{toks, kind, start, end, is, part, label}
+use Rattle.token.proofs.Table.{low, spans}
 use Rattle.table.specs.declared.Op.the-variants.{NodeTag}
 use Rattle.table.specs.declared.Node.the-variants.{One}
 use Rattle.table.specs.Tree.{Span, nodeTag, Tree, stored, placeOf, startsAt}
@@ -18,7 +20,6 @@ use Rattle.table.specs.Flat.{recordOf, flat}
 use Rattle.structure.specs.declared.Level.{Level}
 use Rattle.structure.specs.declared.Level.the-variants as Level
 use Rattle.structure.specs.Answers.{tagNodes}
-use Rattle.structure.specs.Tokens.{toks, kind, start, end, is, part, label}
 use Rattle.structure.specs.Structure.{Parsed, got, refused, next, before, inTag, term, signed, Run}
 use Rattle.structure.proofs.Steps.{choose-true, choose-false, sees, misses, inside-is, next-good, want-true, want-got}
 use Rattle.structure.proofs.Sizes.{count-one, size-one}
@@ -26,7 +27,6 @@ use Rattle.structure.proofs.Grammar.{term-law}
 use Rattle.build.specs.declared.Placed.{Placed}
 use Rattle.build.specs.Build.{Room, Built, Opened, bracketed, labelled, tagText, pastTag, headAt, TagRoom, Tied, tagCount}
 use Rattle.records.specs.Records.{written, most, Over, StartMoved}
-use Rattle.structure.proofs.Arrays.{low, spans}
 use Rattle.build.proofs.Parts.{label-is, start-low}
 use Rattle.records.proofs.Patches.{spanned, length-written}
 use Rattle.build.proofs.Lays.{tag-laid}

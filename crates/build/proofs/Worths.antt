@@ -16,8 +16,8 @@ use Rattle.text.specs.declared.Sequence.the-variants as Sequence
 use Rattle.literal.specs.Escapes.{escapeOf}
 use Rattle.literal.specs.declared.Escape.{Escape}
 use Rattle.literal.specs.declared.Escape.the-variants as Escape
+use Rattle.token.specs.Table.{toks, kind, start, end, is, part, word}
 use Rattle.table.specs.declared.Unary.the-variants.{Opt, Rep, RepOnce, RepExact, RepMin, RepMax, RepMinMax}
-use Rattle.structure.specs.Tokens.{toks, kind, start, end, is, part, word}
 use Rattle.structure.specs.Values.{worth, negated, number, isInteger, integerOf, integer, opening, inside, rawChar, charBy, character}
 use Rattle.structure.specs.Structure.{want, Postfix, post, notPost, fromNumber, fromComma, postfixAt}
 use Rattle.structure.proofs.Steps as Steps

@@ -17,7 +17,7 @@ use Rattle.table.specs.declared.Join.the-variants.{Choice}
 use Rattle.table.specs.declared.Node.the-variants.{Two}
 use Rattle.table.specs.declared.Sort.{Sort}
 use Rattle.table.specs.declared.Sort.the-variants.{Ident}
-use Rattle.structure.specs.Tokens.{start, is, label, across, word}
+use Rattle.structure.specs.Tokens.{across}
 use Rattle.structure.specs.Values.{inside, string}
 use Rattle.structure.specs.Structure.{Parsed, got, term, signed, posts, Run, Postfix, post, notPost, noPost}
 use Rattle.structure.specs.Answers.{signs, tagNodes}
@@ -26,6 +26,7 @@ use Rattle.structure.specs.declared.Level.{Level}
 use Rattle.structure.specs.declared.Level.the-variants as Level
 use Rattle.text.specs.Choice.{choose}
 use Rattle.text.specs.Splice.{Wrote}
+use Rattle.token.specs.Table.{start, is, label, word}
 use Rattle.build.specs.declared.Placed.{Placed}
 use Rattle.build.specs.declared.Trailed.{Trailed}
 use Rattle.build.specs.declared.Suffix.{Suffix}

@@ -13,17 +13,18 @@ use lib.ListN.{length, take, length-append, length-take}
 use lib.Seq.{take-all}
 use borrow.Author.Tests.{le-leb, lt-leb, leb-true, ltb-true, eqb-true}
 use Rattle.text.specs.Choice.{choose, and, or}
+use Rattle.text.specs.Splice.{fronted}
 use Rattle.text.specs.Utf8.{firstBad}
 use Rattle.text.specs.declared.Check.{Check}
 use Rattle.text.specs.declared.Check.the-variants as Check
 use Rattle.literal.specs.Escapes.{badEscape}
-use Rattle.token.specs.Lists.{kindOf, startOf, endOf, tokensOf, filledOf, Space, Holds}
+use Rattle.token.specs.Lists.{tokensOf, filledOf}
 use Rattle.token.specs.declared.Filled.{Filled}
 use Rattle.token.specs.declared.Filled.the-variants as Filled
 use Rattle.token.proofs.Lists.{few}
+use Rattle.token.proofs.Table.{flat-length}
 use Rattle.token.proofs.Fills.{used, filled-all, filled-none, filled-over}
 use Rattle.text.proofs.Splices.{length-fronted}
-use Rattle.token.proofs.Lists.{length-each}
 use Rattle.table.specs.Tree.{Span, Rule, counts, ruleStored, rulesStored}
 use Rattle.table.specs.Flat.{nodesOf, recordsOf}
 use Rattle.structure.specs.declared.Level.{Level}
@@ -33,14 +34,13 @@ use Rattle.structure.specs.declared.Refusal.{Refusal}
 use Rattle.structure.specs.declared.Refusal.the-variants as Refusal
 use Rattle.structure.specs.declared.Counted.{Counted}
 use Rattle.structure.specs.declared.Counted.the-variants as Counted
-use Rattle.structure.specs.Tokens as Tokens
-use Rattle.structure.specs.Tokens.{toks, is}
 use Rattle.structure.specs.Values.{inside, literalFault, faultAt, orFault, faultsFrom, faults}
 use Rattle.structure.specs.Structure.{Ruled, rules, unruled, grammar, docs}
 use Rattle.structure.specs.Structure as Structure
-use Rattle.structure.specs.Answers.{Lent, summaries}
+use Rattle.structure.specs.Answers.{summaries}
 use Rattle.structure.proofs.Sizes as Sizes
 use Rattle.text.proofs.Tests.{lt-or-ge}
+use Rattle.token.specs.Table.{tokenSize, flat, roomOf, toks, kind, is, Lent}
 use Rattle.structure.proofs.Steps.{choose-true, choose-false, split, inside-is, another, and-left, or-first, or-second}
 use Rattle.structure.proofs.Rules.{rule-went, rules-end}
 use Rattle.reader.specs.declared.Reading.{Reading}
@@ -135,7 +135,7 @@ module _ (level : Level) (s : List ℕ) where
       let p = or-sound (faultAt level s before i) _ e in
       ⊎-elim
       (λ q. (before, ap (faultAt level s before) (sym q) ∙ p .0))
-      (λ m. sound-at (Tokens.kind s i) (i + 1) n j (p .1) (omega arith) (omega arith))
+      (λ m. sound-at (kind s i) (i + 1) n j (p .1) (omega arith) (omega arith))
       (eq-or-lt-of-le h)
 
   strings-good : (i : ℕ) (k : ℕ) → faultAt level s k i ≡ Fault.Sound → is s i 18 ≡ false → is s i 20 ≡ false → is s i 21 ≡ false → or (is s i 23) (or (is s i 24) (is s i 25)) ≡ true
@@ -150,9 +150,9 @@ module _ (level : Level) (s : List ℕ) where
   sound-literal e i x h q d =
       let l = inside-is s i x (omega arith) q in
       let (k, f) = sound-at 0 0 (length (toks s)) i e (omega arith) (omega arith) in
-      let w : Tokens.kind s i ≡ x = eqb-true (Tokens.kind s i) x q in
-      strings-good i k f (another s i (Tokens.kind s i) x 18 refl w (λ m. omega arith)) (another s i (Tokens.kind s i) x 20 refl w (λ m. omega arith))
-      (another s i (Tokens.kind s i) x 21 refl w (λ m. omega arith)) d
+      let w : kind s i ≡ x = eqb-true (kind s i) x q in
+      strings-good i k f (another s i (kind s i) x 18 refl w (λ m. omega arith)) (another s i (kind s i) x 20 refl w (λ m. omega arith))
+      (another s i (kind s i) x 21 refl w (λ m. omega arith)) d
 
   -- every string of a text whose values are sound means characters
   pub sound-scalars : faults level s ≡ Fault.Sound → Scalars s
@@ -276,7 +276,7 @@ module _ (level : Level) (s ns rs st : List ℕ) (x : Reading) (n r : ℕ) (e : 
         → (x ≡ judgedOf level s (roomForNodes ns) (roomForRules rs) (length st)) × Leaves level s x ns rs st ns′ rs′ st′
     build-read ns′ rs′ st′ d = (judged-is, rw w (read-left level s ns rs st a b c ns′ rs′ st′ d))
 
--- ---- tokens in the arrays
+-- ---- tokens in the table
 
 module _ (m : ℕ) (level : Level) (s : List ℕ) (n r b : ℕ) where
   tried-fits : length (toks s) ≤ m → triedOf m level s n r b ≡ Tried.Done (listedOf level s n r b)
@@ -308,7 +308,7 @@ module _ (m : ℕ) (level : Level) (s : List ℕ) (n r b : ℕ) where
       let z : _≡_ {A = ℕ} 0 1 = cc in
       omega arith
 
--- one size of arrays did
+-- one size of table did
 pub listed-done : (m : ℕ) (level : Level) (s ns rs st ns₁ rs₁ st₁ : List ℕ) {t : Tried} {x : Reading} → t ≡ triedOf m level s (roomForNodes ns) (roomForRules rs) (length st)
     → TriedLeaves level s t ns rs st ns₁ rs₁ st₁ → t ≡ Tried.Done x → (x ≡ listedOf level s (roomForNodes ns) (roomForRules rs) (length st)) × Leaves level s x ns rs st ns₁ rs₁ st₁
 listed-done m level s ns rs st ns₁ rs₁ st₁ e w q = (tried-done m level s (roomForNodes ns) (roomForRules rs) (length st) e q, rw q at w)
@@ -321,61 +321,55 @@ listed-again level s ns rs st ns₁ rs₁ st₁ ns₂ rs₂ st₂ w q e l =
     let v : (ns₁ ≡ ns) × (rs₁ ≡ rs) × (st₁ ≡ st) = rw q at w in
     (rw (v .0, v .1, v .2) at e, rw (v .0, v .1, v .2) at l)
 
-module _ (s k₀ : List ℕ) (f : Filled) (e : f ≡ filledOf (length k₀) s) where
-  pub work-full : (level : Level) (ns rs st : List ℕ) (n r b : ℕ) → f ≡ Filled.Full → (Tried.Full ≡ triedOf (length k₀) level s n r b) × TriedLeaves level s Tried.Full ns rs st ns rs st
-  work-full level ns rs st n r b q = (sym (tried-over (length k₀) level s n r b (filled-over (length k₀) s (sym e ∙ q))), (refl, refl, refl))
+module _ (s o₀ : List ℕ) (f : Filled) (e : f ≡ filledOf (roomOf o₀) s) where
+  pub work-full : (level : Level) (ns rs st : List ℕ) (n r b : ℕ) → f ≡ Filled.Full → (Tried.Full ≡ triedOf (roomOf o₀) level s n r b) × TriedLeaves level s Tried.Full ns rs st ns rs st
+  work-full level ns rs st n r b q = (sym (tried-over (roomOf o₀) level s n r b (filled-over (roomOf o₀) s (sym e ∙ q))), (refl, refl, refl))
 
   pub work-stopped : (level : Level) (ns rs st : List ℕ) (n r b p : ℕ) → f ≡ Filled.NoToken p
-      → (Tried.Done (Reading.NoToken p) ≡ triedOf (length k₀) level s n r b) × TriedLeaves level s (Tried.Done (Reading.NoToken p)) ns rs st ns rs st
+      → (Tried.Done (Reading.NoToken p) ≡ triedOf (roomOf o₀) level s n r b) × TriedLeaves level s (Tried.Done (Reading.NoToken p)) ns rs st ns rs st
   unfolding listedOf
   work-stopped level ns rs st n r b p q =
-      let w = filled-none (length k₀) s p (sym e ∙ q) in
+      let w = filled-none (roomOf o₀) s p (sym e ∙ q) in
       let z : Reading.NoToken p ≡ listedOf level s n r b = sym (ap (λ (x : Check). checkedBy x Reading.NoToken (λ u. judgedOf level s n r b)) (w .1)) in
-      (ap Tried.Done z ∙ sym (tried-fits (length k₀) level s n r b (w .0)), kept level s ns rs st (Reading.NoToken p) (omega arith))
+      (ap Tried.Done z ∙ sym (tried-fits (roomOf o₀) level s n r b (w .0)), kept level s ns rs st (Reading.NoToken p) (omega arith))
 
   module _ (n : ℕ) (q : f ≡ Filled.All n) where
-    all : (length (toks s) ≤ length k₀) × (n ≡ length (toks s)) × (tokensOf s .fault ≡ Check.Good)
-    all = filled-all (length k₀) s n (sym e ∙ q)
+    all : (length (toks s) ≤ roomOf o₀) × (n ≡ length (toks s)) × (tokensOf s .fault ≡ Check.Good)
+    all = filled-all (roomOf o₀) s n (sym e ∙ q)
 
-    pub work-filled : (level : Level) (x : Reading) (k r b : ℕ) → x ≡ judgedOf level s k r b → Tried.Done x ≡ triedOf (length k₀) level s k r b
+    pub work-filled : (level : Level) (x : Reading) (k r b : ℕ) → x ≡ judgedOf level s k r b → Tried.Done x ≡ triedOf (roomOf o₀) level s k r b
     unfolding listedOf
     work-filled level x k r b h =
         let z : x ≡ listedOf level s k r b = h ∙ sym (ap (λ (y : Check). checkedBy y Reading.NoToken (λ u. judgedOf level s k r b)) (all .2)) in
-        ap Tried.Done z ∙ sym (tried-fits (length k₀) level s k r b (all .0))
+        ap Tried.Done z ∙ sym (tried-fits (roomOf o₀) level s k r b (all .0))
 
-    module _ (s₀ e₀ k₁ s₁ e₁ : List ℕ) (w : Space s k₀ s₀ e₀) (h : Holds (take (length k₀) (tokensOf s .list)) k₀ s₀ e₀ k₁ s₁ e₁) where
-      held : Holds (toks s) k₀ s₀ e₀ k₁ s₁ e₁
-      held = rw (take-all (length k₀) (toks s) (all .0)) at h
+    -- the product that is the used part's length is a small number
+    pub few-numbers : length s ≤ 65536 → n * tokenSize ≤ 196608
+    few-numbers h =
+        let z = all .1 in
+        let l = few s in
+        omega arith
 
-      pub room-in : (n ≤ length k₁) × (n ≤ length s₁) × (n ≤ length e₁)
+    module _ (o₁ : List ℕ) (h : o₁ ≡ fronted (flat (take (roomOf o₀) (toks s))) o₀) where
+      held : o₁ ≡ fronted (flat (toks s)) o₀
+      held = rw (take-all (roomOf o₀) (toks s) (all .0)) at h
+
+      pub room-in : n * tokenSize ≤ length o₁
       room-in =
           let z = all .1 in
-          let w₁ = all .0 in
-          let w₂ = w .starts in
-          let w₃ = w .ends in
-          let l₁ = length-each kindOf (toks s) in
-          let l₂ = length-each startOf (toks s) in
-          let l₃ = length-each endOf (toks s) in
-          let a = ap length (held .kinds) ∙ length-fronted _ k₀ (omega arith) in
-          let b = ap length (held .starts) ∙ length-fronted _ s₀ (omega arith) in
-          let c = ap length (held .ends) ∙ length-fronted _ e₀ (omega arith) in
-          (omega arith, omega arith, omega arith)
+          let w = all .0 in
+          let l = flat-length (toks s) in
+          let a = ap length held ∙ length-fronted _ o₀ (omega arith) in
+          omega arith
 
-      pub takes : (n ≡ length (take n k₁)) × (n ≡ length (take n s₁)) × (n ≡ length (take n e₁))
+      pub takes : n * tokenSize ≡ length (take (n * tokenSize) o₁)
       takes =
           let r = room-in in
-          let a = length-take n k₁ in
-          let b = length-take n s₁ in
-          let c = length-take n e₁ in
-          (omega arith, omega arith, omega arith)
+          let a = length-take (n * tokenSize) o₁ in
+          omega arith
 
-      pub lent : Lent s (take n k₁) (take n s₁) (take n e₁)
-      lent = record {
-        short = w .short;
-        kinds = used kindOf (toks s) k₀ k₁ n (held .kinds) (all .1);
-        starts = used startOf (toks s) s₀ s₁ n (held .starts) (all .1);
-        ends = used endOf (toks s) e₀ e₁ n (held .ends) (all .1);
-      }
+      pub lent : length s ≤ 65536 → Lent s (take (n * tokenSize) o₁)
+      lent l = record { short = l; table = used (toks s) o₀ o₁ n held (all .1) }
 
 -- ---- the whole
 

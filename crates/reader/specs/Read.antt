@@ -73,7 +73,7 @@ judgedOf level s n r b = ruledBy (grammar level s) (λ us. faulty (faults level 
 unfoldable pub listedOf : Level → List ℕ → ℕ → ℕ → ℕ → Reading
 listedOf level s n r b = checkedBy (tokensOf s .fault) Reading.NoToken (λ u. judgedOf level s n r b)
 
--- by arrays of m tokens: they have to hold all before the first 3
+-- by a table of m tokens: it has to hold all before the first 3
 unfoldable pub triedOf : ℕ → Level → List ℕ → ℕ → ℕ → ℕ → Tried
 triedOf m level s n r b = choose (leb (length (tokensOf s .list)) m) (λ u. Tried.Done (listedOf level s n r b)) (λ u. Tried.Full)
 
@@ -136,7 +136,7 @@ pub record Leaves (level : Level) (s : List ℕ) (r : Reading) (ns rs st ns′ r
   pub rules : rs′ ≡ leftIn r (recordsOf (rulesOf level s)) rs
   pub store : st′ ≡ leftIn r (rulesStored (rulesOf level s)) st
 
--- full arrays leave all as it was
+-- a full table leaves all as it was
 abbrev pub TriedLeaves : Level → List ℕ → Tried → List ℕ → List ℕ → List ℕ → List ℕ → List ℕ → List ℕ → Type 0
 TriedLeaves level s (Tried.Done r) ns rs st ns′ rs′ st′ = Leaves level s r ns rs st ns′ rs′ st′
 TriedLeaves level s Tried.Full ns rs st ns′ rs′ st′ = (ns′ ≡ ns) × (rs′ ≡ rs) × (st′ ≡ st)

@@ -31,7 +31,7 @@ pub enum Reading {
     StoreRoom,
 }
 
-// What a text got whose tokens were listed in arrays; or there are more tokens than those hold.
+// What a text got whose tokens were listed in a table; or there are more tokens than it holds.
 pub enum Tried {
     Done(Reading),
     Full,

@@ -11,15 +11,16 @@ use Rattle.text.specs.Splice.{fronted}
 use Rattle.text.specs.Utf8.{firstBad}
 use Rattle.text.specs.declared.Check.the-variants.{Good, Bad}
 use Rattle.token.specs.Lists.{Tok, tokensOf}
+use Rattle.token.specs.Table.{flat, roomOf}
+use Rattle.token.proofs.Table.{behind, front-is}
 use Rattle.states.specs.declared.Stand.{Stand}
 use Rattle.states.specs.declared.Feed.{Feed}
 use Rattle.states.specs.declared.Call.{Call}
 use Rattle.states.specs.declared.Status.{Status}
 use Rattle.states.specs.declared.Status.the-variants.{Open, Held}
 use Rattle.states.specs.Steps.{Step, Goes, Faults, stepOf, ranOf, begin, Moved, movedBy, fedOf, doneOf}
-use Rattle.states.specs.Feed.{numbered, opened, recordsOf, numberOf, placeOf, flat, unlessHeld, roomOf, reported, written, feedOf, feedIn, endOf, endIn}
+use Rattle.states.specs.Feed.{numbered, opened, recordsOf, numberOf, placeOf, unlessHeld, reported, written, feedOf, feedIn, endOf, endIn}
 use Rattle.states.specs.Packets.{joined, fedAll, lent, Roomy, Kept, callsOf}
-use Rattle.states.proofs.Stores.{behind, front-is}
 use Rattle.states.proofs.Keeps.{fitting-begin}
 use Rattle.states.proofs.Runs.{took, followed-goes}
 use Rattle.states.proofs.Promises.{after, ended, Fine, good-list, same-3}

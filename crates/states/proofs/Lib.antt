@@ -26,7 +26,6 @@ pub mod Cuts
 pub mod Ends
 pub mod Promises
 pub mod Numbers
-pub mod Stores
 pub mod Calls
 pub mod OneList
 -- examples, wrong programs

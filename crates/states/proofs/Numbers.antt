@@ -14,6 +14,7 @@ use Rattle.text.specs.declared.Check.{Check}
 use Rattle.text.specs.declared.Check.the-variants.{Good, Bad}
 use Rattle.text.proofs.Tests.{choose-by}
 use Rattle.token.specs.Lists.{Tok}
+use Rattle.token.specs.Table.{flat, roomOf}
 use Rattle.states.specs.declared.Utf.{Utf}
 use Rattle.states.specs.declared.Stand.{Stand}
 use Rattle.states.specs.declared.Status.{Status}
@@ -22,7 +23,7 @@ use Rattle.states.specs.declared.Feed.{Feed}
 use Rattle.states.specs.declared.Call.{Call}
 use Rattle.states.specs.Machine.{Out, step, finish}
 use Rattle.states.specs.Utf.{utfStep, utfEnd, brokenAt}
-use Rattle.states.specs.Feed.{fits, numbered, standOf, refusals, opened, recordsOf, numberOf, flat, unlessHeld, roomOf, reported, written, feedOf, feedIn, endOf, endIn}
+use Rattle.states.specs.Feed.{fits, numbered, standOf, refusals, opened, recordsOf, numberOf, unlessHeld, reported, written, feedOf, feedIn, endOf, endIn}
 use Rattle.states.specs.Steps.{Step, Goes, Faults, unless, longAt, refusedAt, overAt, movedTo, stepOf, ranOf, lastOf, begin, movedBy, fedOf, doneOf}
 use Rattle.states.proofs.Keeps.{Fitting, fitting-begin, test-fitting, fitting-ran, kept-open, kept-held}
 use Rattle.states.proofs.Fits.{never}

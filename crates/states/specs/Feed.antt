@@ -1,12 +1,12 @@
 -- Calls in numbers: what a packet or the end answers, and what the lent list holds afterwards.
-use Prim.Native.Nat.{ℕ, _+_, _-_, _*_, _/_}
+use Prim.Native.Nat.{ℕ, _+_, _-_, _*_}
 use mathlib.Core.Bool.{Bool}
 use mathlib.Core.List.{List, [], _∷_}
 use lib.Dec.{leb, eqb}
 use lib.ListN.{length}
 use lib.Seq.{sets}
 use Rattle.text.specs.Choice.{choose, and, among}
-use Rattle.token.specs.Lists.{Tok, tok}
+use Rattle.token.specs.Table.{tokenSize, flat, roomOf}
 use Rattle.states.specs.declared.State.{State}
 use Rattle.states.specs.declared.Stand.{Stand}
 use Rattle.states.specs.declared.Status.{Status}
@@ -92,15 +92,6 @@ abbrev pub placeOf : Status → ℕ
 placeOf (Open c) = 0
 placeOf (Held number place n) = place
 
--- a record has three numbers: kind, start, end
-abbrev pub flat : List Tok → List ℕ
-flat [] = []
-flat (tok kind start end ∷ ts) = kind ∷ start ∷ end ∷ flat ts
-
--- how many records a lent list has room for
-abbrev pub roomOf : List ℕ → ℕ
-roomOf o = length o / 3
-
 -- a refusal reports no records
 abbrev pub unlessHeld : Status → ℕ → ℕ
 unlessHeld (Open c) n = n
@@ -118,7 +109,7 @@ reported q m =
 
 -- and the list: the tokens given are written behind the records that stand there
 unfoldable pub written : Status → Moved → List ℕ → List ℕ
-written q m o = sets o (recordsOf q * 3) (flat (m .gives))
+written q m o = sets o (recordsOf q * tokenSize) (flat (m .gives))
 
 -- a packet xs, with the list o lent
 unfoldable pub feedOf : Feed → List ℕ → List ℕ → Call

@@ -15,11 +15,14 @@ use Rattle.text.specs.Utf8.{firstBad}
 use Rattle.text.specs.declared.Check.the-variants.{Good}
 use Rattle.text.specs.Scans.{later}
 use Rattle.token.specs.Tokens.{moved, tokenOf}
+use Rattle.text.proofs.Splices.{sets-append}
 use Rattle.token.specs.Lists.{Tok, tok, Tokens}
 use Rattle.token.specs.declared.Token.{Token}
 use Rattle.token.specs.declared.Token.the-variants.{Found, End, NoToken}
 use Rattle.token.proofs.Bounds.{token-in}
 use Rattle.token.proofs.Places.{token-is}
+use Rattle.token.specs.Table.{flat, roomOf}
+use Rattle.token.proofs.Table.{flat-length}
 use Rattle.states.specs.declared.State.{State}
 use Rattle.states.specs.declared.State.the-variants.{Start, Word, Push, Num, Hash, Tag, Dot, Caret, Minus, Zeros, Negative, Str, Esc, X0, X1, U, Un, Chr, More, Quote, Slash, Slash2, Line, Doc, DocCr, Cr, Com, Star, Bar, Refused}
 use Rattle.states.specs.declared.Utf.{Utf}
@@ -29,7 +32,6 @@ use Rattle.steps.specs.declared.Given.{Given}
 use Rattle.states.specs.Utf.{utfStep, utfEnd, utfFeed, brokenAt}
 use Rattle.states.specs.Keep.{codeOf, utfCode, tailCode, waiting}
 use Rattle.states.specs.Steps.{Step, Goes, Faults, overAt, stepOf, given, followed, ranOf}
-use Rattle.states.specs.Feed.{flat, roomOf}
 use Rattle.steps.specs.Shapes.{listOf}
 use Rattle.stream.specs.Shapes.{givesOf, Sound}
 use Rattle.stream.specs.Quick.{startAt, isBetween, Holds, Leapt}
@@ -38,7 +40,6 @@ use Rattle.states.proofs.Left.{left}
 use Rattle.states.proofs.Fits.{never, both}
 use Rattle.states.proofs.Utfs.{machine-at, utf-cuts}
 use Rattle.states.proofs.Cuts.{given-given, followed-given, ran-cut}
-use Rattle.states.proofs.Stores.{flat-length, sets-append}
 use Rattle.stream.proofs.Loops.{loop-starts}
 use Rattle.stream.proofs.Writes.{has-room, put-more, at-move, step-room, step-sound}
 use Rattle.states.proofs.Runs.{took}
@@ -231,7 +232,7 @@ copy-turn l s m a i h e =
     let z : a + length (take i s) ≡ a + i = ap (λ (n : ℕ). a + n) (length-take-le i s (omega arith)) in
     ap (λ (n : List ℕ). set n (a + i) (getD s i 0)) e
     ∙ ap (λ (n : ℕ). set (sets l a (take i s)) n (getD s i 0)) (sym z)
-    ∙ sym (sets-append (take i s) (getD s i 0 ∷ []) l a)
+    ∙ sym (sets-append l a (take i s) (getD s i 0 ∷ []))
     ∙ ap (sets l a) (sym t)
 
 -- ---- in the words of the code

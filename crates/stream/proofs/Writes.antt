@@ -1,20 +1,23 @@
 -- The two passes over a packet, the end, and calls, in the words of the code.
-use Prim.Native.Nat.{ℕ, suc, _+_, _*_, _/_, _≤_, _<_}
+use Prim.Native.Nat.{ℕ, _+_, _*_, _≤_, _<_}
 use mathlib.Core.Path.{_≡_, refl, sym, ap, _∙_}
 use mathlib.Core.Bool.{Bool, true, false}
 use mathlib.Core.List.{List, [], _++_}
-use native.Mathlib.Nat.{add-zero, div-mul-le-self}
+use native.Mathlib.Nat.{add-zero}
 use native.Mathlib.Numerals.{add-one}
 use native.Mathlib.Omega.{arith}
 use lib.Dec.{eqb, ltb}
-use lib.ListN.{length, drop, getD, set}
+use lib.ListN.{length, drop, getD}
 use lib.Seq.{sets}
 use borrow.Author.Tests.{ltb-true, lt-ltb}
 use Rattle.text.specs.Choice.{choose, among}
 use Rattle.text.specs.declared.Check.{Check}
 use Rattle.text.specs.declared.Check.the-variants.{Good, Bad}
+use Rattle.text.proofs.Splices.{sets-append}
 use Rattle.text.proofs.Tests.{choose-by}
 use Rattle.token.specs.Lists.{Tok}
+use Rattle.token.specs.Table.{flat, roomOf}
+use Rattle.token.proofs.Table.{flat-append, flat-length, row-fits}
 use Rattle.states.specs.declared.Stand.{Stand}
 use Rattle.states.specs.declared.Status.{Status}
 use Rattle.states.specs.declared.Status.the-variants.{Open, Held}
@@ -24,12 +27,11 @@ use Rattle.steps.specs.declared.Given.the-variants.{No, Yes}
 use Rattle.stream.specs.declared.Ran.the-variants.{Stands, Refuses}
 use Rattle.states.specs.Machine.{step, finish}
 use Rattle.states.specs.Utf.{utfEnd}
-use Rattle.states.specs.Feed.{fits, standOf, refusals, opened, flat, roomOf, reported, written, feedOf, feedIn, endOf, endIn}
+use Rattle.states.specs.Feed.{fits, standOf, refusals, opened, reported, written, feedOf, feedIn, endOf, endIn}
 use Rattle.states.specs.Steps.{Step, Goes, Faults, overAt, stepOf, given, ranOf, lastOf, begin, fedOf, doneOf}
 use Rattle.steps.specs.Shapes.{listOf}
 use Rattle.stream.specs.Shapes.{ranBy, givesOf, isGood, refusing, standing, Sound}
 use Rattle.states.proofs.Runs.{unless-goes, took}
-use Rattle.states.proofs.Stores.{flat-append, flat-length, sets-append}
 use Rattle.stream.proofs.Loops.{loop-starts, loop-goes, loop-stops, loop-ends}
 use Rattle.states.proofs.Calls.{count-ran}
 use Rattle.states.proofs.Keeps.{fitting-begin, fitting-step, test-fitting}
@@ -45,13 +47,10 @@ module _ (room n a : ℕ) (f : Unit {0} → Check) where
   pub has-room : choose (ltb n room) f (λ u. Bad a) ≡ Good → (n < room) × (f tt ≡ Good)
   has-room e = room-by (ltb n room) refl e
 
-room-three : (n m : ℕ) → n < m / 3 → n * 3 + 3 ≤ m
-room-three n m h = omega (arith, div-mul-le-self m 3)
-
 -- a record behind n others lies in the list
 pub over-room : (l : List ℕ) (n k a b : ℕ) → overAt (roomOf l) n (listOf (Yes k a b)) ≡ Good → n * 3 + 3 ≤ length l
 unfolding overAt
-over-room l n k a b e = room-three n (length l) (has-room (roomOf l) n a _ e .0)
+over-room l n k a b e = row-fits l n (has-room (roomOf l) n a _ e .0)
 
 module _ (room n : ℕ) where
   pub over-first : (g h : Given) → overAt room n (listOf g ++ listOf h) ≡ Good → overAt room n (listOf g) ≡ Good
@@ -70,12 +69,7 @@ module _ (room n : ℕ) where
 pub put-more : (l : List ℕ) (n : ℕ) (ts us : List Tok) → sets (sets l (n * 3) (flat ts)) ((n + length ts) * 3) (flat us) ≡ sets l (n * 3) (flat (ts ++ us))
 put-more l n ts us =
     let z : (n + length ts) * 3 ≡ n * 3 + length (flat ts) = omega (arith, flat-length ts) in
-    rw (flat-append ts us, sets-append (flat ts) (flat us) l (n * 3), z)
-
-pub put-three : (l : List ℕ) (i k a b : ℕ) → set (set (set l i k) (i + 1) a) (i + 2) b ≡ sets l i (flat (listOf (Yes k a b)))
-put-three l i k a b =
-    let z : i + 2 ≡ suc (suc i) = omega arith in
-    rw (add-one i, z)
+    rw (flat-append ts us, sets-append l (n * 3) (flat ts) (flat us), z)
 
 -- ---- a turn of a loop over a packet
 

@@ -11,6 +11,7 @@ use Rattle.text.specs.declared.Check.the-variants.{Good}
 use Rattle.token.specs.Tokens.{tokenAt}
 use Rattle.token.specs.Lists.{Tok}
 use Rattle.token.specs.declared.Token.the-variants.{Found}
+use Rattle.token.specs.Table.{flat, roomOf}
 use Rattle.states.specs.declared.Stand.{Stand}
 use Rattle.states.specs.declared.State.the-variants.{Start}
 use Rattle.states.specs.declared.Utf.the-variants.{Whole}
@@ -19,7 +20,6 @@ use Rattle.stream.specs.declared.Ahead.the-variants.{Nothing, Token}
 use Rattle.states.specs.Keep.{codeOf, utfCode}
 use Rattle.states.specs.Utf.{brokenAt, utfFeed}
 use Rattle.states.specs.Steps.{given, ranOf}
-use Rattle.states.specs.Feed.{flat, roomOf}
 use Rattle.stream.specs.Shapes.{Sound}
 
 -- between tokens and between characters, at a place, with so many records

@@ -13,8 +13,8 @@ ghost use mathlib.Core.Bool.{true};
 ghost use Prim.Native.Nat.{suc, _*_, _≤_};
 ghost use lib.Seq.{sets};
 ghost use Rattle.text.specs.Classes.{classes};
+ghost use Rattle.token.specs.Table.{flat, roomOf};
 ghost use Rattle.states.specs.Steps.{longAt, stepOf, ranOf, lastOf};
-ghost use Rattle.states.specs.Feed.{flat, roomOf};
 ghost use Rattle.steps.specs.Shapes.{outOf};
 ghost use Rattle.stream.specs.Shapes.{takenBy, steppedOf, ranBy, givesOf, isGood, Sound};
 

@@ -7,13 +7,15 @@ use mathlib.Core.Option.{Option, none, some}
 use native.Mathlib.Omega.{arith}
 use lib.Dec.{leb}
 use Rattle.text.specs.Words.{push}
+use Rattle.token.specs.Table.{start, end, is, word, label}
+use Rattle.token.specs.Tokens.{pushLiteral}
 use Rattle.table.specs.Tree.{Span, text, range, plain, Tree, leaf, Rule, endsAt}
 use Rattle.table.specs.declared.Join.the-variants.{Seq}
 use Rattle.table.specs.declared.Unary.{Unary}
 use Rattle.table.specs.declared.Unary.the-variants.{PosPred, NegPred, Opt, Rep, RepOnce, RepExact, RepMin, RepMax, RepMinMax, Push}
 use Rattle.table.specs.declared.Sort.the-variants.{Str, Insens, Ident, PushLiteral}
 use Rattle.structure.specs.declared.Level.{Level}
-use Rattle.structure.specs.Tokens.{start, end, is, word, label, across, spells, pushLiteral}
+use Rattle.structure.specs.Tokens.{across, spells}
 use Rattle.structure.specs.Values.{number, string, character}
 use Rattle.structure.specs.Structure.{got, next, limit, join, closed, before, after, inTag, post, noPost, fromNumber, fromComma, postfixAt, slice, pushed, ranged, slices, leafAt, expr, term, signed, node, chain, posts, Run, isName, markAt, pastMark, pastBar, ruling, ruleAt}
 use Rattle.structure.proofs.Steps.{split, no-tree, next-got, want-got, want-post, opened-got, posts-by}

@@ -8,6 +8,8 @@ use native.Mathlib.Omega.{arith}
 use lib.ListN.{length}
 use Rattle.text.specs.Choice.{choose, and}
 use Rattle.text.specs.Words.{push}
+use Rattle.token.specs.Table.{toks, kind, start, end, is, label}
+use Rattle.token.proofs.Table.{label-length}
 use Rattle.table.specs.Tree.{Span, plain, Tree, count, size, endsAt}
 use Rattle.table.specs.declared.Unary.{Unary}
 use Rattle.table.specs.declared.Unary.the-variants.{PosPred, NegPred, Push}
@@ -27,14 +29,13 @@ use Rattle.structure.specs.declared.Tail.{Tail}
 use Rattle.structure.specs.declared.Tail.the-variants as Tail
 use Rattle.structure.specs.declared.Tails.{Tails}
 use Rattle.structure.specs.declared.Tails.the-variants as Tails
-use Rattle.structure.specs.Tokens.{toks, kind, start, end, is, label, spells}
+use Rattle.structure.specs.Tokens.{spells}
 use Rattle.structure.specs.Structure.{Parsed, got, refused, next, want, opened, before, after, inTag, post, postfixAt, leafAt, postsBy, expr, term, signed, node, posts, Run}
 use Rattle.structure.specs.Answers.{summary, wanted, tagNodes, tagBytes, openingOf, signOf, signs, Signed, bracketOf, tailOf, tailed, Posted}
 use Rattle.structure.proofs.Steps.{choose-true, choose-false, inside-is, sees, misses, want-true, want-false, next-assoc, next-fun, next-on, next-id, spells-in}
 use Rattle.structure.proofs.Sizes.{most, label-short, Grown, grown-none, grown-ends, grown-before, grown-after, grown-tag, tag-small}
 use Rattle.structure.proofs.Fuel.{postfix-past}
 use Rattle.structure.proofs.Grammar.{term-law, signed-law, node-law, posts-law}
-use Rattle.structure.proofs.Arrays.{label-length}
 use Rattle.structure.proofs.Wants.{was-here, was-missing, was-past, was-bad, was-ended, good, bad, sum-refused, sum-got}
 
 -- ---- a tag

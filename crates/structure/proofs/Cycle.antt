@@ -9,6 +9,7 @@ use native.Mathlib.Omega.{arith}
 use lib.ListN.{length}
 use borrow.Author.Tests.{le-leb, lt-leb}
 use Rattle.text.specs.Choice.{choose}
+use Rattle.token.specs.Table.{toks, kind, start, is}
 use Rattle.table.specs.Tree.{Span, Tree, count, size, startsAt}
 use Rattle.table.specs.declared.Join.the-variants.{Seq}
 use Rattle.structure.specs.declared.Level.{Level}
@@ -24,15 +25,13 @@ use Rattle.structure.specs.declared.Bracket.{Bracket}
 use Rattle.structure.specs.declared.Bracket.the-variants.{Unopened, Nothing}
 use Rattle.structure.specs.declared.Tails.{Tails}
 use Rattle.structure.specs.declared.Tails.the-variants as Tails
-use Rattle.structure.specs.Tokens.{toks, kind, start, is}
 use Rattle.structure.specs.Structure.{Parsed, got, refused, next, limit, join, closed, leafAt, Call, expr, term, node, chain, posts, place, Run}
-use Rattle.structure.specs.Answers.{Lent, unread, summary, wanted, openingOf, signs, Signed, bracketOf, Posted}
+use Rattle.structure.specs.Answers.{unread, summary, wanted, openingOf, signs, Signed, bracketOf, Posted}
 use Rattle.structure.proofs.Steps.{choose-true, choose-false, inside-is, sees, misses, next-good, next-bad, next-assoc, next-on, opened-true, opened-false}
 use Rattle.structure.proofs.Sizes.{most, Grown, grown-none, grown-starts, count-closed, size-closed, count-more, size-more}
 use Rattle.structure.proofs.Fuel.{Went, went, held, heldSize}
 use Rattle.structure.proofs.Grammar.{expr-law, chain-law, signed-law}
-use Rattle.structure.proofs.Arrays.{fewer, sinks}
-use Rattle.structure.proofs.Wants.{wanted-on, wanted-off, good, bad, sum-refused, sum-got}
+use Rattle.structure.proofs.Wants.{wanted-on, wanted-off, good, bad, sum-refused, sum-got, fewer, sinks}
 use Rattle.structure.proofs.Checks.{Opened, was-untied, grown-signs, tails-all, tails-bad, Bracketed, was-unopened, was-nothing}
 
 -- ---- a finished term
@@ -252,12 +251,11 @@ module _ (level : Level) (s : List ℕ) (w : length s ≤ 65536) (o at : ℕ) wh
 
 -- ---- what is unread falls along the cycle
 
-pub falls-term : (level : Level) (s ks ss es : List ℕ) (at p k b f : ℕ) → Lent s ks ss es → Opened level s at p k b → Signed s p f → unread s es f ≤ unread s es at
-falls-term level s ks ss es at p k b f v t g =
-    let a = sinks s ks ss es at p v (omega (arith, t .from)) (t .within) in
-    let c = sinks s ks ss es p f v (g .from) (g .within) in
+pub falls-term : (level : Level) (s : List ℕ) (at p k b f : ℕ) → Opened level s at p k b → Signed s p f → unread s f ≤ unread s at
+falls-term level s at p k b f t g =
+    let a = sinks s at p (omega (arith, t .from)) (t .within) in
+    let c = sinks s p f (g .from) (g .within) in
     omega arith
 
-pub falls-node : (level : Level) (s ks ss es : List ℕ) (at p k : ℕ) → Lent s ks ss es → Bracketed level s at p k → unread s es (p + 1) < unread s es at
-falls-node level s ks ss es at p k v t =
-    fewer s ks ss es at (p + 1) v (omega (arith, t .from)) (omega (arith, t .within))
+pub falls-node : (level : Level) (s : List ℕ) (at p k : ℕ) → Bracketed level s at p k → unread s (p + 1) < unread s at
+falls-node level s at p k t = fewer s at (p + 1) (omega (arith, t .from)) (omega (arith, t .within))

@@ -17,15 +17,18 @@ use Rattle.text.specs.declared.Check.{Check}
 use Rattle.text.specs.declared.Check.the-variants as Check
 use Rattle.literal.specs.Escapes.{escapeLook, badEscape}
 use Rattle.token.proofs.Bounds.{stop-at}
+use Rattle.token.specs.Table.{toks, kind, start, end, is, part, within, word}
+use Rattle.token.specs.Tokens.{pushLiteral}
+use Rattle.token.proofs.Table.{part-is, word-is}
+use Rattle.structure.proofs.Bytes.{inside-of}
 use Rattle.structure.specs.declared.Level.{Level}
 use Rattle.structure.specs.declared.Level.the-variants.{Tagged, Plain}
 use Rattle.structure.specs.declared.Fault.{Fault}
 use Rattle.structure.specs.declared.Fault.the-variants.{Sound, Over, Zero, PeekRange, NotScalar, NotPlain}
-use Rattle.structure.specs.Tokens.{toks, kind, start, end, is, part, within, word, spells, pushLiteral}
+use Rattle.structure.specs.Tokens.{spells}
 use Rattle.structure.specs.Values.{integerOf, opening, inside, repeatFault, peekFault, literalFault, wordFault, numberFault, faultAt, orFault, faultsFrom, faults}
 use Rattle.structure.proofs.Steps.{choose-true, choose-false, sees, misses, another, or-first, or-second, or-neither}
 use Rattle.structure.proofs.Sizes.{part-short}
-use Rattle.structure.proofs.Arrays.{part-is, word-is, inside-of}
 
 -- ---- numbers
 

@@ -8,6 +8,8 @@ use native.Mathlib.Omega.{arith}
 use lib.ListN.{length}
 use Rattle.text.specs.Choice.{choose}
 use Rattle.text.specs.Words.{push}
+use Rattle.token.specs.Table.{toks, start, end, is, word, label}
+use Rattle.token.specs.Tokens.{pushLiteral}
 use Rattle.table.specs.Tree.{Span, Atom, text, range, peekSlice, plain, Tree, leaf, one, below, count, stored, size, atomStored, endsAt, startsAt}
 use Rattle.table.specs.declared.Join.the-variants.{Seq}
 use Rattle.table.specs.declared.Unary.{Unary}
@@ -15,7 +17,7 @@ use Rattle.table.specs.declared.Unary.the-variants.{PosPred, NegPred, Push}
 use Rattle.table.specs.declared.Sort.the-variants.{Str, Insens, Ident, PushLiteral}
 use Rattle.table.specs.declared.End.the-variants.{Open, At}
 use Rattle.structure.specs.declared.Level.{Level}
-use Rattle.structure.specs.Tokens.{toks, start, end, is, word, label, across, spells, pushLiteral}
+use Rattle.structure.specs.Tokens.{across, spells}
 use Rattle.structure.specs.Values.{isInteger, integer, string, character}
 use Rattle.structure.specs.Structure.{Parsed, got, refused, next, want, join, closed, before, after, inTag, post, fromNumber, fromComma, postfixAt, sliceTo, slice, pushed, ranged, slices, leafAt, Call, expr, term, signed, node, chain, posts, body, place, weight, run, Run}
 use Rattle.structure.proofs.Steps.{split, choose-cong, inside-is, want-cong, no-tree, next-got, next-cong, want-got, want-post, opened-got, opened-cong, posts-cong, posts-by}

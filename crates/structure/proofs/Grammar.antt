@@ -5,11 +5,12 @@ use mathlib.Core.List.{List}
 use mathlib.Core.Option.{Option, none, some}
 use Rattle.text.specs.Choice.{choose}
 use Rattle.text.specs.Words.{push}
+use Rattle.token.specs.Table.{start, end, is, label}
 use Rattle.table.specs.Tree.{Span, plain, Tree, endsAt, startsAt}
 use Rattle.table.specs.declared.Join.the-variants.{Seq}
 use Rattle.table.specs.declared.Unary.the-variants.{PosPred, NegPred, Push}
 use Rattle.structure.specs.declared.Level.{Level}
-use Rattle.structure.specs.Tokens.{start, end, is, label, spells}
+use Rattle.structure.specs.Tokens.{spells}
 use Rattle.structure.specs.Structure.{got, refused, next, want, opened, join, closed, before, after, inTag, postfixAt, leafAt, postsBy, expr, term, signed, node, chain, posts, body, Run}
 use Rattle.structure.proofs.Fuel.{law}
 

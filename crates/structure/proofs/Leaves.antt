@@ -7,6 +7,8 @@ use native.Mathlib.Omega.{arith}
 use lib.ListN.{length}
 use borrow.Author.Tests.{le-leb, lt-leb}
 use Rattle.text.specs.Choice.{choose, and}
+use Rattle.token.specs.Table.{toks, kind, start, is, word}
+use Rattle.token.specs.Tokens.{pushLiteral}
 use Rattle.table.specs.Tree.{Span, Atom, text, range, peekSlice, leaf, below, stored, atomStored}
 use Rattle.table.specs.declared.Unary.the-variants.{RepMax, RepMinMax}
 use Rattle.table.specs.declared.Sort.the-variants.{Str, Insens, Ident, PushLiteral}
@@ -19,7 +21,7 @@ use Rattle.structure.specs.declared.Wanted.{Wanted}
 use Rattle.structure.specs.declared.Wanted.the-variants.{Here, Missing}
 use Rattle.structure.specs.declared.Tail.{Tail}
 use Rattle.structure.specs.declared.Tail.the-variants as Tail
-use Rattle.structure.specs.Tokens.{toks, kind, start, is, word, across, spells, peek, pushLiteral}
+use Rattle.structure.specs.Tokens.{across, spells, peek}
 use Rattle.structure.specs.Values.{isInteger, integer, number, string, character}
 use Rattle.structure.specs.Structure.{Parsed, got, refused, want, limit, post, notPost, fromNumber, fromComma, postfixAt, sliceTo, slice, pushed, ranged, slices, leafAt}
 use Rattle.structure.specs.Answers.{summary, wanted, pastInteger, tailOf}

@@ -9,6 +9,8 @@ use lib.ListN.{length, take, drop, length-append}
 use borrow.Author.Tests.{le-leb, lt-leb, eq-eqb, ne-eqb}
 use Rattle.text.specs.Choice.{choose, and}
 use Rattle.text.specs.Words.{begins, push}
+use Rattle.token.specs.Table.{toks, kind, start, end, is, part, word}
+use Rattle.token.proofs.Table.{word-is}
 use Rattle.table.specs.Tree.{Span, Tree, Rule, count, counts, stored, size, ruleStored, rulesStored}
 use Rattle.structure.specs.declared.Level.{Level}
 use Rattle.structure.specs.declared.Refusal.{Refusal}
@@ -19,13 +21,12 @@ use Rattle.structure.specs.declared.Counted.{Counted}
 use Rattle.structure.specs.declared.Counted.the-variants as Counted
 use Rattle.structure.specs.declared.Wanted.{Wanted}
 use Rattle.structure.specs.declared.Wanted.the-variants.{Here, Missing}
-use Rattle.structure.specs.Tokens.{toks, kind, start, end, is, part, word, across, same, spells}
+use Rattle.structure.specs.Tokens.{across, same, spells}
 use Rattle.structure.specs.Structure.{Parsed, got, refused, want, expr, Run, isName, silent, markAt, pastMark, pastBar, Ruled, rules, unruled, withRule, Ruling, ruling, noRule, ruleOf, thenRules, ruleAt, rulesIn, docsIn, docs, grammar}
 use Rattle.structure.specs.Answers.{summary, wanted, ruleSummary, summaries}
 use Rattle.structure.proofs.Steps.{choose-true, choose-false, split, inside-is, sees, misses, another, spells-in, spells-kind, and-left}
 use Rattle.structure.proofs.Sizes.{most, word-short}
 use Rattle.structure.proofs.Fuel.{went}
-use Rattle.structure.proofs.Arrays.{word-is}
 use Rattle.structure.proofs.Wants.{wanted-on, wanted-off, good, bad}
 
 -- ---- a name, a mark, a `|`

@@ -12,13 +12,13 @@ use Rattle.text.proofs.Tests.{choose-by}
 use Rattle.literal.specs.Escapes.{escapeOf, escapePieceBy, escapePiece, unescaped}
 use Rattle.literal.specs.declared.Escape.{Escape}
 use Rattle.literal.specs.declared.Escape.the-variants as Escape
+use Rattle.token.specs.Table.{start, end, part, word, label}
 use Rattle.table.specs.Tree.{Span, Wrap, plain, nodeTag, Tree, leaf, one, two, below, count, stored, size, wrapStored, placeOf, placed, endsAt, startsAt}
 use Rattle.table.specs.declared.Join.{Join}
 use Rattle.table.specs.declared.Join.the-variants.{Seq, Choice}
 use Rattle.table.specs.declared.Unary.{Unary}
 use Rattle.structure.specs.declared.Level.{Level}
 use Rattle.structure.specs.declared.Level.the-variants.{Tagged, Plain}
-use Rattle.structure.specs.Tokens.{start, end, part, word, label}
 use Rattle.structure.specs.Values.{inside, opening, string}
 use Rattle.structure.specs.Answers.{tagNodes, tagBytes}
 use Rattle.structure.specs.Structure.{join, closed, before, after, inTag}

@@ -10,11 +10,12 @@ use lib.ListN.{length, List·getD-eq-default}
 use borrow.Author.Tests.{eqb-true, eq-eqb, ne-eqb}
 use Rattle.text.specs.Choice.{choose, and, or}
 use Rattle.token.specs.Lists.{tok, kindOf}
+use Rattle.token.specs.Table.{toks, tokOf, kind, start, is, word}
 use Rattle.table.specs.Tree.{Span, Tree}
 use Rattle.table.specs.declared.Unary.{Unary}
 use Rattle.structure.specs.declared.Refusal.{Refusal}
 use Rattle.structure.specs.declared.Refusal.the-variants.{NotAllowed, TooDeep}
-use Rattle.structure.specs.Tokens.{toks, tokenOf, kind, start, is, word, same, spells}
+use Rattle.structure.specs.Tokens.{same, spells}
 use Rattle.structure.specs.Structure.{Parsed, got, refused, next, want, limit, opened, Postfix, post, notPost, noPost, postsBy}
 
 -- ---- a choice
@@ -68,7 +69,7 @@ or-neither true c f g = f
 -- ---- a token of a kind
 
 pub inside : (s : List ℕ) (i : ℕ) → (kind s i ≡ 0 → ⊥) → i < length (toks s)
-unfolding kind tokenOf
+unfolding kind tokOf
 inside s i h = go (decLt i (length (toks s)))
   where
     go : Dec (i < length (toks s)) → i < length (toks s)

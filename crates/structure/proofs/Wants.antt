@@ -1,11 +1,15 @@
--- What the functions that look for a token answer; and what a reading, a postfix or a rule comes to.
-use Prim.Native.Nat.{ℕ, _+_, _-_, _<_}
+-- What the functions that look for a token answer; what a reading, a postfix or a rule comes to; and that past a token less is unread.
+use Prim.Native.Nat.{ℕ, zero, suc, _+_, _≤_, _<_}
 use mathlib.Core.Path.{_≡_, refl, sym, ap, _∙_}
 use mathlib.Core.Bool.{Bool, true, false}
-use mathlib.Core.List.{List}
+use mathlib.Core.List.{List, [], _∷_}
 use native.Mathlib.Omega.{arith}
+use native.Mathlib.Decide.{decLt}
 use lib.ListN.{length}
 use Rattle.text.specs.Choice.{choose}
+use Rattle.token.specs.Lists.{Tok, tok, placeFrom}
+use Rattle.token.specs.Table.{toks, kind, start, is}
+use Rattle.token.proofs.Lists.{Ordered, ordered}
 use Rattle.table.specs.Tree.{Span, Tree, count, size}
 use Rattle.table.specs.declared.Unary.{Unary}
 use Rattle.structure.specs.declared.Refusal.{Refusal}
@@ -16,11 +20,9 @@ use Rattle.structure.specs.declared.Wanted.{Wanted}
 use Rattle.structure.specs.declared.Wanted.the-variants.{Here, Missing}
 use Rattle.structure.specs.declared.Tail.{Tail}
 use Rattle.structure.specs.declared.Tail.the-variants as Tail
-use Rattle.structure.specs.Tokens.{toks, kind, start, is}
 use Rattle.structure.specs.Structure.{Parsed, got, refused, want, Postfix, post, notPost, noPost}
-use Rattle.structure.specs.Answers.{Lent, unread, summary, wanted, tailOf}
+use Rattle.structure.specs.Answers.{unread, summary, wanted, tailOf}
 use Rattle.structure.proofs.Steps.{choose-true, choose-false, inside-is, sees, misses, want-true, want-false}
-use Rattle.structure.proofs.Arrays.{fewer}
 
 -- ---- a token that is wanted
 
@@ -112,7 +114,39 @@ pub sum-got : {m : Parsed} {t : Tree Span} {n : ℕ} (i k b : ℕ) → m ≡ got
 unfolding summary
 sum-got {t = t} {n = n} i k b e p q w = ap (λ (x : ℕ). Checked.Good x k b) p ∙ ap (λ (x : ℕ). Checked.Good n x b) q ∙ ap (Checked.Good n (count t)) w ∙ sym (ap summary e)
 
--- ---- what is unread falls past a token
+-- ---- what is unread falls
 
-pub falls-here : (s ks ss es : List ℕ) (i k : ℕ) → Lent s ks ss es → 0 < k → is s i k ≡ true → unread s es (i + 1) < unread s es i
-falls-here s ks ss es i k v h e = let m = inside-is s i k h e in fewer s ks ss es i (i + 1) v (omega arith) (omega arith)
+rise : (size from : ℕ) (ts : List Tok) (n : ℕ) → from ≤ size → Ordered size from ts → (from ≤ placeFrom from ts n) × (placeFrom from ts n ≤ size)
+rise size from ts zero h o = (omega arith, h)
+rise size from [] (suc n) h o = (omega arith, h)
+rise size from (tok k a b ∷ ts) (suc n) h o =
+    let p = rise size b ts n (o .4) (o .5) in
+    let q = o .2 in
+    let r = o .3 in
+    (omega arith, p .1)
+
+up : (size from : ℕ) (ts : List Tok) (i n : ℕ) → from ≤ size → Ordered size from ts → i < n → n ≤ length ts → placeFrom from ts i < placeFrom from ts n
+up size from [] i n h o l m = absurd (omega arith)
+up size from (tok k a b ∷ ts) i zero h o l m = absurd (omega arith)
+up size from (tok k a b ∷ ts) zero (suc n) h o l m =
+    let p = rise size b ts n (o .4) (o .5) in
+    let q = o .2 in
+    let r = o .3 in
+    omega arith
+up size from (tok k a b ∷ ts) (suc i) (suc n) h o l m = up size b ts i n (o .4) (o .5) (omega arith) (omega arith)
+
+-- after more tokens, fewer bytes are unread
+pub fewer : (s : List ℕ) (i n : ℕ) → i < n → n ≤ length (toks s) → unread s n < unread s i
+unfolding unread
+fewer s i n l m =
+    let p = up (length s) 0 (toks s) i n (omega arith) (ordered s) l m in
+    let q = rise (length s) 0 (toks s) n (omega arith) (ordered s) in
+    omega arith
+
+-- over a loop that may take nothing
+pub sinks : (s : List ℕ) (i n : ℕ) → i ≤ n → ((i ≡ n → ⊥) → n ≤ length (toks s)) → unread s n ≤ unread s i
+sinks s i n h w = go (decLt i n)
+  where
+    go : Dec (i < n) → unread s n ≤ unread s i
+    go (yes l) = let f = fewer s i n l (w (λ z. omega arith)) in omega arith
+    go (no l) = let z : i ≡ n = omega arith in let y = ap (unread s) z in omega arith

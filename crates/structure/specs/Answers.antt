@@ -2,11 +2,12 @@
 use Prim.Native.Nat.{ℕ, zero, suc, _+_, _-_, _≤_}
 use mathlib.Core.Path.{_≡_}
 use mathlib.Core.Bool.{false}
-use mathlib.Core.List.{List, [], _∷_}
+use mathlib.Core.List.{List}
 use lib.ListN.{length}
-use Rattle.text.specs.Choice.{choose, or}
+use Rattle.text.specs.Choice.{choose}
 use Rattle.text.specs.Words.{push}
-use Rattle.token.specs.Lists.{kindOf, startOf, endOf, each}
+use Rattle.token.specs.Lists.{placeFrom}
+use Rattle.token.specs.Table.{toks, start, is, label}
 use Rattle.table.specs.Tree.{Span, plain, Tree, count, counts, size, ruleStored, rulesStored}
 use Rattle.table.specs.declared.Unary.{Unary}
 use Rattle.table.specs.declared.Unary.the-variants.{PosPred, NegPred}
@@ -26,26 +27,13 @@ use Rattle.structure.specs.declared.Tails.{Tails}
 use Rattle.structure.specs.declared.Tails.the-variants as Tails
 use Rattle.structure.specs.declared.Counted.{Counted}
 use Rattle.structure.specs.declared.Counted.the-variants as Counted
-use Rattle.structure.specs.Tokens.{toks, start, is, label, spells}
+use Rattle.structure.specs.Tokens.{spells}
 use Rattle.structure.specs.Values.{isInteger}
 use Rattle.structure.specs.Structure.{Parsed, got, refused, next, before, Postfix, post, notPost, noPost, signed, posts, Run, Ruling, ruling, noRule, Ruled, rules, unruled}
 
--- three lent arrays hold the tokens of a text of legal length, and nothing else
-pub record Lent (s ks ss es : List ℕ) : Type 0 where
-  pub short : length s ≤ 65536
-  pub kinds : ks ≡ each kindOf (toks s)
-  pub starts : ss ≡ each startOf (toks s)
-  pub ends : es ≡ each endOf (toks s)
-
--- the end of the last of the first i tokens, by their ends
-abbrev pub takenFrom : ℕ → List ℕ → ℕ → ℕ
-takenFrom from es zero = from
-takenFrom from [] (suc i) = from
-takenFrom from (e ∷ es) (suc i) = takenFrom e es i
-
 -- the number of unread text bytes: the text's length less the end of the last token taken
-unfoldable pub unread : List ℕ → List ℕ → ℕ → ℕ
-unread s es i = length s - takenFrom 0 es i
+unfoldable pub unread : List ℕ → ℕ → ℕ
+unread s i = length s - placeFrom 0 (toks s) i
 
 -- where a reading ends, its nodes and its bytes in the store
 unfoldable pub summary : Parsed → Checked

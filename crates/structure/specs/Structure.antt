@@ -8,6 +8,8 @@ use lib.Dec.{leb, eqb}
 use lib.ListN.{length}
 use Rattle.text.specs.Choice.{choose, and, or}
 use Rattle.text.specs.Words.{begins, push}
+use Rattle.token.specs.Table.{toks, start, end, is, word, label}
+use Rattle.token.specs.Tokens.{pushLiteral}
 use Rattle.table.specs.Tree.{Span, text, range, peekSlice, Wrap, plain, nodeTag, Tree, leaf, one, two, Rule, placeOf, endsAt, startsAt}
 use Rattle.table.specs.declared.Join.{Join}
 use Rattle.table.specs.declared.Join.the-variants.{Seq, Choice}
@@ -19,7 +21,7 @@ use Rattle.structure.specs.declared.Level.{Level}
 use Rattle.structure.specs.declared.Level.the-variants.{Tagged, Plain}
 use Rattle.structure.specs.declared.Refusal.{Refusal}
 use Rattle.structure.specs.declared.Refusal.the-variants.{NotAllowed, TooDeep}
-use Rattle.structure.specs.Tokens.{toks, kind, start, end, is, word, label, across, spells, peek, pushLiteral}
+use Rattle.structure.specs.Tokens.{across, spells, peek}
 use Rattle.structure.specs.Values.{number, isInteger, integer, string, character}
 
 -- what was read, and the index of the next token; or a refusal

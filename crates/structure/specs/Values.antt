@@ -16,11 +16,13 @@ use Rattle.text.specs.declared.Check.the-variants as Check
 use Rattle.literal.specs.Escapes.{escapeOf, unescaped, badEscape}
 use Rattle.literal.specs.declared.Escape.{Escape}
 use Rattle.literal.specs.declared.Escape.the-variants as Escape
+use Rattle.token.specs.Table.{toks, kind, start, is, within, word}
+use Rattle.token.specs.Tokens.{pushLiteral}
 use Rattle.structure.specs.declared.Level.{Level}
 use Rattle.structure.specs.declared.Level.the-variants.{Tagged, Plain}
 use Rattle.structure.specs.declared.Fault.{Fault}
 use Rattle.structure.specs.declared.Fault.the-variants.{Sound, Over, Zero, PeekRange, NotScalar, NotPlain}
-use Rattle.structure.specs.Tokens.{toks, kind, start, is, within, word, spells, pushLiteral}
+use Rattle.structure.specs.Tokens.{spells}
 
 abbrev pub worth : Decimal → ℕ
 worth (Decimal.Is n) = n

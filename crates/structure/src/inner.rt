@@ -1,4 +1,4 @@
-// Checking over lent arrays of tokens: kinds, starts and ends, as `token::inner::fill` leaves them.
+// Checking over a lent table of tokens, as `token::inner::fill` leaves it.
 pub mod checks;
 pub mod leaves;
 pub mod rules;

@@ -1,53 +1,34 @@
--- Laws of the arrays that hold a text's tokens.
-use Prim.Native.Nat.{ℕ, _+_, _-_, _≤_, _<_}
+-- How the table is filled: after n tokens it holds the rows of the first n at its front, and the tokens left are those from a place on.
+use Prim.Native.Nat.{ℕ, _+_, _*_, _-_, _≤_, _<_}
 use mathlib.Core.Path.{_≡_, refl, sym, ap, _∙_}
 use mathlib.Core.Logic.{⊎-elim}
 use mathlib.Core.List.{List, [], _∷_, _++_, append-assoc, append-nil}
-use native.Mathlib.Nat.{zero-add}
 use native.Mathlib.Omega.{arith}
-use lib.ListN.{length, take, drop, length-append, set}
+use lib.ListN.{length, take, drop, length-append}
 use lib.Seq.{sets, length-sets, take-at, take-all}
 use borrow.Author.Tests.{le-leb, lt-leb}
 use Rattle.text.specs.Splice.{fronted}
 use Rattle.text.specs.declared.Check.{Check}
 use Rattle.text.specs.declared.Check.the-variants.{Good, Bad}
 use Rattle.text.proofs.Tests.{lt-or-ge}
-use Rattle.text.proofs.Splices.{sets-append, sets-front}
 use Rattle.token.specs.Tokens.{tokenAt}
-use Rattle.token.specs.Lists.{Tok, tok, kindOf, startOf, endOf, Tokens, onto, tokensBy, tokensFrom, tokensOf, each, filledBy, filledOf, Space, Holds}
+use Rattle.token.specs.Lists.{Tok, tok, Tokens, onto, tokensBy, tokensFrom, tokensOf, filledBy, filledOf}
+use Rattle.token.specs.Table.{tokenSize, rowOf, flat, roomOf, toks}
 use Rattle.token.specs.declared.Token.{Token}
 use Rattle.token.specs.declared.Token.the-variants.{Found, End, NoToken}
 use Rattle.token.specs.declared.Filled.{Filled}
 use Rattle.token.specs.declared.Filled.the-variants as Filled
 use Rattle.token.proofs.Bounds.{token-in}
-use Rattle.token.proofs.Lists.{tokens-law, length-each}
-
-each-append : (f : Tok → ℕ) (xs ys : List Tok) → each f (xs ++ ys) ≡ each f xs ++ each f ys
-each-append f [] ys = refl
-each-append f (x ∷ xs) ys = ap (λ (l : List ℕ). f x ∷ l) (each-append f xs ys)
+use Rattle.token.proofs.Lists.{tokens-law}
+use Rattle.token.proofs.Table.{flat-length, behind, front-is, row-fits}
 
 onto-onto : (xs ys : List Tok) (r : Tokens) → onto xs (onto ys r) ≡ onto (xs ++ ys) r
 onto-onto xs ys r = ap (λ (l : List Tok). record { list = l; fault = r .fault }) (sym (append-assoc xs ys (r .list)))
 
-set-more : (f : Tok → ℕ) (l : List ℕ) (done : List Tok) (t : Tok) (l₁ : List ℕ) (n : ℕ) → l₁ ≡ sets l 0 (each f done) → n ≡ length done
-    → set l₁ n (f t) ≡ sets l 0 (each f (done ++ (t ∷ [])))
-set-more f l done t l₁ n e q =
-    let z : n ≡ 0 + length (each f done) = q ∙ sym (length-each f done) ∙ sym (zero-add (length (each f done))) in
-    rw (e, z) (sym (sets-append l 0 (each f done) (f t ∷ [])) ∙ ap (sets l 0) (sym (each-append f done (t ∷ []))))
-
--- stores from the fronts on
-pub record Stores (ts : List Tok) (ks ss es ks′ ss′ es′ : List ℕ) : Type 0 where
-  pub kinds : ks′ ≡ sets ks 0 (each kindOf ts)
-  pub starts : ss′ ≡ sets ss 0 (each startOf ts)
-  pub ends : es′ ≡ sets es 0 (each endOf ts)
-
-fronts : (f : Tok → ℕ) (ts : List Tok) (o o′ : List ℕ) → o′ ≡ sets o 0 (each f ts) → length ts ≤ length o → o′ ≡ fronted (each f ts) o
-fronts f ts o o′ e h = e ∙ sets-front o (each f ts) (rw (length-each f ts) h)
-
--- the used part of an array
-pub used : (f : Tok → ℕ) (ts : List Tok) (o o′ : List ℕ) (n : ℕ) → o′ ≡ fronted (each f ts) o → n ≡ length ts → take n o′ ≡ each f ts
+-- the used part of a table
+pub used : (ts : List Tok) (o o′ : List ℕ) (n : ℕ) → o′ ≡ fronted (flat ts) o → n ≡ length ts → take (n * tokenSize) o′ ≡ flat ts
 unfolding fronted
-used f ts o o′ n e q = ap (take n) e ∙ take-at (each f ts) (drop (length (each f ts)) o) n (length-each f ts ∙ sym q)
+used ts o o′ n e q = ap (take (n * tokenSize)) e ∙ take-at (flat ts) (drop (length (flat ts)) o) (n * tokenSize) (omega (arith, flat-length ts))
 
 filled-by : (r : Tokens) (n : ℕ) → filledBy (length (r .list)) (r .fault) ≡ Filled.All n → (n ≡ length (r .list)) × (r .fault ≡ Good)
 filled-by r n e = by-fault (r .fault) e where
@@ -68,7 +49,7 @@ filled-full m s h = rw (lt-leb (length (tokensOf s .list)) m h)
 fitted : (m : ℕ) (s : List ℕ) {f : Filled} → filledOf m s ≡ f → (Filled.Full ≡ f → ⊥) → length (tokensOf s .list) ≤ m
 fitted m s e d = ⊎-elim (λ h. absurd (d (sym (filled-full m s h) ∙ e))) (λ h. h) (lt-or-ge m (length (tokensOf s .list)))
 
--- the arrays were filled: with all tokens, since none is missing
+-- the table was filled: with all tokens, since none is missing
 pub filled-all : (m : ℕ) (s : List ℕ) (n : ℕ) → filledOf m s ≡ Filled.All n → (length (tokensOf s .list) ≤ m) × (n ≡ length (tokensOf s .list)) × (tokensOf s .fault ≡ Good)
 filled-all m s n e =
     let h = fitted m s e (λ q. let z : _≡_ {A = ℕ} 0 1 = cc in omega arith) in
@@ -97,59 +78,43 @@ filled-over m s e =
     ⊎-elim (λ h. h) (λ h. absurd (not-full (length (tokensOf s .list)) (tokensOf s .fault) (sym (filled-fits m s h) ∙ e))) (lt-or-ge m (length (tokensOf s .list)))
 
 -- the turns of `fill`: so many tokens are done, and are held
-pub record Filling (s k₀ s₀ e₀ ks ss es : List ℕ) (at n : ℕ) : Type 0 where
+pub record Filling (s o₀ o : List ℕ) (at n : ℕ) : Type 0 where
   pub done : List Tok
   pub meaning : tokensOf s ≡ onto done (tokensFrom s at)
   pub size : n ≡ length done
-  pub room : n ≤ length k₀
+  pub room : n ≤ roomOf o₀
   pub within : at ≤ length s
-  pub held : Stores done k₀ s₀ e₀ ks ss es
+  pub held : o ≡ sets o₀ 0 (flat done)
 
 -- what a turn that found a token needs
-pub record Stored (s ks ss es : List ℕ) (at n a b : ℕ) : Type 0 where
-  pub kinds : n < length ks
-  pub starts : n < length ss
-  pub ends : n < length es
+pub record Fits (s o : List ℕ) (at n k a b : ℕ) : Type 0 where
+  pub row : n * tokenSize + tokenSize ≤ length o
+  pub kind : k ≤ 27
   pub start : a ≤ 65536
   pub end : b ≤ 65536
   pub less : length s - b < length s - at
 
-pub fill-start : (s k₀ s₀ e₀ : List ℕ) → Filling s k₀ s₀ e₀ k₀ s₀ e₀ 0 0
-unfolding tokensOf
-fill-start s k₀ s₀ e₀ = record {
-  done = [];
-  meaning = refl;
-  size = refl;
-  room = omega arith;
-  within = omega arith;
-  held = record { kinds = refl; starts = refl; ends = refl };
-}
+-- what is answered, and what the table holds then
+abbrev pub Answered : List ℕ → List ℕ → List ℕ → Filled → Type 0
+Answered s o₀ o r = (r ≡ filledOf (roomOf o₀) s) × (o ≡ fronted (flat (take (roomOf o₀) (toks s))) o₀)
 
-module _ {s k₀ s₀ e₀ ks ss es : List ℕ} {at n : ℕ} (v : Filling s k₀ s₀ e₀ ks ss es at n) where
-  pub fill-lengths : (length ks ≡ length k₀) × (length ss ≡ length s₀) × (length es ≡ length e₀)
-  fill-lengths = (
-    ap length (v .held .kinds) ∙ length-sets k₀ 0 (each kindOf (v .done)),
-    ap length (v .held .starts) ∙ length-sets s₀ 0 (each startOf (v .done)),
-    ap length (v .held .ends) ∙ length-sets e₀ 0 (each endOf (v .done)),
-  )
+pub fill-start : (s o₀ : List ℕ) → Filling s o₀ o₀ 0 0
+unfolding tokensOf
+fill-start s o₀ = record { done = []; meaning = refl; size = refl; room = omega arith; within = omega arith; held = refl }
+
+module _ {s o₀ o : List ℕ} {at n : ℕ} (v : Filling s o₀ o at n) where
+  pub fill-length : length o ≡ length o₀
+  fill-length = ap length (v .held) ∙ length-sets o₀ 0 (flat (v .done))
 
   -- what is done fits, and is held
-  fits : length (v .done) ≤ length k₀
+  fits : length (v .done) ≤ roomOf o₀
   fits =
       let q = v .size in
       let m = v .room in
       omega arith
 
-  done-held : Space s k₀ s₀ e₀ → Holds (v .done) k₀ s₀ e₀ ks ss es
-  done-held w =
-      let m = fits in
-      let w₁ = w .starts in
-      let w₂ = w .ends in
-      record {
-        kinds = fronts kindOf (v .done) k₀ ks (v .held .kinds) m;
-        starts = fronts startOf (v .done) s₀ ss (v .held .starts) (omega arith);
-        ends = fronts endOf (v .done) e₀ es (v .held .ends) (omega arith);
-      }
+  done-held : o ≡ fronted (flat (v .done)) o₀
+  done-held = v .held ∙ front-is (v .done) o₀ fits
 
   module _ {r : Token} (e : r ≡ tokenAt s at) where
     now-is : tokensOf s ≡ onto (v .done) (tokensBy r (tokensFrom s))
@@ -159,61 +124,56 @@ module _ {s k₀ s₀ e₀ ks ss es : List ℕ} {at n : ℕ} (v : Filling s k₀
     ends-with f z = now-is ∙ ap (onto (v .done)) z ∙ ap (λ (l : List Tok). record { list = l; fault = f }) (append-nil (v .done))
 
     -- all tokens are done: they fit
-    all-held : (f : Check) → Space s k₀ s₀ e₀ → tokensOf s ≡ record { list = v .done; fault = f }
-        → (filledBy n f ≡ filledOf (length k₀) s) × Holds (take (length k₀) (tokensOf s .list)) k₀ s₀ e₀ ks ss es
-    all-held f w z =
-        let l : length (tokensOf s .list) ≤ length k₀ = rw z (fits) in
-        (sym (filled-fits (length k₀) s l ∙ rw (z, v .size)), rw (take-all (length k₀) (tokensOf s .list) l, z) (done-held w))
+    all-held : (f : Check) → tokensOf s ≡ record { list = v .done; fault = f } → Answered s o₀ o (filledBy n f)
+    all-held f z =
+        let g : toks s ≡ v .done = ap (λ (x : Tokens). x .list) z in
+        let l : length (toks s) ≤ roomOf o₀ = omega (arith, ap length g, fits) in (
+          sym (filled-fits (roomOf o₀) s l ∙ rw (z, v .size)),
+          done-held ∙ ap (λ (ts : List Tok). fronted (flat ts) o₀) (sym (take-all (roomOf o₀) (toks s) l ∙ g)),
+        )
 
-    pub fill-end : Space s k₀ s₀ e₀ → r ≡ End → (Filled.All n ≡ filledOf (length k₀) s) × Holds (take (length k₀) (tokensOf s .list)) k₀ s₀ e₀ ks ss es
-    fill-end w q = all-held Good w (ends-with Good (ap (λ (x : Token). tokensBy x (tokensFrom s)) q))
+    pub fill-end : r ≡ End → Answered s o₀ o (Filled.All n)
+    fill-end q = all-held Good (ends-with Good (ap (λ (x : Token). tokensBy x (tokensFrom s)) q))
 
-    pub fill-none : {p : ℕ} → Space s k₀ s₀ e₀ → r ≡ NoToken p → (Filled.NoToken p ≡ filledOf (length k₀) s) × Holds (take (length k₀) (tokensOf s .list)) k₀ s₀ e₀ ks ss es
-    fill-none {p} w q = all-held (Bad p) w (ends-with (Bad p) (ap (λ (x : Token). tokensBy x (tokensFrom s)) q))
+    pub fill-none : {p : ℕ} → r ≡ NoToken p → Answered s o₀ o (Filled.NoToken p)
+    fill-none {p} q = all-held (Bad p) (ends-with (Bad p) (ap (λ (x : Token). tokensBy x (tokensFrom s)) q))
 
     module _ {k a b : ℕ} (q : r ≡ Found k a b) where
       found-is : tokensOf s ≡ onto (v .done ++ (tok k a b ∷ [])) (tokensFrom s b)
       found-is = now-is ∙ ap (λ (x : Token). onto (v .done) (tokensBy x (tokensFrom s))) q ∙ onto-onto (v .done) (tok k a b ∷ []) (tokensFrom s b)
 
-      -- a token was found, and the arrays are full
-      pub fill-full : Space s k₀ s₀ e₀ → length ks ≤ n → (Filled.Full ≡ filledOf (length k₀) s) × Holds (take (length k₀) (tokensOf s .list)) k₀ s₀ e₀ ks ss es
-      fill-full w h =
-          let z : tokensOf s .list ≡ v .done ++ (tok k a b ∷ tokensFrom s b .list) =
+      -- a token was found, and the table is full
+      pub fill-full : roomOf o₀ ≤ n → Answered s o₀ o Filled.Full
+      fill-full h =
+          let z : toks s ≡ v .done ++ (tok k a b ∷ tokensFrom s b .list) =
           ap (λ (x : Tokens). x .list) found-is ∙ append-assoc (v .done) (tok k a b ∷ []) (tokensFrom s b .list) in
           let l = length-append (v .done) (tok k a b ∷ tokensFrom s b .list) in
           let g = ap length z in
           let m = v .size in
-          let o = v .room in
-          let i = fill-lengths .0 in
-          let d : length (v .done) ≡ length k₀ = omega arith in
-          (sym (filled-full (length k₀) s (omega arith)), rw (z, take-at (v .done) (tok k a b ∷ tokensFrom s b .list) (length k₀) d) (done-held w))
+          let w = v .room in
+          let d : length (v .done) ≡ roomOf o₀ = omega arith in
+          (sym (filled-full (roomOf o₀) s (omega arith)), rw (z, take-at (v .done) (tok k a b ∷ tokensFrom s b .list) (roomOf o₀) d) (done-held))
 
-      -- or they have room for it; and less is left of the text
-      module _ (h : n < length ks) where
-        pub fill-room : Space s k₀ s₀ e₀ → Stored s ks ss es at n a b
+      -- or it has room for it; and less is left of the text
+      module _ (h : n < roomOf o₀) where
+        pub fill-room : length s ≤ 65536 → Fits s o at n k a b
         fill-room w =
             let p = token-in s at k a b (sym e ∙ q) in
-            let l = fill-lengths in
-            let w₁ = w .starts in
-            let w₂ = w .ends in
-            record { kinds = h; starts = omega arith; ends = omega arith; start = omega arith; end = omega arith; less = omega arith }
+            let l = fill-length in
+            let f = row-fits o₀ n h in
+            record { row = omega arith; kind = omega arith; start = omega arith; end = omega arith; less = omega arith }
 
-        pub fill-more : Filling s k₀ s₀ e₀ (set ks n k) (set ss n a) (set es n b) b (n + 1)
-        fill-more =
+        pub fill-more : {o′ : List ℕ} → o′ ≡ sets o (n * tokenSize) (rowOf (tok k a b)) → Filling s o₀ o′ b (n + 1)
+        fill-more g =
             let p = token-in s at k a b (sym e ∙ q) in
-            let l = fill-lengths .0 in
             record {
               done = v .done ++ (tok k a b ∷ []);
               meaning = found-is;
               size =
                   (let z = v .size in
-                  let g = length-append (v .done) (tok k a b ∷ []) in
+                  let i = length-append (v .done) (tok k a b ∷ []) in
                   omega arith);
               room = omega arith;
               within = p .within;
-              held = record {
-                kinds = set-more kindOf k₀ (v .done) (tok k a b) ks n (v .held .kinds) (v .size);
-                starts = set-more startOf s₀ (v .done) (tok k a b) ss n (v .held .starts) (v .size);
-                ends = set-more endOf e₀ (v .done) (tok k a b) es n (v .held .ends) (v .size);
-              };
+              held = g ∙ rw (v .held, v .size) (behind (v .done) (tok k a b ∷ []) o₀);
             }

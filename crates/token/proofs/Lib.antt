@@ -5,6 +5,7 @@ pub mod Places
 pub mod Bounds
 pub mod Strings
 pub mod Lists
+pub mod Table
 pub mod Fills
 pub mod Lister
 pub mod Faults

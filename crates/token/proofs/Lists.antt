@@ -7,7 +7,7 @@ use lib.ListN.{length, getD}
 use Rattle.text.specs.declared.Check.{Check}
 use Rattle.text.specs.declared.Check.the-variants.{Good, Bad}
 use Rattle.token.specs.Tokens.{tokenAt}
-use Rattle.token.specs.Lists.{Tok, tok, kindOf, startOf, endOf, Tokens, onto, tokensBy, tokensIn, tokensFrom, tokensOf, placeFrom, each}
+use Rattle.token.specs.Lists.{Tok, tok, kindOf, startOf, endOf, Tokens, onto, tokensBy, tokensIn, tokensFrom, tokensOf, placeFrom}
 use Rattle.token.specs.declared.Token.{Token}
 use Rattle.token.specs.declared.Token.the-variants.{Found, End, NoToken}
 use Rattle.token.proofs.Bounds.{Inside, token-in}
@@ -128,15 +128,3 @@ few-by size from (tok k a b ∷ ts) l h =
 -- no more tokens than bytes
 pub few : (s : List ℕ) → length (tokensOf s .list) ≤ length s
 few s = omega (arith, few-by (length s) 0 (tokensOf s .list) (omega arith) (ordered s))
-
--- ---- one number of each token
-
-pub length-each : (f : Tok → ℕ) (ts : List Tok) → length (each f ts) ≡ length ts
-length-each f [] = refl
-length-each f (t ∷ ts) = ap suc (length-each f ts)
-
--- what an array that holds a number of each token has at an index
-pub each-at : (f : Tok → ℕ) (ts : List Tok) (i : ℕ) (d : Tok) → i < length ts → getD (each f ts) i 0 ≡ f (getD ts i d)
-each-at f [] i d l = absurd (omega arith)
-each-at f (t ∷ ts) zero d l = refl
-each-at f (t ∷ ts) (suc i) d l = each-at f ts i d (omega arith)

@@ -2,5 +2,6 @@
 pub mod Blanks
 pub mod Tokens
 pub mod Lists
+pub mod Table
 pub mod Lister
 pub mod Faults

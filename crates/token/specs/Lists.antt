@@ -1,11 +1,9 @@
 -- All tokens of a text, or those before its first 3.
-use Prim.Native.Nat.{ℕ, zero, suc, _-_, _≤_}
-use mathlib.Core.Path.{_≡_}
+use Prim.Native.Nat.{ℕ, zero, suc, _-_}
 use mathlib.Core.List.{List, [], _∷_, _++_}
 use lib.Dec.{leb}
 use lib.ListN.{length}
 use Rattle.text.specs.Choice.{choose}
-use Rattle.text.specs.Splice.{fronted}
 use Rattle.text.specs.declared.Check.{Check}
 use Rattle.text.specs.declared.Check.the-variants.{Good, Bad}
 use Rattle.token.specs.Tokens.{tokenAt}
@@ -66,28 +64,11 @@ placeFrom at (t ∷ ts) (suc i) = placeFrom (endOf t) ts i
 abbrev pub pastLast : List ℕ → ℕ
 pastLast s = placeFrom 0 (tokensOf s .list) (length (tokensOf s .list))
 
--- one number of each
-abbrev pub each : (Tok → ℕ) → List Tok → List ℕ
-each f [] = []
-each f (t ∷ ts) = f t ∷ each f ts
-
--- what filling the lent arrays answers
+-- what filling the lent table answers
 abbrev pub filledBy : ℕ → Check → Filled
 filledBy n Good = Filled.All n
 filledBy n (Bad place) = Filled.NoToken place
 
--- arrays of m elements; all tokens before the first 3 have to fit
+-- a table with room for m; all tokens before the first 3 have to fit
 unfoldable pub filledOf : ℕ → List ℕ → Filled
 filledOf m s = choose (leb (length (tokensOf s .list)) m) (λ u. filledBy (length (tokensOf s .list)) (tokensOf s .fault)) (λ u. Filled.Full)
-
--- a text of legal length, and lent arrays of which the first is not longer than the others
-pub record Space (s ks ss es : List ℕ) : Type 0 where
-  pub short : length s ≤ 65536
-  pub starts : length ks ≤ length ss
-  pub ends : length ks ≤ length es
-
--- they hold tokens at their fronts, with the rest as it was
-pub record Holds (ts : List Tok) (ks ss es ks′ ss′ es′ : List ℕ) : Type 0 where
-  pub kinds : ks′ ≡ fronted (each kindOf ts) ks
-  pub starts : ss′ ≡ fronted (each startOf ts) ss
-  pub ends : es′ ≡ fronted (each endOf ts) es

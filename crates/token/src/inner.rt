@@ -2,14 +2,18 @@
 mod blanks;
 pub mod openers;
 mod runs;
+pub mod table;
 
 use crate::Filled;
 use crate::Token;
 ghost use mathlib.Core.Path.{_≡_};
-ghost use Rattle.text.specs.Classes.{classes};
-ghost use Rattle.token.specs.Tokens.{tokenAt};
+ghost use Prim.Native.Nat.{_≤_};
 ghost use lib.ListN.{length, take};
-ghost use Rattle.token.specs.Lists.{tokensOf, filledOf, Space, Holds};
+ghost use Rattle.text.specs.Classes.{classes};
+ghost use Rattle.text.specs.Splice.{fronted};
+ghost use Rattle.token.specs.Tokens.{tokenAt};
+ghost use Rattle.token.specs.Lists.{filledOf};
+ghost use Rattle.token.specs.Table.{flat, roomOf, toks};
 
 // The token at a place: past blanks, by the class of its first byte. Most blanks are spaces, which
 // are told without a look at the table.
@@ -62,19 +66,14 @@ pub fn token_at(t: &[u8; 256], s: &[u8], at: usize) -> Token
     Token::End
 }
 
-// Puts the kinds, starts and ends of a text's tokens into lent arrays, as many as those hold.
-pub fn fill(
-    t: &[u8; 256],
-    s: &[u8],
-    kinds: &mut [u8],
-    starts: &mut [u32],
-    ends: &mut [u32],
-) -> Filled
+// Puts the tokens of a text into a lent table, as many as it has room for.
+pub fn fill(t: &[u8; 256], s: &[u8], tokens: &mut [u32]) -> Filled
     requires { ⌜ now t ≡ classes ⌝ }
-    requires { ⌜ Space (now s) (now kinds) (now starts) (now ends) ⌝ }
-    ensures answer { λ r. ⌜ r ≡ filledOf (length (now (kinds .entry))) (now (s .entry)) ⌝ }
-    ensures held { λ _. ⌜ Holds (take (length (now (kinds .entry))) (tokensOf (now (s .entry)) .list)) (now (kinds .entry)) (now (starts .entry)) (now (ends .entry)) (now (kinds .exit)) (now (starts .exit)) (now (ends .exit)) ⌝ }
+    requires { ⌜ length (now s) ≤ 65536 ⌝ }
+    ensures answer { λ r. ⌜ r ≡ filledOf (roomOf (now (tokens .entry))) (now (s .entry)) ⌝ }
+    ensures held { λ _. ⌜ now (tokens .exit) ≡ fronted (flat (take (roomOf (now (tokens .entry))) (toks (now (s .entry))))) (now (tokens .entry)) ⌝ }
 {
+    let room = tokens.len() / table::TOKEN_SIZE;
     let mut at = 0;
     let mut n = 0;
     loop {
@@ -87,12 +86,10 @@ pub fn fill(
                 return Filled::NoToken(place);
             }
             Token::Found { kind, start, end } => {
-                if kinds.len() <= n {
+                if room <= n {
                     return Filled::Full;
                 }
-                kinds[n] = kind;
-                starts[n] = start as u32;
-                ends[n] = end as u32;
+                table::put_token(tokens, n, kind as u32, start as u32, end as u32);
                 n += 1;
                 at = end;
             }

@@ -28,8 +28,8 @@ pub enum Close {
     Never,
 }
 
-// How many tokens were put into the lent arrays, or the place where there is no token; or there are
-// more tokens before it than the arrays hold.
+// How many tokens were put into the lent table, or the place where there is no token; or there are
+// more tokens before it than the table has room for.
 pub enum Filled {
     All(usize),
     NoToken(usize),

@@ -1,10 +1,11 @@
-// Runs the lister, its cursor and the filling of arrays on the vectors of its standard input, and writes
+// Runs the lister, its cursor and the filling of a table on the vectors of its standard input, and writes
 // each with its answer: a token's kind, start and end; 0 and the length twice; or a refusal's number and place.
 //
 // A line is an operation, a number and bytes. Behind a small letter the bytes are the rest of the line as
 // it stands, behind a capital they are in hex.
 use token::Filled;
 use token::Listed;
+use token::inner::table::TOKEN_SIZE;
 
 fn write_token(kind: u8, start: usize, end: usize) {
     vectors::write_number(kind as usize);
@@ -94,36 +95,33 @@ fn wide(n: u32) -> usize {
     n as usize
 }
 
-// The tokens that the arrays hold: the numbers behind them stand at 170, as they did before.
-fn write_held(kinds: &[u8], starts: &[u32], ends: &[u32]) {
+// The tokens that the table holds: the numbers behind them stand at 170, as they did before.
+fn write_held(tokens: &[u32]) {
     let mut i = 0;
-    while i < kinds.len() {
-        if starts.len() <= i {
+    while i < tokens.len() {
+        if tokens.len() - i < TOKEN_SIZE {
             return;
         }
-        if ends.len() <= i {
+        if tokens[i] != 170 {
+            vectors::write_number(wide(tokens[i]));
+        }
+        vectors::write_number(wide(tokens[i + 1]));
+        vectors::write_number(wide(tokens[i + 2]));
+        if tokens[i] == 170 {
             return;
         }
-        if kinds[i] == 170 {
-            vectors::write_number(wide(starts[i]));
-            vectors::write_number(wide(ends[i]));
-            return;
-        }
-        write_token(kinds[i], wide(starts[i]), wide(ends[i]));
-        i += 1;
+        i += TOKEN_SIZE;
     }
 }
 
-// f BYTES: all tokens into arrays
+// f BYTES: all tokens into a table
 fn run_fill(bytes: &[u8]) {
     if 512 < bytes.len() {
         return;
     }
     let classes = text::inner::classes::classes();
-    let mut kinds = [170u8; 513];
-    let mut starts = [170u32; 513];
-    let mut ends = [170u32; 513];
-    let filled = token::inner::fill(&classes, bytes, &mut kinds, &mut starts, &mut ends);
+    let mut tokens = [170u32; 1539];
+    let filled = token::inner::fill(&classes, bytes, &mut tokens);
     match filled {
         Filled::All(n) => {
             vectors::write(b" all");
@@ -132,7 +130,7 @@ fn run_fill(bytes: &[u8]) {
         Filled::NoToken(place) => write_refused(3, place),
         Filled::Full => vectors::write(b" full"),
     }
-    write_held(&kinds, &starts, &ends);
+    write_held(&tokens);
 }
 
 // Puts bytes into a text again and again, so many times or up to its end. The place behind them.

@@ -14,22 +14,20 @@ use records::inner::nodes::put_join;
 use records::inner::nodes::put_unary;
 use structure::Level;
 use structure::inner::checks::signs_end;
-use structure::inner::tokens::end_at;
-use structure::inner::tokens::kind_at;
 use structure::inner::tokens::spelled;
-use structure::inner::tokens::start_at;
 use table::Join;
 use table::Unary;
+use token::inner::table::end_at;
+use token::inner::table::kind_at;
+use token::inner::table::start_at;
+ghost use Rattle.token.specs.Table.{Lent};
 ghost use Rattle.structure.specs.Structure.{Run, expr, term, node};
-ghost use Rattle.structure.specs.Answers.{Lent};
 ghost use Rattle.build.specs.Build.{Scalars, Room, Built};
 
 // Terms joined by `~` or `|`, both grouped left.
 pub fn consume_expr(
     text: &[u8],
-    kinds: &[u8],
-    starts: &[u32],
-    ends: &[u32],
+    tokens: &[u32],
     nodes: &mut [u32],
     store: &mut [u8],
     level: Level,
@@ -38,24 +36,12 @@ pub fn consume_expr(
     used: usize,
     free: usize,
 ) -> Placed
-    requires { ⌜ Lent (now text) (now kinds) (now starts) (now ends) ⌝ }
+    requires { ⌜ Lent (now text) (now tokens) ⌝ }
     requires { ⌜ Scalars (now text) ⌝ }
     requires { ⌜ Room (Run level (now text) (expr deep at)) (now nodes) (now store) used free ⌝ }
     ensures { λ r. ⌜ Built (Run level (now (text .entry)) (expr deep at)) (now (nodes .entry)) (now (store .entry)) used free r (now (nodes .exit)) (now (store .exit)) ⌝ }
 {
-    let first = unaries(
-        text,
-        kinds,
-        starts,
-        ends,
-        nodes,
-        store,
-        level,
-        deep,
-        at,
-        used,
-        free,
-    );
+    let first = unaries(text, tokens, nodes, store, level, deep, at, used, free);
     let a = first.from;
     let mut i = first.next;
     let mut u = first.used;
@@ -65,21 +51,9 @@ pub fn consume_expr(
     let mut chosen = false;
     let mut left: usize = 0;
     loop {
-        let k = kind_at(text, kinds, starts, ends, i);
+        let k = kind_at(text, tokens, i);
         if k == 10 {
-            let right = unaries(
-                text,
-                kinds,
-                starts,
-                ends,
-                nodes,
-                store,
-                level,
-                deep,
-                i + 1,
-                u,
-                f,
-            );
+            let right = unaries(text, tokens, nodes, store, level, deep, i + 1, u, f);
             put_join(nodes, right.used, b, right.to, Join::Seq, u - 1);
             i = right.next;
             u = right.used + 1;
@@ -98,19 +72,7 @@ pub fn consume_expr(
             }
             chosen = true;
             left = u - 1;
-            let right = unaries(
-                text,
-                kinds,
-                starts,
-                ends,
-                nodes,
-                store,
-                level,
-                deep,
-                i + 1,
-                u,
-                f,
-            );
+            let right = unaries(text, tokens, nodes, store, level, deep, i + 1, u, f);
             i = right.next;
             u = right.used;
             f = right.free;
@@ -123,9 +85,7 @@ pub fn consume_expr(
 // At most one (tag, `=`), any `&` and `!`, a node, any postfixes.
 pub fn unaries(
     text: &[u8],
-    kinds: &[u8],
-    starts: &[u32],
-    ends: &[u32],
+    tokens: &[u32],
     nodes: &mut [u32],
     store: &mut [u8],
     level: Level,
@@ -134,18 +94,16 @@ pub fn unaries(
     used: usize,
     free: usize,
 ) -> Placed
-    requires { ⌜ Lent (now text) (now kinds) (now starts) (now ends) ⌝ }
+    requires { ⌜ Lent (now text) (now tokens) ⌝ }
     requires { ⌜ Scalars (now text) ⌝ }
     requires { ⌜ Room (Run level (now text) (term deep at)) (now nodes) (now store) used free ⌝ }
     ensures { λ r. ⌜ Built (Run level (now (text .entry)) (term deep at)) (now (nodes .entry)) (now (store .entry)) used free r (now (nodes .exit)) (now (store .exit)) ⌝ }
 {
-    let tag = get_node_tag(text, kinds, starts, ends, store, level, at, free);
-    let first = signs_end(text, kinds, starts, ends, tag.next);
+    let tag = get_node_tag(text, tokens, store, level, at, free);
+    let first = signs_end(text, tokens, tag.next);
     let inner = consume_node(
         text,
-        kinds,
-        starts,
-        ends,
+        tokens,
         nodes,
         store,
         level,
@@ -156,28 +114,16 @@ pub fn unaries(
     );
     let tail = put_postfixes(
         text,
-        kinds,
-        starts,
-        ends,
+        tokens,
         nodes,
         inner.next,
         inner.used,
         inner.from,
         inner.to,
     );
-    open_at(text, kinds, starts, ends, nodes, first, tail.used);
-    let u = put_signs(
-        text,
-        kinds,
-        starts,
-        ends,
-        nodes,
-        tag.next,
-        first,
-        tail.used,
-        tail.to,
-    );
-    let a = head_at(text, kinds, starts, ends, tag.next, first, inner.from);
+    open_at(text, tokens, nodes, first, tail.used);
+    let u = put_signs(text, tokens, nodes, tag.next, first, tail.used, tail.to);
+    let a = head_at(text, tokens, tag.next, first, inner.from);
     let built = Placed {
         next: tail.next,
         used: u,
@@ -185,26 +131,13 @@ pub fn unaries(
         from: a,
         to: tail.to,
     };
-    put_tag(
-        text,
-        kinds,
-        starts,
-        ends,
-        nodes,
-        level,
-        at,
-        free,
-        tag.free,
-        built,
-    )
+    put_tag(text, tokens, nodes, level, at, free, tag.free, built)
 }
 
 // An expression in brackets, after PUSH or not; or a leaf.
 pub fn consume_node(
     text: &[u8],
-    kinds: &[u8],
-    starts: &[u32],
-    ends: &[u32],
+    tokens: &[u32],
     nodes: &mut [u32],
     store: &mut [u8],
     level: Level,
@@ -213,17 +146,15 @@ pub fn consume_node(
     used: usize,
     free: usize,
 ) -> Placed
-    requires { ⌜ Lent (now text) (now kinds) (now starts) (now ends) ⌝ }
+    requires { ⌜ Lent (now text) (now tokens) ⌝ }
     requires { ⌜ Scalars (now text) ⌝ }
     requires { ⌜ Room (Run level (now text) (node deep at)) (now nodes) (now store) used free ⌝ }
     ensures { λ r. ⌜ Built (Run level (now (text .entry)) (node deep at)) (now (nodes .entry)) (now (store .entry)) used free r (now (nodes .exit)) (now (store .exit)) ⌝ }
 {
-    if kind_at(text, kinds, starts, ends, at) == 6 {
+    if kind_at(text, tokens, at) == 6 {
         let inner = consume_expr(
             text,
-            kinds,
-            starts,
-            ends,
+            tokens,
             nodes,
             store,
             level,
@@ -232,7 +163,7 @@ pub fn consume_node(
             used,
             free,
         );
-        let z = end_at(text, kinds, starts, ends, inner.next);
+        let z = end_at(text, tokens, inner.next);
         move_end(nodes, inner.used, z);
         return Placed {
             next: inner.next + 1,
@@ -242,12 +173,10 @@ pub fn consume_node(
             to: z,
         };
     }
-    if spelled(b"PUSH", text, kinds, starts, ends, at) {
+    if spelled(b"PUSH", text, tokens, at) {
         let inner = consume_expr(
             text,
-            kinds,
-            starts,
-            ends,
+            tokens,
             nodes,
             store,
             level,
@@ -256,7 +185,7 @@ pub fn consume_node(
             used,
             free,
         );
-        let a = start_at(text, kinds, starts, ends, at);
+        let a = start_at(text, tokens, at);
         put_unary(nodes, inner.used, a, inner.to, Unary::Push);
         return Placed {
             next: inner.next + 1,
@@ -266,16 +195,5 @@ pub fn consume_node(
             to: inner.to,
         };
     }
-    put_leaf(
-        text,
-        kinds,
-        starts,
-        ends,
-        nodes,
-        store,
-        deep,
-        at,
-        used,
-        free,
-    )
+    put_leaf(text, tokens, nodes, store, deep, at, used, free)
 }

@@ -7,42 +7,39 @@ use super::values::is_integer;
 use super::values::opening_of;
 use crate::Placed;
 use records::inner::nodes::put_text;
-use structure::inner::tokens::end_at;
-use structure::inner::tokens::kind_at;
 use structure::inner::tokens::spelled;
-use structure::inner::tokens::start_at;
 use table::End;
 use table::Sort;
+use token::inner::table::end_at;
+use token::inner::table::kind_at;
+use token::inner::table::start_at;
 ghost use mathlib.Core.Path.{_≡_};
 ghost use mathlib.Core.Bool.{true};
 ghost use Prim.Native.Nat.{_+_, _<_};
 ghost use lib.ListN.{length};
 ghost use Rattle.text.specs.declared.Check.the-variants as Check;
 ghost use Rattle.literal.specs.Escapes.{badEscape};
-ghost use Rattle.structure.specs.Answers.{Lent};
-ghost use Rattle.structure.specs.Tokens.{toks, start, end, is};
+ghost use Rattle.token.specs.Table.{toks, start, end, is, Lent};
 ghost use Rattle.structure.specs.Values.{opening, inside};
 ghost use Rattle.structure.specs.Structure.{sliceTo, slice, ranged, leafAt};
 ghost use Rattle.build.specs.Build.{Room, Built, Scalars, wordLeaf, stringLeaf};
 
 fn put_word(
     text: &[u8],
-    kinds: &[u8],
-    starts: &[u32],
-    ends: &[u32],
+    tokens: &[u32],
     nodes: &mut [u32],
     store: &mut [u8],
     at: usize,
     used: usize,
     free: usize,
 ) -> Placed
-    requires { ⌜ Lent (now text) (now kinds) (now starts) (now ends) ⌝ }
+    requires { ⌜ Lent (now text) (now tokens) ⌝ }
     requires { ⌜ at < length (toks (now text)) ⌝ }
     requires { ⌜ Room (wordLeaf (now text) at) (now nodes) (now store) used free ⌝ }
     ensures { λ r. ⌜ Built (wordLeaf (now (text .entry)) at) (now (nodes .entry)) (now (store .entry)) used free r (now (nodes .exit)) (now (store .exit)) ⌝ }
 {
-    let a = start_at(text, kinds, starts, ends, at);
-    let z = end_at(text, kinds, starts, ends, at);
+    let a = start_at(text, tokens, at);
+    let z = end_at(text, tokens, at);
     let end = put_bytes(text, store, a, z, free);
     put_text(nodes, used, a, z, Sort::Ident, free, z - a);
     Placed {
@@ -57,9 +54,7 @@ fn put_word(
 // A string's node, of any sort, and the token after what it stands in.
 fn put_literal(
     text: &[u8],
-    kinds: &[u8],
-    starts: &[u32],
-    ends: &[u32],
+    tokens: &[u32],
     nodes: &mut [u32],
     store: &mut [u8],
     at: usize,
@@ -68,15 +63,15 @@ fn put_literal(
     used: usize,
     free: usize,
 ) -> Placed
-    requires { ⌜ Lent (now text) (now kinds) (now starts) (now ends) ⌝ }
+    requires { ⌜ Lent (now text) (now tokens) ⌝ }
     requires { ⌜ start (now text) at + opening (now text) at < end (now text) at ⌝ }
     requires { ⌜ badEscape (inside (now text) at) ≡ Check.Good ⌝ }
     requires { ⌜ Room (stringLeaf sort (now text) at next) (now nodes) (now store) used free ⌝ }
     ensures { λ r. ⌜ Built (stringLeaf sort (now (text .entry)) at next) (now (nodes .entry)) (now (store .entry)) used free r (now (nodes .exit)) (now (store .exit)) ⌝ }
 {
-    let a = start_at(text, kinds, starts, ends, at);
-    let z = end_at(text, kinds, starts, ends, at);
-    let k = opening_of(text, kinds, starts, ends, at);
+    let a = start_at(text, tokens, at);
+    let z = end_at(text, tokens, at);
+    let k = opening_of(text, tokens, at);
     let end = put_string(text, store, a + k, z - 1, free);
     put_text(nodes, used, a, z, sort, free, end - free);
     Placed {
@@ -90,25 +85,23 @@ fn put_literal(
 
 fn put_range(
     text: &[u8],
-    kinds: &[u8],
-    starts: &[u32],
-    ends: &[u32],
+    tokens: &[u32],
     nodes: &mut [u32],
     store: &mut [u8],
     at: usize,
     used: usize,
     free: usize,
 ) -> Placed
-    requires { ⌜ Lent (now text) (now kinds) (now starts) (now ends) ⌝ }
+    requires { ⌜ Lent (now text) (now tokens) ⌝ }
     requires { ⌜ is (now text) at 25 ≡ true ⌝ }
     requires { ⌜ Room (ranged (now text) at) (now nodes) (now store) used free ⌝ }
     ensures { λ r. ⌜ Built (ranged (now (text .entry)) at) (now (nodes .entry)) (now (store .entry)) used free r (now (nodes .exit)) (now (store .exit)) ⌝ }
 {
     let i = at + 1 + 1;
-    let a = start_at(text, kinds, starts, ends, at);
-    let z = end_at(text, kinds, starts, ends, i);
-    let x = character_at(text, kinds, starts, ends, at);
-    let y = character_at(text, kinds, starts, ends, i);
+    let a = start_at(text, tokens, at);
+    let z = end_at(text, tokens, i);
+    let x = character_at(text, tokens, at);
+    let y = character_at(text, tokens, i);
     records::inner::nodes::put_range(nodes, used, a, z, x, y);
     Placed {
         next: i + 1,
@@ -122,9 +115,7 @@ fn put_range(
 // A slice's node, from past the `..` on.
 fn put_slice_to(
     text: &[u8],
-    kinds: &[u8],
-    starts: &[u32],
-    ends: &[u32],
+    tokens: &[u32],
     nodes: &mut [u32],
     store: &mut [u8],
     at: usize,
@@ -133,14 +124,14 @@ fn put_slice_to(
     used: usize,
     free: usize,
 ) -> Placed
-    requires { ⌜ Lent (now text) (now kinds) (now starts) (now ends) ⌝ }
+    requires { ⌜ Lent (now text) (now tokens) ⌝ }
     requires { ⌜ Room (sliceTo (now text) at from i) (now nodes) (now store) used free ⌝ }
     ensures { λ r. ⌜ Built (sliceTo (now (text .entry)) at from i) (now (nodes .entry)) (now (store .entry)) used free r (now (nodes .exit)) (now (store .exit)) ⌝ }
 {
-    let a = start_at(text, kinds, starts, ends, at);
-    if is_integer(text, kinds, starts, ends, i) {
-        let to = integer_at(text, kinds, starts, ends, i);
-        let z = end_at(text, kinds, starts, ends, i + 1);
+    let a = start_at(text, tokens, at);
+    if is_integer(text, tokens, i) {
+        let to = integer_at(text, tokens, i);
+        let z = end_at(text, tokens, i + 1);
         records::inner::nodes::put_slice(nodes, used, a, z, from, End::At(to));
         return Placed {
             next: i + 1 + 1,
@@ -150,7 +141,7 @@ fn put_slice_to(
             to: z,
         };
     }
-    let z = end_at(text, kinds, starts, ends, i);
+    let z = end_at(text, tokens, i);
     records::inner::nodes::put_slice(nodes, used, a, z, from, End::Open);
     Placed {
         next: i + 1,
@@ -164,9 +155,7 @@ fn put_slice_to(
 // A slice's node, from past the `[` on.
 fn put_slice(
     text: &[u8],
-    kinds: &[u8],
-    starts: &[u32],
-    ends: &[u32],
+    tokens: &[u32],
     nodes: &mut [u32],
     store: &mut [u8],
     at: usize,
@@ -174,47 +163,21 @@ fn put_slice(
     used: usize,
     free: usize,
 ) -> Placed
-    requires { ⌜ Lent (now text) (now kinds) (now starts) (now ends) ⌝ }
+    requires { ⌜ Lent (now text) (now tokens) ⌝ }
     requires { ⌜ Room (slice (now text) at i) (now nodes) (now store) used free ⌝ }
     ensures { λ r. ⌜ Built (slice (now (text .entry)) at i) (now (nodes .entry)) (now (store .entry)) used free r (now (nodes .exit)) (now (store .exit)) ⌝ }
 {
-    if is_integer(text, kinds, starts, ends, i) {
-        let from = integer_at(text, kinds, starts, ends, i);
-        return put_slice_to(
-            text,
-            kinds,
-            starts,
-            ends,
-            nodes,
-            store,
-            at,
-            from,
-            i + 1 + 1,
-            used,
-            free,
-        );
+    if is_integer(text, tokens, i) {
+        let from = integer_at(text, tokens, i);
+        return put_slice_to(text, tokens, nodes, store, at, from, i + 1 + 1, used, free);
     }
-    put_slice_to(
-        text,
-        kinds,
-        starts,
-        ends,
-        nodes,
-        store,
-        at,
-        0,
-        i + 1,
-        used,
-        free,
-    )
+    put_slice_to(text, tokens, nodes, store, at, 0, i + 1, used, free)
 }
 
 // A node that holds no expression.
 pub fn put_leaf(
     text: &[u8],
-    kinds: &[u8],
-    starts: &[u32],
-    ends: &[u32],
+    tokens: &[u32],
     nodes: &mut [u32],
     store: &mut [u8],
     deep: usize,
@@ -222,17 +185,15 @@ pub fn put_leaf(
     used: usize,
     free: usize,
 ) -> Placed
-    requires { ⌜ Lent (now text) (now kinds) (now starts) (now ends) ⌝ }
+    requires { ⌜ Lent (now text) (now tokens) ⌝ }
     requires { ⌜ Scalars (now text) ⌝ }
     requires { ⌜ Room (leafAt deep (now text) at) (now nodes) (now store) used free ⌝ }
     ensures { λ r. ⌜ Built (leafAt deep (now (text .entry)) at) (now (nodes .entry)) (now (store .entry)) used free r (now (nodes .exit)) (now (store .exit)) ⌝ }
 {
-    if spelled(b"PUSH_LITERAL", text, kinds, starts, ends, at) {
+    if spelled(b"PUSH_LITERAL", text, tokens, at) {
         return put_literal(
             text,
-            kinds,
-            starts,
-            ends,
+            tokens,
             nodes,
             store,
             at + 1 + 1,
@@ -242,33 +203,20 @@ pub fn put_leaf(
             free,
         );
     }
-    let kind = kind_at(text, kinds, starts, ends, at);
-    if spelled(b"PEEK", text, kinds, starts, ends, at) {
-        if kind_at(text, kinds, starts, ends, at + 1) == 4 {
-            return put_slice(
-                text,
-                kinds,
-                starts,
-                ends,
-                nodes,
-                store,
-                at,
-                at + 2,
-                used,
-                free,
-            );
+    let kind = kind_at(text, tokens, at);
+    if spelled(b"PEEK", text, tokens, at) {
+        if kind_at(text, tokens, at + 1) == 4 {
+            return put_slice(text, tokens, nodes, store, at, at + 2, used, free);
         }
-        return put_word(text, kinds, starts, ends, nodes, store, at, used, free);
+        return put_word(text, tokens, nodes, store, at, used, free);
     }
     if kind == 18 {
-        return put_word(text, kinds, starts, ends, nodes, store, at, used, free);
+        return put_word(text, tokens, nodes, store, at, used, free);
     }
     if kind == 23 {
         return put_literal(
             text,
-            kinds,
-            starts,
-            ends,
+            tokens,
             nodes,
             store,
             at,
@@ -281,9 +229,7 @@ pub fn put_leaf(
     if kind == 24 {
         return put_literal(
             text,
-            kinds,
-            starts,
-            ends,
+            tokens,
             nodes,
             store,
             at,
@@ -293,5 +239,5 @@ pub fn put_leaf(
             free,
         );
     }
-    put_range(text, kinds, starts, ends, nodes, store, at, used, free)
+    put_range(text, tokens, nodes, store, at, used, free)
 }

@@ -5,23 +5,24 @@ use crate::Suffix;
 use crate::Trailed;
 use records::inner::nodes::put_join;
 use records::inner::nodes::put_unary;
-use structure::inner::tokens::end_at;
-use structure::inner::tokens::kind_at;
-use structure::inner::tokens::start_at;
 use table::Join;
 use table::Unary;
+use token::inner::table::end_at;
+use token::inner::table::kind_at;
+use token::inner::table::start_at;
 ghost use mathlib.Core.Path.{_≡_};
 ghost use Prim.Native.Nat.{_+_, _-_};
-ghost use Rattle.structure.specs.Answers.{Lent, signOf};
+ghost use Rattle.token.specs.Table.{Lent};
+ghost use Rattle.structure.specs.Answers.{signOf};
 ghost use Rattle.build.specs.Build.{SignsRoom, SignsPut, PostsRoom, PostsPut, ChoiceRoom, chosenEnd, chosenOf};
 ghost use Rattle.records.specs.Records.{written};
 
 // The predicate that a token is.
-fn sign_at(text: &[u8], kinds: &[u8], starts: &[u32], ends: &[u32], at: usize) -> Unary
-    requires { ⌜ Lent (now text) (now kinds) (now starts) (now ends) ⌝ }
+fn sign_at(text: &[u8], tokens: &[u32], at: usize) -> Unary
+    requires { ⌜ Lent (now text) (now tokens) ⌝ }
     ensures { λ r. ⌜ r ≡ signOf (now (text .entry)) at ⌝ }
 {
-    if kind_at(text, kinds, starts, ends, at) == 8 {
+    if kind_at(text, tokens, at) == 8 {
         return Unary::PosPred;
     }
     Unary::NegPred
@@ -30,16 +31,14 @@ fn sign_at(text: &[u8], kinds: &[u8], starts: &[u32], ends: &[u32], at: usize) -
 // Writes the records of the predicates from one token to another, the last first.
 pub fn put_signs(
     text: &[u8],
-    kinds: &[u8],
-    starts: &[u32],
-    ends: &[u32],
+    tokens: &[u32],
     nodes: &mut [u32],
     at: usize,
     last: usize,
     used: usize,
     z: usize,
 ) -> usize
-    requires { ⌜ Lent (now text) (now kinds) (now starts) (now ends) ⌝ }
+    requires { ⌜ Lent (now text) (now tokens) ⌝ }
     requires { ⌜ SignsRoom (now nodes) at last z used ⌝ }
     ensures answer { λ r. ⌜ r ≡ used + (last - at) ⌝ }
     ensures table { λ _. ⌜ SignsPut (now (text .entry)) at last z used (now (nodes .entry)) (now (nodes .exit)) ⌝ }
@@ -48,8 +47,8 @@ pub fn put_signs(
     let mut u = used;
     while at < i {
         i -= 1;
-        let a = start_at(text, kinds, starts, ends, i);
-        put_unary(nodes, u, a, z, sign_at(text, kinds, starts, ends, i));
+        let a = start_at(text, tokens, i);
+        put_unary(nodes, u, a, z, sign_at(text, tokens, i));
         u += 1;
     }
     u
@@ -58,16 +57,14 @@ pub fn put_signs(
 // Writes the records of the postfixes from a token on.
 pub fn put_postfixes(
     text: &[u8],
-    kinds: &[u8],
-    starts: &[u32],
-    ends: &[u32],
+    tokens: &[u32],
     nodes: &mut [u32],
     at: usize,
     used: usize,
     from: usize,
     to: usize,
 ) -> Trailed
-    requires { ⌜ Lent (now text) (now kinds) (now starts) (now ends) ⌝ }
+    requires { ⌜ Lent (now text) (now tokens) ⌝ }
     requires { ⌜ PostsRoom (now text) (now nodes) at used from to ⌝ }
     ensures { λ r. ⌜ PostsPut (now (text .entry)) at used from to (now (nodes .entry)) r (now (nodes .exit)) ⌝ }
 {
@@ -75,10 +72,10 @@ pub fn put_postfixes(
     let mut u = used;
     let mut z = to;
     loop {
-        let suffix = suffix_at(text, kinds, starts, ends, i);
+        let suffix = suffix_at(text, tokens, i);
         match suffix {
             Suffix::Post(op, n) => {
-                z = end_at(text, kinds, starts, ends, n - 1);
+                z = end_at(text, tokens, n - 1);
                 put_unary(nodes, u, from, z, op);
                 u += 1;
                 i = n;

@@ -8,10 +8,11 @@ use structure::inner::rules::docs_end;
 use structure::inner::rules::mark_at;
 use structure::inner::rules::past_bar;
 use structure::inner::rules::past_mark;
-use structure::inner::tokens::end_at;
-use structure::inner::tokens::kind_at;
-use structure::inner::tokens::start_at;
-ghost use Rattle.structure.specs.Answers.{Lent};
+use token::inner::table::end_at;
+use token::inner::table::kind_at;
+use token::inner::table::start_at;
+use token::inner::table::token_count;
+ghost use Rattle.token.specs.Table.{Lent};
 ghost use Rattle.structure.specs.Structure.{ruleAt, grammar};
 ghost use Rattle.build.specs.Rules.{rulesOf};
 ghost use Rattle.build.specs.Build.{Scalars};
@@ -20,9 +21,7 @@ ghost use Rattle.build.specs.Rules.{RuleRoom, RuleBuilt, RulesRoom, Rule
 // Writes a rule: its name, its tree, then its record.
 fn consume_rule(
     text: &[u8],
-    kinds: &[u8],
-    starts: &[u32],
-    ends: &[u32],
+    tokens: &[u32],
     nodes: &mut [u32],
     rules: &mut [u32],
     store: &mut [u8],
@@ -32,30 +31,18 @@ fn consume_rule(
     used: usize,
     free: usize,
 ) -> Past
-    requires { ⌜ Lent (now text) (now kinds) (now starts) (now ends) ⌝ }
+    requires { ⌜ Lent (now text) (now tokens) ⌝ }
     requires { ⌜ Scalars (now text) ⌝ }
     requires { ⌜ RuleRoom (ruleAt level (now text) at) (now nodes) (now rules) (now store) index used free ⌝ }
     ensures { λ r. ⌜ RuleBuilt (ruleAt level (now (text .entry)) at) (now (nodes .entry)) (now (rules .entry)) (now (store .entry)) index used free r (now (nodes .exit)) (now (rules .exit)) (now (store .exit)) ⌝ }
 {
-    let a = start_at(text, kinds, starts, ends, at);
-    let z = end_at(text, kinds, starts, ends, at);
+    let a = start_at(text, tokens, at);
+    let z = end_at(text, tokens, at);
     let named = put_bytes(text, store, a, z, free);
-    let mark = mark_at(text, kinds, starts, ends, at + 1 + 1);
-    let open = past_mark(text, kinds, starts, ends, at + 1 + 1);
-    let body = past_bar(text, kinds, starts, ends, open + 1);
-    let tree = consume_expr(
-        text,
-        kinds,
-        starts,
-        ends,
-        nodes,
-        store,
-        level,
-        0,
-        body,
-        used,
-        named,
-    );
+    let mark = mark_at(text, tokens, at + 1 + 1);
+    let open = past_mark(text, tokens, at + 1 + 1);
+    let body = past_bar(text, tokens, open + 1);
+    let tree = consume_expr(text, tokens, nodes, store, level, 0, body, used, named);
     put_rule(rules, index, free, z - a, mark, tree.used - 1, a, z);
     Past {
         next: tree.next + 1,
@@ -67,32 +54,29 @@ fn consume_rule(
 // Writes the rules of a text that is good in structure and values, and for which there is room.
 pub fn consume_rules_with_spans(
     text: &[u8],
-    kinds: &[u8],
-    starts: &[u32],
-    ends: &[u32],
+    tokens: &[u32],
     nodes: &mut [u32],
     rules: &mut [u32],
     store: &mut [u8],
     level: Level,
 )
-    requires { ⌜ Lent (now text) (now kinds) (now starts) (now ends) ⌝ }
+    requires { ⌜ Lent (now text) (now tokens) ⌝ }
     requires { ⌜ Scalars (now text) ⌝ }
     requires { ⌜ RulesRoom (grammar level (now text)) (rulesOf level (now text)) (now nodes) (now rules) (now store) ⌝ }
     ensures { λ _. ⌜ RulesBuilt (rulesOf level (now (text .entry))) (now (nodes .entry)) (now (rules .entry)) (now (store .entry)) (now (nodes .exit)) (now (rules .exit)) (now (store .exit)) ⌝ }
 {
-    let mut i = docs_end(text, kinds, starts, ends);
+    let n = token_count(text, tokens);
+    let mut i = docs_end(text, tokens);
     let mut index = 0;
     let mut used = 0;
     let mut free = 0;
-    while i < kinds.len() {
-        if kind_at(text, kinds, starts, ends, i) == 27 {
+    while i < n {
+        if kind_at(text, tokens, i) == 27 {
             i += 1;
         } else {
             let rule = consume_rule(
                 text,
-                kinds,
-                starts,
-                ends,
+                tokens,
                 nodes,
                 rules,
                 store,

@@ -5,7 +5,7 @@ ghost use lib.ListN.{length};
 ghost use Rattle.text.specs.Splice.{Room, Wrote};
 ghost use Rattle.text.specs.declared.Check.the-variants as Check;
 ghost use Rattle.literal.specs.Escapes.{badEscape, unescaped};
-ghost use Rattle.structure.specs.Tokens.{part};
+ghost use Rattle.token.specs.Table.{part};
 
 // Copies bytes of the text into the store.
 pub fn put_bytes(text: &[u8], store: &mut [u8], a: usize, z: usize, free: usize) -> usize

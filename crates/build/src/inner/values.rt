@@ -1,21 +1,20 @@
 // What tokens are worth, from the bytes of the text.
 use crate::Suffix;
 use literal::Escape;
-use structure::inner::tokens::end_at;
-use structure::inner::tokens::kind_at;
-use structure::inner::tokens::start_at;
 use structure::inner::values::integer_of;
 use structure::inner::values::number_of;
 use table::Unary;
 use text::Decimal;
 use text::Sequence;
+use token::inner::table::end_at;
+use token::inner::table::kind_at;
+use token::inner::table::start_at;
 ghost use mathlib.Core.Path.{_≡_};
 ghost use mathlib.Core.Bool.{true};
 ghost use Prim.Native.Nat.{_<_};
 ghost use lib.ListN.{length};
 ghost use Rattle.literal.specs.Escapes.{escapeOf};
-ghost use Rattle.structure.specs.Answers.{Lent};
-ghost use Rattle.structure.specs.Tokens.{toks, is};
+ghost use Rattle.token.specs.Table.{toks, is, Lent};
 ghost use Rattle.structure.specs.Values.{worth, negated, number, isInteger, integer, opening, charBy, character};
 ghost use Rattle.structure.specs.Structure.{postfixAt, fromNumber, fromComma};
 ghost use Rattle.build.specs.Build.{Sound, suffixOf};
@@ -41,19 +40,19 @@ fn negate(n: u32) -> u32
 }
 
 // A repeat number.
-fn number_at(text: &[u8], kinds: &[u8], starts: &[u32], ends: &[u32], at: usize) -> u32
-    requires { ⌜ Lent (now text) (now kinds) (now starts) (now ends) ⌝ }
+fn number_at(text: &[u8], tokens: &[u32], at: usize) -> u32
+    requires { ⌜ Lent (now text) (now tokens) ⌝ }
     requires { ⌜ at < length (toks (now text)) ⌝ }
     ensures { λ r. ⌜ r ≡ number (now (text .entry)) at ⌝ }
 {
-    worth_of(number_of(text, kinds, starts, ends, at))
+    worth_of(number_of(text, tokens, at))
 }
 
-pub fn is_integer(text: &[u8], kinds: &[u8], starts: &[u32], ends: &[u32], at: usize) -> bool
-    requires { ⌜ Lent (now text) (now kinds) (now starts) (now ends) ⌝ }
+pub fn is_integer(text: &[u8], tokens: &[u32], at: usize) -> bool
+    requires { ⌜ Lent (now text) (now tokens) ⌝ }
     ensures { λ r. ⌜ r ≡ isInteger (now (text .entry)) at ⌝ }
 {
-    let kind = kind_at(text, kinds, starts, ends, at);
+    let kind = kind_at(text, tokens, at);
     if kind == 20 {
         return true;
     }
@@ -61,24 +60,24 @@ pub fn is_integer(text: &[u8], kinds: &[u8], starts: &[u32], ends: &[u32], at: u
 }
 
 // A number of a PEEK slice, in two's complement.
-pub fn integer_at(text: &[u8], kinds: &[u8], starts: &[u32], ends: &[u32], at: usize) -> u32
-    requires { ⌜ Lent (now text) (now kinds) (now starts) (now ends) ⌝ }
+pub fn integer_at(text: &[u8], tokens: &[u32], at: usize) -> u32
+    requires { ⌜ Lent (now text) (now tokens) ⌝ }
     requires { ⌜ at < length (toks (now text)) ⌝ }
     ensures { λ r. ⌜ r ≡ integer (now (text .entry)) at ⌝ }
 {
-    let n = worth_of(integer_of(text, kinds, starts, ends, at));
-    if kind_at(text, kinds, starts, ends, at) == 21 {
+    let n = worth_of(integer_of(text, tokens, at));
+    if kind_at(text, tokens, at) == 21 {
         return negate(n);
     }
     n
 }
 
 // How many bytes open a literal.
-pub fn opening_of(text: &[u8], kinds: &[u8], starts: &[u32], ends: &[u32], at: usize) -> usize
-    requires { ⌜ Lent (now text) (now kinds) (now starts) (now ends) ⌝ }
+pub fn opening_of(text: &[u8], tokens: &[u32], at: usize) -> usize
+    requires { ⌜ Lent (now text) (now tokens) ⌝ }
     ensures { λ r. ⌜ r ≡ opening (now (text .entry)) at ⌝ }
 {
-    if kind_at(text, kinds, starts, ends, at) == 24 {
+    if kind_at(text, tokens, at) == 24 {
         return 2;
     }
     1
@@ -102,53 +101,53 @@ fn meant(s: &[u8]) -> u32
 }
 
 // The character that a character literal means.
-pub fn character_at(text: &[u8], kinds: &[u8], starts: &[u32], ends: &[u32], at: usize) -> u32
-    requires { ⌜ Lent (now text) (now kinds) (now starts) (now ends) ⌝ }
+pub fn character_at(text: &[u8], tokens: &[u32], at: usize) -> u32
+    requires { ⌜ Lent (now text) (now tokens) ⌝ }
     requires { ⌜ is (now text) at 25 ≡ true ⌝ }
     ensures { λ r. ⌜ r ≡ character (now (text .entry)) at ⌝ }
 {
-    let a = start_at(text, kinds, starts, ends, at) + 1;
-    let z = end_at(text, kinds, starts, ends, at) - 1;
+    let a = start_at(text, tokens, at) + 1;
+    let z = end_at(text, tokens, at) - 1;
     meant(&text[a..z])
 }
 
 // `{n}`, `{n,}`, `{n, m}`, from past the `{` on.
-fn from_number(text: &[u8], kinds: &[u8], starts: &[u32], ends: &[u32], at: usize) -> Suffix
-    requires { ⌜ Lent (now text) (now kinds) (now starts) (now ends) ⌝ }
+fn from_number(text: &[u8], tokens: &[u32], at: usize) -> Suffix
+    requires { ⌜ Lent (now text) (now tokens) ⌝ }
     requires { ⌜ is (now text) at 20 ≡ true ⌝ }
     requires { ⌜ Sound (fromNumber (now text) at) ⌝ }
     ensures { λ r. ⌜ r ≡ suffixOf (fromNumber (now (text .entry)) at) ⌝ }
 {
-    let n = number_at(text, kinds, starts, ends, at);
-    if kind_at(text, kinds, starts, ends, at + 1) == 3 {
+    let n = number_at(text, tokens, at);
+    if kind_at(text, tokens, at + 1) == 3 {
         return Suffix::Post(Unary::RepExact(n), at + 2);
     }
     let j = at + 1 + 1;
-    if kind_at(text, kinds, starts, ends, j) == 3 {
+    if kind_at(text, tokens, j) == 3 {
         return Suffix::Post(Unary::RepMin(n), j + 1);
     }
-    let m = number_at(text, kinds, starts, ends, j);
+    let m = number_at(text, tokens, j);
     Suffix::Post(Unary::RepMinMax(n, m), j + 1 + 1)
 }
 
 // `{,n}`, from the comma on.
-fn from_comma(text: &[u8], kinds: &[u8], starts: &[u32], ends: &[u32], at: usize) -> Suffix
-    requires { ⌜ Lent (now text) (now kinds) (now starts) (now ends) ⌝ }
+fn from_comma(text: &[u8], tokens: &[u32], at: usize) -> Suffix
+    requires { ⌜ Lent (now text) (now tokens) ⌝ }
     requires { ⌜ Sound (fromComma (now text) at) ⌝ }
     ensures { λ r. ⌜ r ≡ suffixOf (fromComma (now (text .entry)) at) ⌝ }
 {
     let j = at + 1;
-    let n = number_at(text, kinds, starts, ends, j);
+    let n = number_at(text, tokens, j);
     Suffix::Post(Unary::RepMax(n), j + 1 + 1)
 }
 
 // The postfix at a token.
-pub fn suffix_at(text: &[u8], kinds: &[u8], starts: &[u32], ends: &[u32], at: usize) -> Suffix
-    requires { ⌜ Lent (now text) (now kinds) (now starts) (now ends) ⌝ }
+pub fn suffix_at(text: &[u8], tokens: &[u32], at: usize) -> Suffix
+    requires { ⌜ Lent (now text) (now tokens) ⌝ }
     requires { ⌜ Sound (postfixAt (now text) at) ⌝ }
     ensures { λ r. ⌜ r ≡ suffixOf (postfixAt (now (text .entry)) at) ⌝ }
 {
-    let kind = kind_at(text, kinds, starts, ends, at);
+    let kind = kind_at(text, tokens, at);
     if kind == 12 {
         return Suffix::Post(Unary::Opt, at + 1);
     }
@@ -162,8 +161,8 @@ pub fn suffix_at(text: &[u8], kinds: &[u8], starts: &[u32], ends: &[u32], at: us
         return Suffix::Nothing;
     }
     let i = at + 1;
-    if kind_at(text, kinds, starts, ends, i) == 20 {
-        return from_number(text, kinds, starts, ends, i);
+    if kind_at(text, tokens, i) == 20 {
+        return from_number(text, tokens, i);
     }
-    from_comma(text, kinds, starts, ends, i)
+    from_comma(text, tokens, i)
 }

@@ -12,12 +12,12 @@ use table::inner::records::NODE_SIZE;
 use table::inner::records::RULE_SIZE;
 use token::Filled;
 use token::inner::fill;
+use token::inner::table::TOKEN_SIZE;
 ghost use mathlib.Core.Path.{_≡_};
-ghost use Prim.Native.Nat.{_/_, _<_, min};
+ghost use Prim.Native.Nat.{_/_, _≤_, _<_, min};
 ghost use lib.ListN.{length};
 ghost use Rattle.text.specs.Classes.{classes};
-ghost use Rattle.token.specs.Lists.{Space};
-ghost use Rattle.structure.specs.Answers.{Lent};
+ghost use Rattle.token.specs.Table.{roomOf, Lent};
 ghost use Rattle.reader.specs.Read.{roomForNodes, roomForRules, roomBy, judgedOf, triedOf, Leaves, TriedLeaves};
 
 // How many whole records there may be: the lower of what is lent and a limit.
@@ -46,20 +46,11 @@ fn room_for(rules: usize, nodes: usize, bytes: usize, n: usize, r: usize, b: usi
 }
 
 // What a text of tokens gets: structure, then values, then room.
-fn judge(
-    text: &[u8],
-    kinds: &[u8],
-    starts: &[u32],
-    ends: &[u32],
-    level: Level,
-    n: usize,
-    r: usize,
-    b: usize,
-) -> Reading
-    requires { ⌜ Lent (now text) (now kinds) (now starts) (now ends) ⌝ }
+fn judge(text: &[u8], tokens: &[u32], level: Level, n: usize, r: usize, b: usize) -> Reading
+    requires { ⌜ Lent (now text) (now tokens) ⌝ }
     ensures { λ x. ⌜ x ≡ judgedOf level (now (text .entry)) n r b ⌝ }
 {
-    let counted = check_grammar(text, kinds, starts, ends, level);
+    let counted = check_grammar(text, tokens, level);
     match counted {
         Counted::Refused(refusal) => match refusal {
             Refusal::NotAllowed(place) => Reading::NotAllowed(place),
@@ -70,7 +61,7 @@ fn judge(
             nodes,
             bytes,
         } => {
-            let fault = faults(text, kinds, starts, ends, level);
+            let fault = faults(text, tokens, level);
             match fault {
                 Fault::Sound => room_for(rules, nodes, bytes, n, r, b),
                 Fault::Over(place) => Reading::Over(place),
@@ -86,57 +77,47 @@ fn judge(
 // Judges a text of tokens, and writes its rules if there is nothing to refuse.
 fn build(
     text: &[u8],
-    kinds: &[u8],
-    starts: &[u32],
-    ends: &[u32],
+    tokens: &[u32],
     level: Level,
     nodes: &mut [u32],
     rules: &mut [u32],
     store: &mut [u8],
 ) -> Reading
-    requires { ⌜ Lent (now text) (now kinds) (now starts) (now ends) ⌝ }
+    requires { ⌜ Lent (now text) (now tokens) ⌝ }
     ensures answer { λ r. ⌜ r ≡ judgedOf level (now (text .entry)) (roomForNodes (now (nodes .entry))) (roomForRules (now (rules .entry))) (length (now (store .entry))) ⌝ }
     ensures left { λ r. ⌜ Leaves level (now (text .entry)) r (now (nodes .entry)) (now (rules .entry)) (now (store .entry)) (now (nodes .exit)) (now (rules .exit)) (now (store .exit)) ⌝ }
 {
     let n = whole(nodes.len(), NODE_SIZE, 4096);
     let r = whole(rules.len(), RULE_SIZE, 1024);
-    let answer = judge(text, kinds, starts, ends, level, n, r, store.len());
+    let answer = judge(text, tokens, level, n, r, store.len());
     if let Reading::Read(_, _, _) = answer {
-        consume_rules_with_spans(text, kinds, starts, ends, nodes, rules, store, level);
+        consume_rules_with_spans(text, tokens, nodes, rules, store, level);
     }
     answer
 }
 
-// Lists a text's tokens in lent arrays, and goes on with those if they are all there.
+// Lists a text's tokens in a lent table, and goes on with those if they are all there.
 pub fn work(
     t: &[u8; 256],
     text: &[u8],
-    kinds: &mut [u8],
-    starts: &mut [u32],
-    ends: &mut [u32],
+    tokens: &mut [u32],
     level: Level,
     nodes: &mut [u32],
     rules: &mut [u32],
     store: &mut [u8],
 ) -> Tried
     requires { ⌜ now t ≡ classes ⌝ }
-    requires { ⌜ Space (now text) (now kinds) (now starts) (now ends) ⌝ }
-    ensures answer { λ r. ⌜ r ≡ triedOf (length (now (kinds .entry))) level (now (text .entry)) (roomForNodes (now (nodes .entry))) (roomForRules (now (rules .entry))) (length (now (store .entry))) ⌝ }
+    requires { ⌜ length (now text) ≤ 65536 ⌝ }
+    ensures answer { λ r. ⌜ r ≡ triedOf (roomOf (now (tokens .entry))) level (now (text .entry)) (roomForNodes (now (nodes .entry))) (roomForRules (now (rules .entry))) (length (now (store .entry))) ⌝ }
     ensures left { λ r. ⌜ TriedLeaves level (now (text .entry)) r (now (nodes .entry)) (now (rules .entry)) (now (store .entry)) (now (nodes .exit)) (now (rules .exit)) (now (store .exit)) ⌝ }
 {
-    let filled = fill(t, text, kinds, starts, ends);
+    let filled = fill(t, text, tokens);
     match filled {
         Filled::Full => Tried::Full,
         Filled::NoToken(place) => Tried::Done(Reading::NoToken(place)),
-        Filled::All(n) => Tried::Done(build(
-            text,
-            &kinds[..n],
-            &starts[..n],
-            &ends[..n],
-            level,
-            nodes,
-            rules,
-            store,
-        )),
+        Filled::All(n) => {
+            let m = n * TOKEN_SIZE;
+            Tried::Done(build(text, &tokens[..m], level, nodes, rules, store))
+        }
     }
 }

@@ -1,5 +1,6 @@
-// Arrays of three sizes for a text's tokens. A local array is cleared at each call, so that a size too
-// large costs time, and each size has a function of its own, so that a small text needs little stack.
+// Tables of three sizes for a text's tokens: 2048, 16384 and 65536 rows. A local table is cleared at each
+// call, so that a size too large costs time, and each size has a function of its own, so that a small text
+// needs little stack.
 use super::answers::work;
 use crate::Reading;
 use crate::Tried;
@@ -23,20 +24,8 @@ fn try_small(
     ensures answer { λ r. ⌜ r ≡ triedOf 2048 level (now (text .entry)) (roomForNodes (now (nodes .entry))) (roomForRules (now (rules .entry))) (length (now (store .entry))) ⌝ }
     ensures left { λ r. ⌜ TriedLeaves level (now (text .entry)) r (now (nodes .entry)) (now (rules .entry)) (now (store .entry)) (now (nodes .exit)) (now (rules .exit)) (now (store .exit)) ⌝ }
 {
-    let mut kinds = [0u8; 2048];
-    let mut starts = [0u32; 2048];
-    let mut ends = [0u32; 2048];
-    work(
-        t,
-        text,
-        &mut kinds,
-        &mut starts,
-        &mut ends,
-        level,
-        nodes,
-        rules,
-        store,
-    )
+    let mut tokens = [0u32; 6144];
+    work(t, text, &mut tokens, level, nodes, rules, store)
 }
 
 fn try_middle(
@@ -52,20 +41,8 @@ fn try_middle(
     ensures answer { λ r. ⌜ r ≡ triedOf 16384 level (now (text .entry)) (roomForNodes (now (nodes .entry))) (roomForRules (now (rules .entry))) (length (now (store .entry))) ⌝ }
     ensures left { λ r. ⌜ TriedLeaves level (now (text .entry)) r (now (nodes .entry)) (now (rules .entry)) (now (store .entry)) (now (nodes .exit)) (now (rules .exit)) (now (store .exit)) ⌝ }
 {
-    let mut kinds = [0u8; 16384];
-    let mut starts = [0u32; 16384];
-    let mut ends = [0u32; 16384];
-    work(
-        t,
-        text,
-        &mut kinds,
-        &mut starts,
-        &mut ends,
-        level,
-        nodes,
-        rules,
-        store,
-    )
+    let mut tokens = [0u32; 49152];
+    work(t, text, &mut tokens, level, nodes, rules, store)
 }
 
 fn try_large(
@@ -81,23 +58,11 @@ fn try_large(
     ensures answer { λ r. ⌜ r ≡ triedOf 65536 level (now (text .entry)) (roomForNodes (now (nodes .entry))) (roomForRules (now (rules .entry))) (length (now (store .entry))) ⌝ }
     ensures left { λ r. ⌜ TriedLeaves level (now (text .entry)) r (now (nodes .entry)) (now (rules .entry)) (now (store .entry)) (now (nodes .exit)) (now (rules .exit)) (now (store .exit)) ⌝ }
 {
-    let mut kinds = [0u8; 65536];
-    let mut starts = [0u32; 65536];
-    let mut ends = [0u32; 65536];
-    work(
-        t,
-        text,
-        &mut kinds,
-        &mut starts,
-        &mut ends,
-        level,
-        nodes,
-        rules,
-        store,
-    )
+    let mut tokens = [0u32; 196608];
+    work(t, text, &mut tokens, level, nodes, rules, store)
 }
 
-// Reads a text of UTF-8 by arrays for so many tokens, and by larger ones where those are full. No text
+// Reads a text of UTF-8 by a table for so many tokens, and by larger ones where that is full. No text
 // has more tokens than bytes.
 pub fn read_listed(
     t: &[u8; 256],

@@ -4,9 +4,9 @@ use mathlib.Core.List.{_++_, []}
 use native.Mathlib.Omega.{arith}
 use mathlib.Core.Path.{sym, _∙_, ap}
 use borrow.Author.Needs.{needs}
+use Rattle.token.specs.Table.{roomOf}
 use Rattle.steps.specs.Shapes.{listOf}
 use Rattle.stream.specs.Shapes.{standing}
-use Rattle.states.specs.Feed.{roomOf}
 use Rattle.stream.proofs.Writes.{last-room, opened-sound, end-held, end-held-in, end-refused, end-refused-in, end-good, end-good-in}
 use Rattle.stream.proofs.Sounds.{many-small, many-two}
 use Rattle.stream.proofs.feed_end.Statement.{statement}

@@ -2,11 +2,11 @@
 use Rattle.stream.proofs.Writes.{opened-sound, feed-held, feed-held-in, feed-refused, feed-refused-in, feed-good, feed-good-in, ran-refuses, ran-stands}
 use Rattle.stream.specs.Shapes.{givesOf}
 use Rattle.states.specs.Steps.{Step, ranOf}
-use Rattle.states.specs.Feed.{flat, roomOf}
 use lib.Seq.{sets}
 use Prim.Native.Nat.{_*_}
 use mathlib.Core.Path.{sym, _∙_, ap}
 use borrow.Author.Needs.{needs}
+use Rattle.token.specs.Table.{flat, roomOf}
 use Rattle.stream.proofs.feed_packet.Statement.{statement}
 use Rattle.stream.proofs.feed_packet.Tie as tie
 

@@ -17,8 +17,8 @@ ghost use Prim.Native.Nat.{_+_, _*_, _≤_, _<_};
 ghost use lib.ListN.{length, take};
 ghost use lib.Seq.{sets};
 ghost use Rattle.text.specs.Classes.{classes};
+ghost use Rattle.token.specs.Table.{flat, roomOf};
 ghost use Rattle.states.specs.Steps.{ranOf};
-ghost use Rattle.states.specs.Feed.{flat, roomOf};
 ghost use Rattle.stream.specs.Shapes.{ranBy, givesOf, Sound};
 ghost use Rattle.stream.specs.Quick.{startAt, isBetween, Free, HoldsIf, Leapt};
 

@@ -6,8 +6,8 @@ ghost use mathlib.Core.List.{_++_};
 ghost use Prim.Native.Nat.{_*_, _≤_};
 ghost use lib.ListN.{length};
 ghost use lib.Seq.{sets};
+ghost use Rattle.token.specs.Table.{flat, roomOf};
 ghost use Rattle.states.specs.Steps.{overAt};
-ghost use Rattle.states.specs.Feed.{flat, roomOf};
 ghost use Rattle.steps.specs.Shapes.{listOf};
 
 pub(crate) fn many(g: Given) -> usize
@@ -58,10 +58,7 @@ pub(crate) fn put(list: &mut [u32], n: usize, g: Given)
     match g {
         Given::No => {}
         Given::Yes(kind, start, end) => {
-            let at = n * 3;
-            list[at] = kind;
-            list[at + 1] = start;
-            list[at + 2] = end;
+            token::inner::table::put_token(list, n, kind, start, end);
         }
     }
 }

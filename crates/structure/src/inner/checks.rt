@@ -8,40 +8,35 @@ use crate::Refusal;
 use crate::Tail;
 use crate::Tails;
 use crate::Wanted;
+use token::inner::table::end_at;
+use token::inner::table::kind_at;
+use token::inner::table::start_at;
 ghost use mathlib.Core.Path.{_≡_};
-ghost use Prim.Native.Nat.{_+_, _*_, _≤_, _<_};
-ghost use lib.ListN.{length};
-ghost use Rattle.structure.specs.Tokens.{toks};
+ghost use Prim.Native.Nat.{_+_, _≤_, _<_};
+ghost use Rattle.token.specs.Table.{Lent};
 ghost use Rattle.structure.specs.Structure.{Run, expr, term, node};
-ghost use Rattle.structure.specs.Answers.{Lent, summary, openingOf, Signed, bracketOf, Posted};
+ghost use Rattle.structure.specs.Answers.{summary, openingOf, Signed, bracketOf, Posted};
 
 // At most one (tag, `=`) before a term.
-pub fn tag_of(
-    text: &[u8],
-    kinds: &[u8],
-    starts: &[u32],
-    ends: &[u32],
-    level: Level,
-    at: usize,
-) -> Opening
-    requires { ⌜ Lent (now text) (now kinds) (now starts) (now ends) ⌝ }
+pub fn tag_of(text: &[u8], tokens: &[u32], level: Level, at: usize) -> Opening
+    requires { ⌜ Lent (now text) (now tokens) ⌝ }
     ensures { λ r. ⌜ r ≡ openingOf level (now (text .entry)) at ⌝ }
 {
-    if super::tokens::kind_at(text, kinds, starts, ends, at) != 19 {
+    if kind_at(text, tokens, at) != 19 {
         return Opening::From {
             next: at,
             nodes: 0,
             bytes: 0,
         };
     }
-    let tie = super::tokens::expect(text, kinds, starts, ends, at + 1, 1);
+    let tie = super::tokens::expect(text, tokens, at + 1, 1);
     let Wanted::Here(p) = tie else {
         return Opening::Untied;
     };
     match level {
         Level::Tagged => {
-            let a = super::tokens::start_at(text, kinds, starts, ends, at);
-            let z = super::tokens::end_at(text, kinds, starts, ends, at);
+            let a = start_at(text, tokens, at);
+            let z = end_at(text, tokens, at);
             Opening::From {
                 next: p,
                 nodes: 1,
@@ -57,13 +52,13 @@ pub fn tag_of(
 }
 
 // Past the predicates from an index on.
-pub fn signs_end(text: &[u8], kinds: &[u8], starts: &[u32], ends: &[u32], at: usize) -> usize
-    requires { ⌜ Lent (now text) (now kinds) (now starts) (now ends) ⌝ }
+pub fn signs_end(text: &[u8], tokens: &[u32], at: usize) -> usize
+    requires { ⌜ Lent (now text) (now tokens) ⌝ }
     ensures { λ r. ⌜ Signed (now (text .entry)) at r ⌝ }
 {
     let mut i = at;
     loop {
-        let k = super::tokens::kind_at(text, kinds, starts, ends, i);
+        let k = kind_at(text, tokens, i);
         if k != 8 {
             if k != 9 {
                 return i;
@@ -74,14 +69,14 @@ pub fn signs_end(text: &[u8], kinds: &[u8], starts: &[u32], ends: &[u32], at: us
 }
 
 // Past the postfixes from an index on.
-pub fn check_posts(text: &[u8], kinds: &[u8], starts: &[u32], ends: &[u32], at: usize) -> Tails
-    requires { ⌜ Lent (now text) (now kinds) (now starts) (now ends) ⌝ }
+pub fn check_posts(text: &[u8], tokens: &[u32], at: usize) -> Tails
+    requires { ⌜ Lent (now text) (now tokens) ⌝ }
     ensures { λ r. ⌜ Posted (now (text .entry)) at r ⌝ }
 {
     let mut i = at;
     let mut count = 0;
     loop {
-        let tail = super::leaves::postfix_end(text, kinds, starts, ends, i);
+        let tail = super::leaves::postfix_end(text, tokens, i);
         match tail {
             Tail::Past(n) => {
                 i = n;
@@ -101,45 +96,37 @@ pub fn check_posts(text: &[u8], kinds: &[u8], starts: &[u32], ends: &[u32], at: 
 }
 
 // What opens an expression in the node at an index.
-pub fn bracket_of(text: &[u8], kinds: &[u8], starts: &[u32], ends: &[u32], at: usize) -> Bracket
-    requires { ⌜ Lent (now text) (now kinds) (now starts) (now ends) ⌝ }
+pub fn bracket_of(text: &[u8], tokens: &[u32], at: usize) -> Bracket
+    requires { ⌜ Lent (now text) (now tokens) ⌝ }
     ensures { λ r. ⌜ r ≡ bracketOf (now (text .entry)) at ⌝ }
 {
-    if super::tokens::kind_at(text, kinds, starts, ends, at) == 6 {
+    if kind_at(text, tokens, at) == 6 {
         return Bracket::Opens { at, nodes: 0 };
     }
-    if !super::tokens::spelled(b"PUSH", text, kinds, starts, ends, at) {
+    if !super::tokens::spelled(b"PUSH", text, tokens, at) {
         return Bracket::Nothing;
     }
     let i = at + 1;
-    if super::tokens::kind_at(text, kinds, starts, ends, i) == 6 {
+    if kind_at(text, tokens, i) == 6 {
         return Bracket::Opens { at: i, nodes: 1 };
     }
     Bracket::Unopened
 }
 
 // Terms joined by `~` or `|`.
-pub fn check_expr(
-    text: &[u8],
-    kinds: &[u8],
-    starts: &[u32],
-    ends: &[u32],
-    level: Level,
-    at: usize,
-    deep: usize,
-) -> Checked
-    requires { ⌜ Lent (now text) (now kinds) (now starts) (now ends) ⌝ }
+pub fn check_expr(text: &[u8], tokens: &[u32], level: Level, at: usize, deep: usize) -> Checked
+    requires { ⌜ Lent (now text) (now tokens) ⌝ }
     requires { ⌜ deep ≤ 1024 ⌝ }
     ensures { λ r. ⌜ r ≡ summary (Run level (now (text .entry)) (expr deep at)) ⌝ }
 {
-    match check_term(text, kinds, starts, ends, level, at, deep) {
+    match check_term(text, tokens, level, at, deep) {
         Checked::Refused(refusal) => Checked::Refused(refusal),
         Checked::Good { next, nodes, bytes } => {
             let mut i = next;
             let mut count = nodes;
             let mut size = bytes;
             loop {
-                let k = super::tokens::kind_at(text, kinds, starts, ends, i);
+                let k = kind_at(text, tokens, i);
                 if k != 10 {
                     if k != 11 {
                         return Checked::Good {
@@ -149,7 +136,7 @@ pub fn check_expr(
                         };
                     }
                 }
-                match check_term(text, kinds, starts, ends, level, i + 1, deep) {
+                match check_term(text, tokens, level, i + 1, deep) {
                     Checked::Refused(refusal) => {
                         return Checked::Refused(refusal);
                     }
@@ -165,39 +152,25 @@ pub fn check_expr(
 }
 
 // At most one (tag, `=`), any `&` and `!`, a node, any postfixes.
-fn check_term(
-    text: &[u8],
-    kinds: &[u8],
-    starts: &[u32],
-    ends: &[u32],
-    level: Level,
-    at: usize,
-    deep: usize,
-) -> Checked
-    requires { ⌜ Lent (now text) (now kinds) (now starts) (now ends) ⌝ }
+fn check_term(text: &[u8], tokens: &[u32], level: Level, at: usize, deep: usize) -> Checked
+    requires { ⌜ Lent (now text) (now tokens) ⌝ }
     requires { ⌜ deep ≤ 1024 ⌝ }
     ensures { λ r. ⌜ r ≡ summary (Run level (now (text .entry)) (term deep at)) ⌝ }
 {
-    let opening = tag_of(text, kinds, starts, ends, level, at);
+    let opening = tag_of(text, tokens, level, at);
     let Opening::From {
         next: from,
         nodes: tags,
         bytes: named,
     } = opening
     else {
-        return Checked::Refused(Refusal::NotAllowed(super::tokens::start_at(
-            text,
-            kinds,
-            starts,
-            ends,
-            at + 1,
-        )));
+        return Checked::Refused(Refusal::NotAllowed(start_at(text, tokens, at + 1)));
     };
-    let first = signs_end(text, kinds, starts, ends, from);
-    match check_node(text, kinds, starts, ends, level, first, deep) {
+    let first = signs_end(text, tokens, from);
+    match check_node(text, tokens, level, first, deep) {
         Checked::Refused(refusal) => Checked::Refused(refusal),
         Checked::Good { next, nodes, bytes } => {
-            let tails = check_posts(text, kinds, starts, ends, next);
+            let tails = check_posts(text, tokens, next);
             match tails {
                 Tails::Bad(refusal) => Checked::Refused(refusal),
                 Tails::All {
@@ -214,54 +187,28 @@ fn check_term(
 }
 
 // An expression in brackets, after PUSH or not; or a leaf.
-fn check_node(
-    text: &[u8],
-    kinds: &[u8],
-    starts: &[u32],
-    ends: &[u32],
-    level: Level,
-    at: usize,
-    deep: usize,
-) -> Checked
-    requires { ⌜ Lent (now text) (now kinds) (now starts) (now ends) ⌝ }
+fn check_node(text: &[u8], tokens: &[u32], level: Level, at: usize, deep: usize) -> Checked
+    requires { ⌜ Lent (now text) (now tokens) ⌝ }
     requires { ⌜ deep ≤ 1024 ⌝ }
     ensures { λ r. ⌜ r ≡ summary (Run level (now (text .entry)) (node deep at)) ⌝ }
 {
-    let bracket = bracket_of(text, kinds, starts, ends, at);
+    let bracket = bracket_of(text, tokens, at);
     match bracket {
-        Bracket::Nothing => super::leaves::check_leaf(text, kinds, starts, ends, at, deep),
-        Bracket::Unopened => Checked::Refused(Refusal::NotAllowed(super::tokens::start_at(
-            text,
-            kinds,
-            starts,
-            ends,
-            at + 1,
-        ))),
+        Bracket::Nothing => super::leaves::check_leaf(text, tokens, at, deep),
+        Bracket::Unopened => Checked::Refused(Refusal::NotAllowed(start_at(text, tokens, at + 1))),
         Bracket::Opens {
             at: open,
             nodes: around,
         } => {
             if 1024 <= deep {
-                return Checked::Refused(Refusal::TooDeep(super::tokens::start_at(
-                    text,
-                    kinds,
-                    starts,
-                    ends,
-                    open,
-                )));
+                return Checked::Refused(Refusal::TooDeep(start_at(text, tokens, open)));
             }
-            match check_expr(text, kinds, starts, ends, level, open + 1, deep + 1) {
+            match check_expr(text, tokens, level, open + 1, deep + 1) {
                 Checked::Refused(refusal) => Checked::Refused(refusal),
                 Checked::Good { next, nodes, bytes } => {
-                    let close = super::tokens::expect(text, kinds, starts, ends, next, 7);
+                    let close = super::tokens::expect(text, tokens, next, 7);
                     let Wanted::Here(n) = close else {
-                        return Checked::Refused(Refusal::NotAllowed(super::tokens::start_at(
-                            text,
-                            kinds,
-                            starts,
-                            ends,
-                            next,
-                        )));
+                        return Checked::Refused(Refusal::NotAllowed(start_at(text, tokens, next)));
                     };
                     Checked::Good {
                         next: n,

@@ -3,123 +3,89 @@ use crate::Checked;
 use crate::Refusal;
 use crate::Tail;
 use crate::Wanted;
+use token::inner::table::kind_at;
+use token::inner::table::start_at;
 ghost use mathlib.Core.Path.{_≡_};
 ghost use Prim.Native.Nat.{_+_, _<_};
 ghost use lib.ListN.{length};
-ghost use Rattle.structure.specs.Tokens.{toks, kind};
+ghost use Rattle.token.specs.Table.{toks, kind, Lent};
 ghost use Rattle.structure.specs.Structure.{postfixAt, fromNumber, fromComma, slice, pushed, ranged, leafAt};
-ghost use Rattle.structure.specs.Answers.{Lent, summary, pastInteger, tailOf};
+ghost use Rattle.structure.specs.Answers.{summary, pastInteger, tailOf};
 
 // `{n}`, `{n,}`, `{n, m}`, from the n on.
-fn number_end(text: &[u8], kinds: &[u8], starts: &[u32], ends: &[u32], at: usize) -> Tail
-    requires { ⌜ Lent (now text) (now kinds) (now starts) (now ends) ⌝ }
+fn number_end(text: &[u8], tokens: &[u32], at: usize) -> Tail
+    requires { ⌜ Lent (now text) (now tokens) ⌝ }
     requires { ⌜ at < length (toks (now text)) ⌝ }
     ensures { λ r. ⌜ r ≡ tailOf (fromNumber (now (text .entry)) at) ⌝ }
 {
     let i = at + 1;
-    if super::tokens::kind_at(text, kinds, starts, ends, i) == 3 {
+    if kind_at(text, tokens, i) == 3 {
         return Tail::Past(i + 1);
     }
-    let comma = super::tokens::expect(text, kinds, starts, ends, i, 15);
+    let comma = super::tokens::expect(text, tokens, i, 15);
     let Wanted::Here(j) = comma else {
-        return Tail::Bad(Refusal::NotAllowed(super::tokens::start_at(
-            text,
-            kinds,
-            starts,
-            ends,
-            i,
-        )));
+        return Tail::Bad(Refusal::NotAllowed(start_at(text, tokens, i)));
     };
-    if super::tokens::kind_at(text, kinds, starts, ends, j) == 3 {
+    if kind_at(text, tokens, j) == 3 {
         return Tail::Past(j + 1);
     }
-    let most = super::tokens::expect(text, kinds, starts, ends, j, 20);
+    let most = super::tokens::expect(text, tokens, j, 20);
     let Wanted::Here(k) = most else {
-        return Tail::Bad(Refusal::NotAllowed(super::tokens::start_at(
-            text,
-            kinds,
-            starts,
-            ends,
-            j,
-        )));
+        return Tail::Bad(Refusal::NotAllowed(start_at(text, tokens, j)));
     };
-    let close = super::tokens::expect(text, kinds, starts, ends, k, 3);
+    let close = super::tokens::expect(text, tokens, k, 3);
     let Wanted::Here(n) = close else {
-        return Tail::Bad(Refusal::NotAllowed(super::tokens::start_at(
-            text,
-            kinds,
-            starts,
-            ends,
-            k,
-        )));
+        return Tail::Bad(Refusal::NotAllowed(start_at(text, tokens, k)));
     };
     Tail::Past(n)
 }
 
 // `{,n}`, from the comma on.
-fn comma_end(text: &[u8], kinds: &[u8], starts: &[u32], ends: &[u32], at: usize) -> Tail
-    requires { ⌜ Lent (now text) (now kinds) (now starts) (now ends) ⌝ }
+fn comma_end(text: &[u8], tokens: &[u32], at: usize) -> Tail
+    requires { ⌜ Lent (now text) (now tokens) ⌝ }
     ensures { λ r. ⌜ r ≡ tailOf (fromComma (now (text .entry)) at) ⌝ }
 {
-    let comma = super::tokens::expect(text, kinds, starts, ends, at, 15);
+    let comma = super::tokens::expect(text, tokens, at, 15);
     let Wanted::Here(j) = comma else {
-        return Tail::Bad(Refusal::NotAllowed(super::tokens::start_at(
-            text,
-            kinds,
-            starts,
-            ends,
-            at,
-        )));
+        return Tail::Bad(Refusal::NotAllowed(start_at(text, tokens, at)));
     };
-    let most = super::tokens::expect(text, kinds, starts, ends, j, 20);
+    let most = super::tokens::expect(text, tokens, j, 20);
     let Wanted::Here(k) = most else {
-        return Tail::Bad(Refusal::NotAllowed(super::tokens::start_at(
-            text,
-            kinds,
-            starts,
-            ends,
-            j,
-        )));
+        return Tail::Bad(Refusal::NotAllowed(start_at(text, tokens, j)));
     };
-    let close = super::tokens::expect(text, kinds, starts, ends, k, 3);
+    let close = super::tokens::expect(text, tokens, k, 3);
     let Wanted::Here(n) = close else {
-        return Tail::Bad(Refusal::NotAllowed(super::tokens::start_at(
-            text,
-            kinds,
-            starts,
-            ends,
-            k,
-        )));
+        return Tail::Bad(Refusal::NotAllowed(start_at(text, tokens, k)));
     };
     Tail::Past(n)
 }
 
 // Where the postfix ends that stands at an index.
-pub fn postfix_end(text: &[u8], kinds: &[u8], starts: &[u32], ends: &[u32], at: usize) -> Tail
-    requires { ⌜ Lent (now text) (now kinds) (now starts) (now ends) ⌝ }
+pub fn postfix_end(text: &[u8], tokens: &[u32], at: usize) -> Tail
+    requires { ⌜ Lent (now text) (now tokens) ⌝ }
     ensures { λ r. ⌜ r ≡ tailOf (postfixAt (now (text .entry)) at) ⌝ }
 {
-    let k = super::tokens::kind_at(text, kinds, starts, ends, at);
+    let k = kind_at(text, tokens, at);
     match k {
         12 => Tail::Past(at + 1),
         13 => Tail::Past(at + 1),
         14 => Tail::Past(at + 1),
         2 => {
-            if super::tokens::kind_at(text, kinds, starts, ends, at + 1) == 20 {
-                return number_end(text, kinds, starts, ends, at + 1);
+            if kind_at(text, tokens, at + 1) == 20 {
+                return number_end(text, tokens, at + 1);
             }
-            comma_end(text, kinds, starts, ends, at + 1)
+            comma_end(text, tokens, at + 1)
         }
         _ => Tail::Ended,
     }
 }
 
 // Past a number that may stand in a PEEK slice.
-fn past_integer(text: &[u8], kinds: &[u8], starts: &[u32], ends: &[u32], at: usize) -> usize
-    requires { ⌜ Lent (now text) (now kinds) (now starts) (now ends) ⌝ }
+fn past_integer(text: &[u8], tokens: &[u32], at: usize) -> usize
+    requires { ⌜ Lent (now text) (now tokens) ⌝ }
     ensures { λ r. ⌜ r ≡ pastInteger (now (text .entry)) at ⌝ }
 {
-    let k = super::tokens::kind_at(text, kinds, starts, ends, at);
+    let k = kind_at(text, tokens, at);
     if k == 20 {
         return at + 1;
     }
@@ -130,38 +96,19 @@ fn past_integer(text: &[u8], kinds: &[u8], starts: &[u32], ends: &[u32], at: usi
 }
 
 // `PEEK[` from `..` to `]`, from past the `[` on.
-fn check_slice(
-    text: &[u8],
-    kinds: &[u8],
-    starts: &[u32],
-    ends: &[u32],
-    at: usize,
-    i: usize,
-) -> Checked
-    requires { ⌜ Lent (now text) (now kinds) (now starts) (now ends) ⌝ }
+fn check_slice(text: &[u8], tokens: &[u32], at: usize, i: usize) -> Checked
+    requires { ⌜ Lent (now text) (now tokens) ⌝ }
     ensures { λ r. ⌜ r ≡ summary (slice (now (text .entry)) at i) ⌝ }
 {
-    let from = past_integer(text, kinds, starts, ends, i);
-    let dots = super::tokens::expect(text, kinds, starts, ends, from, 22);
+    let from = past_integer(text, tokens, i);
+    let dots = super::tokens::expect(text, tokens, from, 22);
     let Wanted::Here(j) = dots else {
-        return Checked::Refused(Refusal::NotAllowed(super::tokens::start_at(
-            text,
-            kinds,
-            starts,
-            ends,
-            from,
-        )));
+        return Checked::Refused(Refusal::NotAllowed(start_at(text, tokens, from)));
     };
-    let to = past_integer(text, kinds, starts, ends, j);
-    let close = super::tokens::expect(text, kinds, starts, ends, to, 5);
+    let to = past_integer(text, tokens, j);
+    let close = super::tokens::expect(text, tokens, to, 5);
     let Wanted::Here(n) = close else {
-        return Checked::Refused(Refusal::NotAllowed(super::tokens::start_at(
-            text,
-            kinds,
-            starts,
-            ends,
-            to,
-        )));
+        return Checked::Refused(Refusal::NotAllowed(start_at(text, tokens, to)));
     };
     Checked::Good {
         next: n,
@@ -171,58 +118,27 @@ fn check_slice(
 }
 
 // `PUSH_LITERAL(` string `)`.
-fn check_push_literal(
-    text: &[u8],
-    kinds: &[u8],
-    starts: &[u32],
-    ends: &[u32],
-    at: usize,
-    deep: usize,
-) -> Checked
-    requires { ⌜ Lent (now text) (now kinds) (now starts) (now ends) ⌝ }
+fn check_push_literal(text: &[u8], tokens: &[u32], at: usize, deep: usize) -> Checked
+    requires { ⌜ Lent (now text) (now tokens) ⌝ }
     requires { ⌜ at < length (toks (now text)) ⌝ }
     ensures { λ r. ⌜ r ≡ summary (pushed deep (now (text .entry)) at) ⌝ }
 {
-    let bracket = super::tokens::expect(text, kinds, starts, ends, at + 1, 6);
+    let bracket = super::tokens::expect(text, tokens, at + 1, 6);
     let Wanted::Here(i) = bracket else {
-        return Checked::Refused(Refusal::NotAllowed(super::tokens::start_at(
-            text,
-            kinds,
-            starts,
-            ends,
-            at + 1,
-        )));
+        return Checked::Refused(Refusal::NotAllowed(start_at(text, tokens, at + 1)));
     };
     if 1024 <= deep {
-        return Checked::Refused(Refusal::TooDeep(super::tokens::start_at(
-            text,
-            kinds,
-            starts,
-            ends,
-            at + 1,
-        )));
+        return Checked::Refused(Refusal::TooDeep(start_at(text, tokens, at + 1)));
     }
-    let string = super::tokens::expect(text, kinds, starts, ends, i, 23);
+    let string = super::tokens::expect(text, tokens, i, 23);
     let Wanted::Here(j) = string else {
-        return Checked::Refused(Refusal::NotAllowed(super::tokens::start_at(
-            text,
-            kinds,
-            starts,
-            ends,
-            i,
-        )));
+        return Checked::Refused(Refusal::NotAllowed(start_at(text, tokens, i)));
     };
-    let close = super::tokens::expect(text, kinds, starts, ends, j, 7);
+    let close = super::tokens::expect(text, tokens, j, 7);
     let Wanted::Here(n) = close else {
-        return Checked::Refused(Refusal::NotAllowed(super::tokens::start_at(
-            text,
-            kinds,
-            starts,
-            ends,
-            j,
-        )));
+        return Checked::Refused(Refusal::NotAllowed(start_at(text, tokens, j)));
     };
-    let bytes = super::tokens::string_bytes(text, kinds, starts, ends, i);
+    let bytes = super::tokens::string_bytes(text, tokens, i);
     Checked::Good {
         next: n,
         nodes: 1,
@@ -231,30 +147,18 @@ fn check_push_literal(
 }
 
 // Character `..` character.
-fn check_range(text: &[u8], kinds: &[u8], starts: &[u32], ends: &[u32], at: usize) -> Checked
-    requires { ⌜ Lent (now text) (now kinds) (now starts) (now ends) ⌝ }
+fn check_range(text: &[u8], tokens: &[u32], at: usize) -> Checked
+    requires { ⌜ Lent (now text) (now tokens) ⌝ }
     requires { ⌜ at < length (toks (now text)) ⌝ }
     ensures { λ r. ⌜ r ≡ summary (ranged (now (text .entry)) at) ⌝ }
 {
-    let dots = super::tokens::expect(text, kinds, starts, ends, at + 1, 22);
+    let dots = super::tokens::expect(text, tokens, at + 1, 22);
     let Wanted::Here(i) = dots else {
-        return Checked::Refused(Refusal::NotAllowed(super::tokens::start_at(
-            text,
-            kinds,
-            starts,
-            ends,
-            at + 1,
-        )));
+        return Checked::Refused(Refusal::NotAllowed(start_at(text, tokens, at + 1)));
     };
-    let last = super::tokens::expect(text, kinds, starts, ends, i, 25);
+    let last = super::tokens::expect(text, tokens, i, 25);
     let Wanted::Here(n) = last else {
-        return Checked::Refused(Refusal::NotAllowed(super::tokens::start_at(
-            text,
-            kinds,
-            starts,
-            ends,
-            i,
-        )));
+        return Checked::Refused(Refusal::NotAllowed(start_at(text, tokens, i)));
     };
     Checked::Good {
         next: n,
@@ -264,27 +168,20 @@ fn check_range(text: &[u8], kinds: &[u8], starts: &[u32], ends: &[u32], at: usiz
 }
 
 // A word that opens nothing: PUSH_LITERAL, a slice, or a name.
-fn check_word(
-    text: &[u8],
-    kinds: &[u8],
-    starts: &[u32],
-    ends: &[u32],
-    at: usize,
-    deep: usize,
-) -> Checked
-    requires { ⌜ Lent (now text) (now kinds) (now starts) (now ends) ⌝ }
+fn check_word(text: &[u8], tokens: &[u32], at: usize, deep: usize) -> Checked
+    requires { ⌜ Lent (now text) (now tokens) ⌝ }
     requires { ⌜ kind (now text) at ≡ 18 ⌝ }
     ensures { λ r. ⌜ r ≡ summary (leafAt deep (now (text .entry)) at) ⌝ }
 {
-    if super::tokens::spelled(b"PUSH_LITERAL", text, kinds, starts, ends, at) {
-        return check_push_literal(text, kinds, starts, ends, at, deep);
+    if super::tokens::spelled(b"PUSH_LITERAL", text, tokens, at) {
+        return check_push_literal(text, tokens, at, deep);
     }
-    if super::tokens::spelled(b"PEEK", text, kinds, starts, ends, at) {
-        if super::tokens::kind_at(text, kinds, starts, ends, at + 1) == 4 {
-            return check_slice(text, kinds, starts, ends, at, at + 2);
+    if super::tokens::spelled(b"PEEK", text, tokens, at) {
+        if kind_at(text, tokens, at + 1) == 4 {
+            return check_slice(text, tokens, at, at + 2);
         }
     }
-    let bytes = super::tokens::word_bytes(text, kinds, starts, ends, at);
+    let bytes = super::tokens::word_bytes(text, tokens, at);
     Checked::Good {
         next: at + 1,
         nodes: 1,
@@ -293,22 +190,15 @@ fn check_word(
 }
 
 // A node that holds no expression.
-pub fn check_leaf(
-    text: &[u8],
-    kinds: &[u8],
-    starts: &[u32],
-    ends: &[u32],
-    at: usize,
-    deep: usize,
-) -> Checked
-    requires { ⌜ Lent (now text) (now kinds) (now starts) (now ends) ⌝ }
+pub fn check_leaf(text: &[u8], tokens: &[u32], at: usize, deep: usize) -> Checked
+    requires { ⌜ Lent (now text) (now tokens) ⌝ }
     ensures { λ r. ⌜ r ≡ summary (leafAt deep (now (text .entry)) at) ⌝ }
 {
-    let k = super::tokens::kind_at(text, kinds, starts, ends, at);
+    let k = kind_at(text, tokens, at);
     match k {
-        18 => check_word(text, kinds, starts, ends, at, deep),
+        18 => check_word(text, tokens, at, deep),
         23 => {
-            let bytes = super::tokens::string_bytes(text, kinds, starts, ends, at);
+            let bytes = super::tokens::string_bytes(text, tokens, at);
             Checked::Good {
                 next: at + 1,
                 nodes: 1,
@@ -316,20 +206,14 @@ pub fn check_leaf(
             }
         }
         24 => {
-            let bytes = super::tokens::string_bytes(text, kinds, starts, ends, at);
+            let bytes = super::tokens::string_bytes(text, tokens, at);
             Checked::Good {
                 next: at + 1,
                 nodes: 1,
                 bytes,
             }
         }
-        25 => check_range(text, kinds, starts, ends, at),
-        _ => Checked::Refused(Refusal::NotAllowed(super::tokens::start_at(
-            text,
-            kinds,
-            starts,
-            ends,
-            at,
-        ))),
+        25 => check_range(text, tokens, at),
+        _ => Checked::Refused(Refusal::NotAllowed(start_at(text, tokens, at))),
     }
 }

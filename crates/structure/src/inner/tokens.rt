@@ -1,64 +1,39 @@
-// A token by its index.
+// What is asked of a token, by its index.
 use crate::Wanted;
+use token::inner::table::end_at;
+use token::inner::table::kind_at;
+use token::inner::table::start_at;
 ghost use mathlib.Core.Path.{_≡_};
 ghost use Prim.Native.Nat.{_≤_, _<_};
 ghost use lib.ListN.{length};
 ghost use Rattle.literal.specs.Escapes.{unescaped};
-ghost use Rattle.structure.specs.Tokens.{kind, start, end, part, word, spells};
+ghost use Rattle.token.specs.Table.{part, word, Lent};
+ghost use Rattle.structure.specs.Tokens.{spells};
 ghost use Rattle.structure.specs.Values.{string};
-ghost use Rattle.structure.specs.Answers.{Lent, wanted};
-
-pub fn kind_at(text: &[u8], kinds: &[u8], starts: &[u32], ends: &[u32], at: usize) -> u8
-    requires { ⌜ Lent (now text) (now kinds) (now starts) (now ends) ⌝ }
-    ensures { λ r. ⌜ r ≡ kind (now (text .entry)) at ⌝ }
-{
-    if at < kinds.len() { kinds[at] } else { 0 }
-}
-
-pub fn start_at(text: &[u8], kinds: &[u8], starts: &[u32], ends: &[u32], at: usize) -> usize
-    requires { ⌜ Lent (now text) (now kinds) (now starts) (now ends) ⌝ }
-    ensures { λ r. ⌜ r ≡ start (now (text .entry)) at ⌝ }
-{
-    if at < starts.len() {
-        starts[at] as usize
-    } else {
-        text.len()
-    }
-}
-
-pub fn end_at(text: &[u8], kinds: &[u8], starts: &[u32], ends: &[u32], at: usize) -> usize
-    requires { ⌜ Lent (now text) (now kinds) (now starts) (now ends) ⌝ }
-    ensures { λ r. ⌜ r ≡ end (now (text .entry)) at ⌝ }
-{
-    if at < ends.len() {
-        ends[at] as usize
-    } else {
-        text.len()
-    }
-}
+ghost use Rattle.structure.specs.Answers.{wanted};
 
 // A token of a kind is wanted here.
-pub fn expect(text: &[u8], kinds: &[u8], starts: &[u32], ends: &[u32], at: usize, k: u8) -> Wanted
-    requires { ⌜ Lent (now text) (now kinds) (now starts) (now ends) ⌝ }
+pub fn expect(text: &[u8], tokens: &[u32], at: usize, k: u8) -> Wanted
+    requires { ⌜ Lent (now text) (now tokens) ⌝ }
     requires { ⌜ 0 < k ⌝ }
     ensures { λ r. ⌜ r ≡ wanted (now (text .entry)) at k ⌝ }
 {
-    if kind_at(text, kinds, starts, ends, at) == k {
+    if kind_at(text, tokens, at) == k {
         return Wanted::Here(at + 1);
     }
     Wanted::Missing
 }
 
 // The token is the word spelled so.
-pub fn spelled(p: &[u8], text: &[u8], kinds: &[u8], starts: &[u32], ends: &[u32], at: usize) -> bool
-    requires { ⌜ Lent (now text) (now kinds) (now starts) (now ends) ⌝ }
+pub fn spelled(p: &[u8], text: &[u8], tokens: &[u32], at: usize) -> bool
+    requires { ⌜ Lent (now text) (now tokens) ⌝ }
     ensures { λ r. ⌜ r ≡ spells (now (p .entry)) (now (text .entry)) at ⌝ }
 {
-    if kind_at(text, kinds, starts, ends, at) != 18 {
+    if kind_at(text, tokens, at) != 18 {
         return false;
     }
-    let a = start_at(text, kinds, starts, ends, at);
-    let z = end_at(text, kinds, starts, ends, at);
+    let a = start_at(text, tokens, at);
+    let z = end_at(text, tokens, at);
     if z - a != p.len() {
         return false;
     }
@@ -66,12 +41,12 @@ pub fn spelled(p: &[u8], text: &[u8], kinds: &[u8], starts: &[u32], ends: &[u32]
 }
 
 // How many bytes a word has.
-pub fn word_bytes(text: &[u8], kinds: &[u8], starts: &[u32], ends: &[u32], at: usize) -> usize
-    requires { ⌜ Lent (now text) (now kinds) (now starts) (now ends) ⌝ }
+pub fn word_bytes(text: &[u8], tokens: &[u32], at: usize) -> usize
+    requires { ⌜ Lent (now text) (now tokens) ⌝ }
     ensures { λ r. ⌜ r ≡ length (word (now (text .entry)) at) ⌝ }
 {
-    let a = start_at(text, kinds, starts, ends, at);
-    let z = end_at(text, kinds, starts, ends, at);
+    let a = start_at(text, tokens, at);
+    let z = end_at(text, tokens, at);
     if z <= a {
         return 0;
     }
@@ -92,16 +67,16 @@ fn unescaped_bytes(text: &[u8], a: usize, z: usize) -> usize
 }
 
 // How many bytes the string has that a string token means.
-pub fn string_bytes(text: &[u8], kinds: &[u8], starts: &[u32], ends: &[u32], at: usize) -> usize
-    requires { ⌜ Lent (now text) (now kinds) (now starts) (now ends) ⌝ }
+pub fn string_bytes(text: &[u8], tokens: &[u32], at: usize) -> usize
+    requires { ⌜ Lent (now text) (now tokens) ⌝ }
     ensures { λ r. ⌜ r ≡ length (string (now (text .entry)) at) ⌝ }
 {
-    let a = start_at(text, kinds, starts, ends, at);
-    let z = end_at(text, kinds, starts, ends, at);
+    let a = start_at(text, tokens, at);
+    let z = end_at(text, tokens, at);
     if z == 0 {
         return 0;
     }
-    if kind_at(text, kinds, starts, ends, at) == 24 {
+    if kind_at(text, tokens, at) == 24 {
         return unescaped_bytes(text, a + 2, z - 1);
     }
     unescaped_bytes(text, a + 1, z - 1)

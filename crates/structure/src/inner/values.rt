@@ -3,32 +3,28 @@ use crate::Fault;
 use crate::Level;
 use text::Check;
 use text::Decimal;
+use token::inner::table::end_at;
+use token::inner::table::kind_at;
+use token::inner::table::start_at;
+use token::inner::table::token_count;
 ghost use mathlib.Core.Path.{_≡_};
 ghost use Prim.Native.Nat.{_+_, _≤_, _<_};
 ghost use lib.ListN.{length};
 ghost use Rattle.text.specs.Digits.{decimalOf};
 ghost use Rattle.literal.specs.Escapes.{badEscape};
-ghost use Rattle.structure.specs.Tokens.{toks, part, word};
+ghost use Rattle.token.specs.Table.{toks, part, word, Lent};
 ghost use Rattle.structure.specs.Values.{peekFault, repeatFault, literalFault, wordFault, numberFault, integerOf, opening, inside, faultAt, faults};
-ghost use Rattle.structure.specs.Answers.{Lent};
 
 // PUSH_LITERAL, at the plain level.
-fn word_fault(
-    text: &[u8],
-    kinds: &[u8],
-    starts: &[u32],
-    ends: &[u32],
-    level: Level,
-    at: usize,
-) -> Fault
-    requires { ⌜ Lent (now text) (now kinds) (now starts) (now ends) ⌝ }
+fn word_fault(text: &[u8], tokens: &[u32], level: Level, at: usize) -> Fault
+    requires { ⌜ Lent (now text) (now tokens) ⌝ }
     ensures { λ r. ⌜ r ≡ wordFault level (now (text .entry)) at ⌝ }
 {
     match level {
         Level::Tagged => Fault::Sound,
         Level::Plain => {
-            if super::tokens::spelled(b"PUSH_LITERAL", text, kinds, starts, ends, at) {
-                return Fault::NotPlain(super::tokens::start_at(text, kinds, starts, ends, at));
+            if super::tokens::spelled(b"PUSH_LITERAL", text, tokens, at) {
+                return Fault::NotPlain(start_at(text, tokens, at));
             }
             Fault::Sound
         }
@@ -36,25 +32,25 @@ fn word_fault(
 }
 
 // What a repeat number is worth.
-pub fn number_of(text: &[u8], kinds: &[u8], starts: &[u32], ends: &[u32], at: usize) -> Decimal
-    requires { ⌜ Lent (now text) (now kinds) (now starts) (now ends) ⌝ }
+pub fn number_of(text: &[u8], tokens: &[u32], at: usize) -> Decimal
+    requires { ⌜ Lent (now text) (now tokens) ⌝ }
     requires { ⌜ at < length (toks (now text)) ⌝ }
     ensures { λ r. ⌜ r ≡ decimalOf 4294967295 (word (now (text .entry)) at) ⌝ }
 {
-    let a = super::tokens::start_at(text, kinds, starts, ends, at);
-    let z = super::tokens::end_at(text, kinds, starts, ends, at);
+    let a = start_at(text, tokens, at);
+    let z = end_at(text, tokens, at);
     text::decimal_of(&text[a..z], 4294967295)
 }
 
 // What a number in a PEEK slice is worth, its sign aside.
-pub fn integer_of(text: &[u8], kinds: &[u8], starts: &[u32], ends: &[u32], at: usize) -> Decimal
-    requires { ⌜ Lent (now text) (now kinds) (now starts) (now ends) ⌝ }
+pub fn integer_of(text: &[u8], tokens: &[u32], at: usize) -> Decimal
+    requires { ⌜ Lent (now text) (now tokens) ⌝ }
     requires { ⌜ at < length (toks (now text)) ⌝ }
     ensures { λ r. ⌜ r ≡ integerOf (now (text .entry)) at ⌝ }
 {
-    let a = super::tokens::start_at(text, kinds, starts, ends, at);
-    let z = super::tokens::end_at(text, kinds, starts, ends, at);
-    if super::tokens::kind_at(text, kinds, starts, ends, at) == 21 {
+    let a = start_at(text, tokens, at);
+    let z = end_at(text, tokens, at);
+    if kind_at(text, tokens, at) == 21 {
         let b = a + 1;
         return text::decimal_of(&text[b..z], 2147483648);
     }
@@ -62,35 +58,35 @@ pub fn integer_of(text: &[u8], kinds: &[u8], starts: &[u32], ends: &[u32], at: u
 }
 
 // A number in a PEEK slice.
-fn peek_fault(text: &[u8], kinds: &[u8], starts: &[u32], ends: &[u32], at: usize) -> Fault
-    requires { ⌜ Lent (now text) (now kinds) (now starts) (now ends) ⌝ }
+fn peek_fault(text: &[u8], tokens: &[u32], at: usize) -> Fault
+    requires { ⌜ Lent (now text) (now tokens) ⌝ }
     requires { ⌜ at < length (toks (now text)) ⌝ }
     ensures { λ r. ⌜ r ≡ peekFault (now (text .entry)) at (integerOf (now (text .entry)) at) ⌝ }
 {
-    let value = integer_of(text, kinds, starts, ends, at);
+    let value = integer_of(text, tokens, at);
     match value {
         Decimal::Is(_) => Fault::Sound,
-        Decimal::Over => Fault::PeekRange(super::tokens::start_at(text, kinds, starts, ends, at)),
+        Decimal::Over => Fault::PeekRange(start_at(text, tokens, at)),
         Decimal::NotDigits => Fault::Sound,
     }
 }
 
 // A repeat number.
-fn repeat_fault(text: &[u8], kinds: &[u8], starts: &[u32], ends: &[u32], at: usize) -> Fault
-    requires { ⌜ Lent (now text) (now kinds) (now starts) (now ends) ⌝ }
+fn repeat_fault(text: &[u8], tokens: &[u32], at: usize) -> Fault
+    requires { ⌜ Lent (now text) (now tokens) ⌝ }
     requires { ⌜ at < length (toks (now text)) ⌝ }
     ensures { λ r. ⌜ r ≡ repeatFault (now (text .entry)) at (decimalOf 4294967295 (word (now (text .entry)) at)) ⌝ }
 {
-    let value = number_of(text, kinds, starts, ends, at);
+    let value = number_of(text, tokens, at);
     match value {
         Decimal::NotDigits => Fault::Sound,
-        Decimal::Over => Fault::Over(super::tokens::start_at(text, kinds, starts, ends, at)),
+        Decimal::Over => Fault::Over(start_at(text, tokens, at)),
         Decimal::Is(n) => {
             if n != 0 {
                 return Fault::Sound;
             }
-            if super::tokens::kind_at(text, kinds, starts, ends, at + 1) == 3 {
-                return Fault::Zero(super::tokens::start_at(text, kinds, starts, ends, at));
+            if kind_at(text, tokens, at + 1) == 3 {
+                return Fault::Zero(start_at(text, tokens, at));
             }
             Fault::Sound
         }
@@ -98,22 +94,15 @@ fn repeat_fault(text: &[u8], kinds: &[u8], starts: &[u32], ends: &[u32], at: usi
 }
 
 // A number, by the kind of the token before it.
-fn number_fault(
-    text: &[u8],
-    kinds: &[u8],
-    starts: &[u32],
-    ends: &[u32],
-    before: u8,
-    at: usize,
-) -> Fault
-    requires { ⌜ Lent (now text) (now kinds) (now starts) (now ends) ⌝ }
+fn number_fault(text: &[u8], tokens: &[u32], before: u8, at: usize) -> Fault
+    requires { ⌜ Lent (now text) (now tokens) ⌝ }
     requires { ⌜ at < length (toks (now text)) ⌝ }
     ensures { λ r. ⌜ r ≡ numberFault (now (text .entry)) before at ⌝ }
 {
     match before {
-        4 => peek_fault(text, kinds, starts, ends, at),
-        22 => peek_fault(text, kinds, starts, ends, at),
-        _ => repeat_fault(text, kinds, starts, ends, at),
+        4 => peek_fault(text, tokens, at),
+        22 => peek_fault(text, tokens, at),
+        _ => repeat_fault(text, tokens, at),
     }
 }
 
@@ -129,21 +118,14 @@ fn bad_escape_in(text: &[u8], a: usize, z: usize) -> Check
 }
 
 // The escapes of a literal that `skip` bytes open.
-fn literal_fault(
-    text: &[u8],
-    kinds: &[u8],
-    starts: &[u32],
-    ends: &[u32],
-    at: usize,
-    skip: usize,
-) -> Fault
-    requires { ⌜ Lent (now text) (now kinds) (now starts) (now ends) ⌝ }
+fn literal_fault(text: &[u8], tokens: &[u32], at: usize, skip: usize) -> Fault
+    requires { ⌜ Lent (now text) (now tokens) ⌝ }
     requires { ⌜ at < length (toks (now text)) ⌝ }
     requires { ⌜ skip ≡ opening (now text) at ⌝ }
     ensures { λ r. ⌜ r ≡ literalFault (now (text .entry)) at (badEscape (inside (now (text .entry)) at)) ⌝ }
 {
-    let a = super::tokens::start_at(text, kinds, starts, ends, at) + skip;
-    let z = super::tokens::end_at(text, kinds, starts, ends, at);
+    let a = start_at(text, tokens, at) + skip;
+    let z = end_at(text, tokens, at);
     let bad = bad_escape_in(text, a, z - 1);
     match bad {
         Check::Good => Fault::Sound,
@@ -152,43 +134,36 @@ fn literal_fault(
 }
 
 // What is wrong with a token's value.
-fn fault_at(
-    text: &[u8],
-    kinds: &[u8],
-    starts: &[u32],
-    ends: &[u32],
-    level: Level,
-    before: u8,
-    at: usize,
-) -> Fault
-    requires { ⌜ Lent (now text) (now kinds) (now starts) (now ends) ⌝ }
+fn fault_at(text: &[u8], tokens: &[u32], level: Level, before: u8, at: usize) -> Fault
+    requires { ⌜ Lent (now text) (now tokens) ⌝ }
     requires { ⌜ at < length (toks (now text)) ⌝ }
     ensures { λ r. ⌜ r ≡ faultAt level (now (text .entry)) before at ⌝ }
 {
-    let k = super::tokens::kind_at(text, kinds, starts, ends, at);
+    let k = kind_at(text, tokens, at);
     match k {
-        18 => word_fault(text, kinds, starts, ends, level, at),
-        20 => number_fault(text, kinds, starts, ends, before, at),
-        21 => peek_fault(text, kinds, starts, ends, at),
-        23 => literal_fault(text, kinds, starts, ends, at, 1),
-        24 => literal_fault(text, kinds, starts, ends, at, 2),
-        25 => literal_fault(text, kinds, starts, ends, at, 1),
+        18 => word_fault(text, tokens, level, at),
+        20 => number_fault(text, tokens, before, at),
+        21 => peek_fault(text, tokens, at),
+        23 => literal_fault(text, tokens, at, 1),
+        24 => literal_fault(text, tokens, at, 2),
+        25 => literal_fault(text, tokens, at, 1),
         _ => Fault::Sound,
     }
 }
 
 // The first fault of a text, from the left.
-pub fn faults(text: &[u8], kinds: &[u8], starts: &[u32], ends: &[u32], level: Level) -> Fault
-    requires { ⌜ Lent (now text) (now kinds) (now starts) (now ends) ⌝ }
+pub fn faults(text: &[u8], tokens: &[u32], level: Level) -> Fault
+    requires { ⌜ Lent (now text) (now tokens) ⌝ }
     ensures { λ r. ⌜ r ≡ faults level (now (text .entry)) ⌝ }
 {
+    let n = token_count(text, tokens);
     let mut before: u8 = 0;
     let mut i = 0;
-    while i < kinds.len() {
-        let fault = fault_at(text, kinds, starts, ends, level, before, i);
+    while i < n {
+        let fault = fault_at(text, tokens, level, before, i);
         match fault {
             Fault::Sound => {
-                before = kinds[i];
+                before = kind_at(text, tokens, i);
                 i += 1;
             }
             Fault::Over(place) => {

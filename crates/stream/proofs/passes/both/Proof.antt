@@ -1,12 +1,12 @@
 -- The second pass runs only where the first found no refusal.
 use Rattle.stream.proofs.Writes.{ran-refuses, ran-stands}
-use Rattle.states.specs.Feed.{flat, roomOf}
 use Rattle.stream.specs.Shapes.{givesOf}
 use Rattle.states.specs.Steps.{Step, ranOf}
 use Prim.Native.Nat.{_*_}
 use lib.Seq.{sets}
 use mathlib.Core.Path.{sym, _∙_, ap}
 use borrow.Author.Needs.{needs}
+use Rattle.token.specs.Table.{flat, roomOf}
 use Rattle.stream.proofs.passes.both.Statement.{statement}
 use Rattle.stream.proofs.passes.both.Tie as tie
 

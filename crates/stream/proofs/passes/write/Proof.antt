@@ -7,9 +7,9 @@ use lib.Seq.{sets, length-sets}
 use lib.ListN.{length, drop}
 use native.Mathlib.Omega.{arith}
 use mathlib.Core.Path.{sym, _∙_, ap, refl, _≡_}
+use Rattle.token.specs.Table.{flat, roomOf}
 use Rattle.states.specs.Steps.{Step, ranOf}
 use Rattle.stream.specs.Shapes.{givesOf, isGood, Sound}
-use Rattle.states.specs.Feed.{flat, roomOf}
 use Rattle.stream.proofs.Writes.{good-goes, good-moves, write-moves, ran-end, step-room, step-sound}
 use Rattle.stream.proofs.passes.write.Statement.{statement}
 use Rattle.stream.proofs.passes.write.Tie as tie

@@ -6,9 +6,7 @@ use Rattle.build.proofs.Nodes.{group-in, group-deep, group-room, group-
 use Rattle.build.proofs.Chains.{LoopInv, first-room, build-start, choice-room, build-done, bar-inside, bar-room, bar-more, seq-inside, seq-room, seq-over, seq-more}
 use Rattle.build.proofs.Leaves.{room-same, built-same}
 use Rattle.structure.proofs.Steps.{sees, misses}
-use Rattle.structure.proofs.Arrays.{sizes, fewer}
 use Rattle.structure.specs.Answers.{unread}
-use Rattle.structure.specs.Tokens.{toks}
 use borrow.Author.Needs.{needs}
 use native.Mathlib.Omega.{arith}
 use lib.ListN.{length}
@@ -17,6 +15,9 @@ use mathlib.Core.Path.{sym, _∙_}
 use Prim.Native.Nat.{ℕ, _<_}
 use borrow.Fn.Kinds.{In, Out}
 use borrow.Fn.PlainCycle.{Measures, is, falls, and}
+use Rattle.token.specs.Table.{toks}
+use Rattle.token.proofs.Table.{sizes}
+use Rattle.structure.proofs.Wants.{fewer}
 use Rattle.build.proofs.inner.build.consume_expr.Reads as consume-expr
 use Rattle.build.proofs.inner.build.consume_expr.Kinds as consume-expr-kinds
 use Rattle.build.proofs.inner.build.+consume_expr+consume_node+unaries.Lts-consume_expr as consume-expr-lts
@@ -38,74 +39,74 @@ use Rattle.build.proofs.inner.terms.head_at.Reads as head-at-reads
 use Rattle.build.proofs.inner.terms.open_at.Reads as open-at-reads
 use Rattle.build.proofs.inner.terms.put_tag.Reads as put-tag-reads
 use Rattle.structure.proofs.inner.checks.signs_end.Reads as signs-end-reads
-use Rattle.structure.proofs.inner.tokens.end_at.Reads as end-at-reads
-use Rattle.structure.proofs.inner.tokens.kind_at.Reads as kind-at-reads
+use Rattle.token.proofs.inner.table.end_at.Reads as end-at-reads
+use Rattle.token.proofs.inner.table.kind_at.Reads as kind-at-reads
 use Rattle.structure.proofs.inner.tokens.spelled.Reads as spelled-reads
-use Rattle.structure.proofs.inner.tokens.start_at.Reads as start-at-reads
+use Rattle.token.proofs.inner.table.start_at.Reads as start-at-reads
 use Rattle.build.proofs.inner.build.+consume_expr+consume_node+unaries.{statement}
 use Rattle.build.proofs.inner.build.+consume_expr+consume_node+unaries.Tie.{close}
 
-abbrev μ-consume-expr : Measures 6 consume-expr-kinds.ps ℕ
-μ-consume-expr κs a = 3 * unread (a .0 .now) (a .1 .1 .1 .0 .now) (a .1 .1 .1 .1 .1 .1 .1 .1 .0) + 2
+abbrev μ-consume-expr : Measures 4 consume-expr-kinds.ps ℕ
+μ-consume-expr κs a = 3 * unread (a .0 .now) (a .1 .1 .1 .1 .1 .1 .0) + 2
 
-abbrev μ-consume-node : Measures 6 consume-node-kinds.ps ℕ
-μ-consume-node κs a = 3 * unread (a .0 .now) (a .1 .1 .1 .0 .now) (a .1 .1 .1 .1 .1 .1 .1 .1 .0)
+abbrev μ-consume-node : Measures 4 consume-node-kinds.ps ℕ
+μ-consume-node κs a = 3 * unread (a .0 .now) (a .1 .1 .1 .1 .1 .1 .0)
 
-abbrev μ-unaries : Measures 6 unaries-kinds.ps ℕ
-μ-unaries κs a = 3 * unread (a .0 .now) (a .1 .1 .1 .0 .now) (a .1 .1 .1 .1 .1 .1 .1 .1 .0) + 1
+abbrev μ-unaries : Measures 4 unaries-kinds.ps ℕ
+μ-unaries κs a = 3 * unread (a .0 .now) (a .1 .1 .1 .1 .1 .1 .0) + 1
 
-abbrev consume-expr-at : ℕ → In 6 consume-expr-kinds.ps
+abbrev consume-expr-at : ℕ → In 4 consume-expr-kinds.ps
 consume-expr-at t =
-    and 6 consume-expr-kinds.ps (is 6 consume-expr-kinds.ps μ-consume-expr t) consume-expr.Pre
+    and 4 consume-expr-kinds.ps (is 4 consume-expr-kinds.ps μ-consume-expr t) consume-expr.Pre
 
-abbrev consume-expr-below : ℕ → In 6 consume-expr-kinds.ps
+abbrev consume-expr-below : ℕ → In 4 consume-expr-kinds.ps
 consume-expr-below t =
     and
-    6
+    4
     consume-expr-kinds.ps
-    (falls 6 consume-expr-kinds.ps _<_ μ-consume-expr t)
+    (falls 4 consume-expr-kinds.ps _<_ μ-consume-expr t)
     consume-expr.Pre
 
-abbrev consume-node-at : ℕ → In 6 consume-node-kinds.ps
+abbrev consume-node-at : ℕ → In 4 consume-node-kinds.ps
 consume-node-at t =
-    and 6 consume-node-kinds.ps (is 6 consume-node-kinds.ps μ-consume-node t) consume-node.Pre
+    and 4 consume-node-kinds.ps (is 4 consume-node-kinds.ps μ-consume-node t) consume-node.Pre
 
-abbrev consume-node-below : ℕ → In 6 consume-node-kinds.ps
+abbrev consume-node-below : ℕ → In 4 consume-node-kinds.ps
 consume-node-below t =
     and
-    6
+    4
     consume-node-kinds.ps
-    (falls 6 consume-node-kinds.ps _<_ μ-consume-node t)
+    (falls 4 consume-node-kinds.ps _<_ μ-consume-node t)
     consume-node.Pre
 
-abbrev unaries-at : ℕ → In 6 unaries-kinds.ps
-unaries-at t = and 6 unaries-kinds.ps (is 6 unaries-kinds.ps μ-unaries t) unaries.Pre
+abbrev unaries-at : ℕ → In 4 unaries-kinds.ps
+unaries-at t = and 4 unaries-kinds.ps (is 4 unaries-kinds.ps μ-unaries t) unaries.Pre
 
-abbrev unaries-below : ℕ → In 6 unaries-kinds.ps
-unaries-below t = and 6 unaries-kinds.ps (falls 6 unaries-kinds.ps _<_ μ-unaries t) unaries.Pre
+abbrev unaries-below : ℕ → In 4 unaries-kinds.ps
+unaries-below t = and 4 unaries-kinds.ps (falls 4 unaries-kinds.ps _<_ μ-unaries t) unaries.Pre
 
 abbrev consume-expr-Inv-loop : consume-expr-lts.InvT-loop
-consume-expr-Inv-loop text kinds starts ends nodes₀ store₀ level deep at used free a i₀ u₀ f₀ b₀ z₀ chosen₀ left₀ nodes store i u f b z chosen left =
+consume-expr-Inv-loop text tokens nodes₀ store₀ level deep at used free a i₀ u₀ f₀ b₀ z₀ chosen₀ left₀ nodes store i u f b z chosen left =
     LoopInv level text deep at used free (record { next = i₀; used = u₀; free = f₀; from = a; to = z₀ }) nodes₀ store₀ i u f a b z chosen left nodes store
 
 abbrev consume-expr-μ-loop : consume-expr-lts.MeasureT-loop
-consume-expr-μ-loop text kinds starts ends nodes₀ store₀ level deep at used free a i₀ u₀ f₀ b₀ z₀ chosen₀ left₀ nodes store i u f b z chosen left = length (toks text) - i
+consume-expr-μ-loop text tokens nodes₀ store₀ level deep at used free a i₀ u₀ f₀ b₀ z₀ chosen₀ left₀ nodes store i u f b z chosen left = length (toks text) - i
 
 -- a need of `consume-expr`, or a place of its code, at the measure t
-abbrev of-consume-expr : ((k : consume-expr-lts.Claims) (p : In 6 consume-expr-kinds.ps) (q : Out 6 consume-expr-kinds.ps consume-expr-kinds.r) (i : consume-expr-lts.InvT-loop) (m : consume-expr-lts.MeasureT-loop) → Type 0) → ℕ → Type 0
+abbrev of-consume-expr : ((k : consume-expr-lts.Claims) (p : In 4 consume-expr-kinds.ps) (q : Out 4 consume-expr-kinds.ps consume-expr-kinds.r) (i : consume-expr-lts.InvT-loop) (m : consume-expr-lts.MeasureT-loop) → Type 0) → ℕ → Type 0
 of-consume-expr N t = N (unaries-below t, unaries.Post, kind-at-reads.Asked, kind-at-reads.Learnt, put-join-reads.Asked, put-join-reads.Learnt, put-choice-reads.Asked, put-choice-reads.Learnt) (consume-expr-at t) consume-expr.Post consume-expr-Inv-loop consume-expr-μ-loop
 
 -- a need of `consume-node`, or a place of its code, at the measure t
-abbrev of-consume-node : ((k : consume-node-lts.Claims) (p : In 6 consume-node-kinds.ps) (q : Out 6 consume-node-kinds.ps consume-node-kinds.r) → Type 0) → ℕ → Type 0
+abbrev of-consume-node : ((k : consume-node-lts.Claims) (p : In 4 consume-node-kinds.ps) (q : Out 4 consume-node-kinds.ps consume-node-kinds.r) → Type 0) → ℕ → Type 0
 of-consume-node N t = N (kind-at-reads.Asked, kind-at-reads.Learnt, consume-expr-below t, consume-expr.Post, end-at-reads.Asked, end-at-reads.Learnt, move-end-reads.Asked, move-end-reads.Learnt, spelled-reads.Asked, spelled-reads.Learnt, start-at-reads.Asked, start-at-reads.Learnt, put-unary-reads.Asked, put-unary-reads.Learnt, put-leaf-reads.Asked, put-leaf-reads.Learnt) (consume-node-at t) consume-node.Post
 
 -- a need of `unaries`, or a place of its code, at the measure t
-abbrev of-unaries : ((k : unaries-lts.Claims) (p : In 6 unaries-kinds.ps) (q : Out 6 unaries-kinds.ps unaries-kinds.r) → Type 0) → ℕ → Type 0
+abbrev of-unaries : ((k : unaries-lts.Claims) (p : In 4 unaries-kinds.ps) (q : Out 4 unaries-kinds.ps unaries-kinds.r) → Type 0) → ℕ → Type 0
 of-unaries N t = N (get-node-tag-reads.Asked, get-node-tag-reads.Learnt, signs-end-reads.Asked, signs-end-reads.Learnt, consume-node-below t, consume-node.Post, put-postfixes-reads.Asked, put-postfixes-reads.Learnt, open-at-reads.Asked, open-at-reads.Learnt, put-signs-reads.Asked, put-signs-reads.Learnt, head-at-reads.Asked, head-at-reads.Learnt, put-tag-reads.Asked, put-tag-reads.Learnt) (unaries-at t) unaries.Post
 
 consume-expr-unaries-requires : (t : ℕ) → of-consume-expr consume-expr-lts.Need-unaries-requires t
 consume-expr-unaries-requires t c κs =
-    let start = c .before .before .before .before .before .before .before .before in
+    let start = c .before .before .before .before .before .before in
     let measured = start .pre .0 in
     let lent = start .pre .1 .0 in
     let scalars = start .pre .1 .1 .0 in
@@ -124,13 +125,13 @@ consume-expr-add-unaries t c =
     let at-kind-at = at-if1 .before in
     let at-loop = at-kind-at .before in
     let at-unaries = at-loop .before .before .before .before .before in
-    let start = at-unaries .before .before .before .before .before .before .before .before .before in
+    let start = at-unaries .before .before .before .before .before .before .before in
     let room = start .pre .1 .1 .1 in
     let inv = at-loop .loop .inv _ _ room (at-unaries .unaries .ensures) in
     let seq = sees _ _ _ 10 (at-kind-at .kind-at .ensures) (at-if1 .if1 .taken) in
     let inside = seq-inside _ _ _ _ _ _ _ _ room _ _ _ _ _ _ _ _ _ _ inv seq in
     let lent = start .pre .1 .0 in
-    let few = sizes _ _ _ _ lent .3 in
+    let few = sizes _ _ lent .1 in
     omega (arith, inside, few)
 
 consume-expr-unaries-requires-2 : (t : ℕ) → of-consume-expr consume-expr-lts.Need-unaries-requires-2 t
@@ -139,14 +140,14 @@ consume-expr-unaries-requires-2 t c κs =
     let at-kind-at = at-if1 .before in
     let at-loop = at-kind-at .before in
     let at-unaries = at-loop .before .before .before .before .before in
-    let start = at-unaries .before .before .before .before .before .before .before .before .before in
+    let start = at-unaries .before .before .before .before .before .before .before in
     let measured = start .pre .0 in
     let lent = start .pre .1 .0 in
     let room = start .pre .1 .1 .1 in
     let inv = at-loop .loop .inv _ _ room (at-unaries .unaries .ensures) in
     let seq = sees _ _ _ 10 (at-kind-at .kind-at .ensures) (at-if1 .if1 .taken) in
     let inside = seq-inside _ _ _ _ _ _ _ _ room _ _ _ _ _ _ _ _ _ _ inv seq in
-    let fewer-left = fewer _ _ _ _ (start .args .at) (at-loop .loop .i + 1) lent (omega (arith, inv .past)) (omega (arith, inside)) in
+    let fewer-left = fewer (start .args .text .now) (start .args .at) (at-loop .loop .i + 1) (omega (arith, inv .past)) (omega (arith, inside)) in
     let scalars = start .pre .1 .1 .0 in
     (omega (arith, measured, fewer-left), (lent, (scalars, seq-room _ _ _ _ _ _ _ _ room _ _ _ _ _ _ _ _ _ _ inv seq)))
 
@@ -157,7 +158,7 @@ consume-expr-sub-put-join t c =
     let at-kind-at = at-if1 .before in
     let at-loop = at-kind-at .before in
     let at-unaries = at-loop .before .before .before .before .before in
-    let start = at-unaries .before .before .before .before .before .before .before .before .before in
+    let start = at-unaries .before .before .before .before .before .before .before in
     let room = start .pre .1 .1 .1 in
     let inv = at-loop .loop .inv _ _ room (at-unaries .unaries .ensures) in
     let seq = sees _ _ _ 10 (at-kind-at .kind-at .ensures) (at-if1 .if1 .taken) in
@@ -171,7 +172,7 @@ consume-expr-put-join-requires t c κs =
     let at-kind-at = at-if1 .before in
     let at-loop = at-kind-at .before in
     let at-unaries = at-loop .before .before .before .before .before in
-    let start = at-unaries .before .before .before .before .before .before .before .before .before in
+    let start = at-unaries .before .before .before .before .before .before .before in
     let room = start .pre .1 .1 .1 in
     let inv = at-loop .loop .inv _ _ room (at-unaries .unaries .ensures) in
     let seq = sees _ _ _ 10 (at-kind-at .kind-at .ensures) (at-if1 .if1 .taken) in
@@ -185,7 +186,7 @@ consume-expr-add-u t c =
     let at-kind-at = at-if1 .before in
     let at-loop = at-kind-at .before in
     let at-unaries = at-loop .before .before .before .before .before in
-    let start = at-unaries .before .before .before .before .before .before .before .before .before in
+    let start = at-unaries .before .before .before .before .before .before .before in
     let room = start .pre .1 .1 .1 in
     let inv = at-loop .loop .inv _ _ room (at-unaries .unaries .ensures) in
     let seq = sees _ _ _ 10 (at-kind-at .kind-at .ensures) (at-if1 .if1 .taken) in
@@ -200,7 +201,7 @@ consume-expr-loop-less t c =
     let at-kind-at = at-if1 .before in
     let at-loop = at-kind-at .before in
     let at-unaries = at-loop .before .before .before .before .before in
-    let start = at-unaries .before .before .before .before .before .before .before .before .before in
+    let start = at-unaries .before .before .before .before .before .before .before in
     let room = start .pre .1 .1 .1 in
     let inv = at-loop .loop .inv _ _ room (at-unaries .unaries .ensures) in
     let seq = sees _ _ _ 10 (at-kind-at .kind-at .ensures) (at-if1 .if1 .taken) in
@@ -221,7 +222,7 @@ consume-expr-put-choice-requires : (t : ℕ) → of-consume-expr consume-expr-lt
 consume-expr-put-choice-requires t c κs =
     let at-loop = c .before .before .before in
     let at-unaries = at-loop .before .before .before .before .before in
-    let start = at-unaries .before .before .before .before .before .before .before .before .before in
+    let start = at-unaries .before .before .before .before .before .before .before in
     let room = start .pre .1 .1 .1 in
     let inv = at-loop .loop .inv _ _ room (at-unaries .unaries .ensures) in
     choice-room _ _ _ _ _ _ _ _ room _ _ _ _ _ _ _ _ _ _ inv
@@ -233,7 +234,7 @@ consume-expr-returns t c =
     let at-kind-at = at-if1 .before in
     let at-loop = at-kind-at .before in
     let at-unaries = at-loop .before .before .before .before .before in
-    let start = at-unaries .before .before .before .before .before .before .before .before .before in
+    let start = at-unaries .before .before .before .before .before .before .before in
     let room = start .pre .1 .1 .1 in
     let inv = at-loop .loop .inv _ _ room (at-unaries .unaries .ensures) in
     let closed = at-put-choice .put-choice .ensures in
@@ -254,7 +255,7 @@ consume-expr-sub-left t c =
     let at-kind-at = at-if1 .before in
     let at-loop = at-kind-at .before in
     let at-unaries = at-loop .before .before .before .before .before in
-    let start = at-unaries .before .before .before .before .before .before .before .before .before in
+    let start = at-unaries .before .before .before .before .before .before .before in
     let room = start .pre .1 .1 .1 in
     let inv = at-loop .loop .inv _ _ room (at-unaries .unaries .ensures) in
     let closed = at-put-choice .put-choice .ensures in
@@ -271,7 +272,7 @@ consume-expr-add-unaries-2 t c =
     let at-kind-at = at-if1 .before in
     let at-loop = at-kind-at .before in
     let at-unaries = at-loop .before .before .before .before .before in
-    let start = at-unaries .before .before .before .before .before .before .before .before .before in
+    let start = at-unaries .before .before .before .before .before .before .before in
     let room = start .pre .1 .1 .1 in
     let inv = at-loop .loop .inv _ _ room (at-unaries .unaries .ensures) in
     let closed = at-put-choice .put-choice .ensures in
@@ -279,7 +280,7 @@ consume-expr-add-unaries-2 t c =
     let bar = sees _ _ _ 11 (at-kind-at .kind-at .ensures) (at-if2 .if2 .left) in
     let barred = bar-inside _ _ _ _ _ _ _ _ room _ _ _ _ _ _ _ _ _ _ inv _ _ (closed .0) (closed .1) noseq bar in
     let lent = start .pre .1 .0 in
-    let few = sizes _ _ _ _ lent .3 in
+    let few = sizes _ _ lent .1 in
     omega (arith, barred .0, few)
 
 consume-expr-unaries-requires-3 : (t : ℕ) → of-consume-expr consume-expr-lts.Need-unaries-requires-3 t
@@ -290,7 +291,7 @@ consume-expr-unaries-requires-3 t c κs =
     let at-kind-at = at-if1 .before in
     let at-loop = at-kind-at .before in
     let at-unaries = at-loop .before .before .before .before .before in
-    let start = at-unaries .before .before .before .before .before .before .before .before .before in
+    let start = at-unaries .before .before .before .before .before .before .before in
     let measured = start .pre .0 in
     let lent = start .pre .1 .0 in
     let room = start .pre .1 .1 .1 in
@@ -299,7 +300,7 @@ consume-expr-unaries-requires-3 t c κs =
     let noseq = misses _ _ _ 10 (at-kind-at .kind-at .ensures) (at-if1 .if1 .left) in
     let bar = sees _ _ _ 11 (at-kind-at .kind-at .ensures) (at-if2 .if2 .left) in
     let barred = bar-inside _ _ _ _ _ _ _ _ room _ _ _ _ _ _ _ _ _ _ inv _ _ (closed .0) (closed .1) noseq bar in
-    let fewer-bar = fewer _ _ _ _ (start .args .at) (at-loop .loop .i + 1) lent (omega (arith, inv .past)) (omega (arith, barred .0)) in
+    let fewer-bar = fewer (start .args .text .now) (start .args .at) (at-loop .loop .i + 1) (omega (arith, inv .past)) (omega (arith, barred .0)) in
     let scalars = start .pre .1 .1 .0 in
     (omega (arith, measured, fewer-bar), (lent, (scalars, bar-room _ _ _ _ _ _ _ _ room _ _ _ _ _ _ _ _ _ _ inv _ _ (closed .0) (closed .1) noseq bar)))
 
@@ -312,7 +313,7 @@ consume-expr-loop-less-2 t c =
     let at-kind-at = at-if1 .before in
     let at-loop = at-kind-at .before in
     let at-unaries = at-loop .before .before .before .before .before in
-    let start = at-unaries .before .before .before .before .before .before .before .before .before in
+    let start = at-unaries .before .before .before .before .before .before .before in
     let room = start .pre .1 .1 .1 in
     let inv = at-loop .loop .inv _ _ room (at-unaries .unaries .ensures) in
     let closed = at-put-choice .put-choice .ensures in
@@ -341,7 +342,7 @@ consume-node-add-consume-expr : (t : ℕ) → of-consume-node consume-node-lts.N
 consume-node-add-consume-expr t c =
     let at-if1 = c .before .before in
     let at-kind-at = at-if1 .before in
-    let start = at-kind-at .before .before .before .before .before .before .before in
+    let start = at-kind-at .before .before .before .before .before in
     let room = start .pre .1 .1 .1 in
     let opens = sees _ _ _ 6 (at-kind-at .kind-at .ensures) (at-if1 .if1 .taken) in
     let shallow = group-deep _ _ _ _ _ _ _ _ room opens in
@@ -351,25 +352,25 @@ consume-node-add-consume-expr-2 : (t : ℕ) → of-consume-node consume-node-lts
 consume-node-add-consume-expr-2 t c =
     let at-if1 = c .before .before in
     let at-kind-at = at-if1 .before in
-    let start = at-kind-at .before .before .before .before .before .before .before in
+    let start = at-kind-at .before .before .before .before .before in
     let room = start .pre .1 .1 .1 in
     let opens = sees _ _ _ 6 (at-kind-at .kind-at .ensures) (at-if1 .if1 .taken) in
     let open-in = group-in _ _ _ _ _ _ _ _ room opens in
     let lent = start .pre .1 .0 in
-    let few = sizes _ _ _ _ lent .3 in
+    let few = sizes _ _ lent .1 in
     omega (arith, open-in, few)
 
 consume-node-consume-expr-requires : (t : ℕ) → of-consume-node consume-node-lts.Need-consume-expr-requires t
 consume-node-consume-expr-requires t c κs =
     let at-if1 = c .before .before in
     let at-kind-at = at-if1 .before in
-    let start = at-kind-at .before .before .before .before .before .before .before in
+    let start = at-kind-at .before .before .before .before .before in
     let measured = start .pre .0 in
     let lent = start .pre .1 .0 in
     let room = start .pre .1 .1 .1 in
     let opens = sees _ _ _ 6 (at-kind-at .kind-at .ensures) (at-if1 .if1 .taken) in
     let open-in = group-in _ _ _ _ _ _ _ _ room opens in
-    let fewer-group = fewer _ _ _ _ (start .args .at) (start .args .at + 1) lent (omega arith) (omega (arith, open-in)) in
+    let fewer-group = fewer (start .args .text .now) (start .args .at) (start .args .at + 1) (omega arith) (omega (arith, open-in)) in
     let scalars = start .pre .1 .1 .0 in
     (omega (arith, measured, fewer-group), (lent, (scalars, group-room _ _ _ _ _ _ _ _ room opens)))
 
@@ -382,7 +383,7 @@ consume-node-move-end-requires t c κs =
     let at-consume-expr = at-end-at .before .before .before .before .before in
     let at-if1 = at-consume-expr .before .before .before in
     let at-kind-at = at-if1 .before in
-    let start = at-kind-at .before .before .before .before .before .before .before in
+    let start = at-kind-at .before .before .before .before .before in
     let room = start .pre .1 .1 .1 in
     let opens = sees _ _ _ 6 (at-kind-at .kind-at .ensures) (at-if1 .if1 .taken) in
     let last = group-last _ _ _ _ _ _ _ _ room opens _ _ _ (at-consume-expr .consume-expr .ensures) in
@@ -390,20 +391,20 @@ consume-node-move-end-requires t c κs =
     let z-low = end-low (start .args .text .now) (at-consume-expr .consume-expr .result .next) _ (lent .short) (at-end-at .end-at .ensures) in
     (last .0, last .1, z-low)
 
-consume-node-add-t23 : (t : ℕ) → of-consume-node consume-node-lts.Need-add-t23 t
-consume-node-add-t23 t c =
+consume-node-add-t21 : (t : ℕ) → of-consume-node consume-node-lts.Need-add-t21 t
+consume-node-add-t21 t c =
     let at-move-end = c .before .before .before in
     let at-end-at = at-move-end .before .before in
     let at-consume-expr = at-end-at .before .before .before .before .before in
     let at-if1 = at-consume-expr .before .before .before in
     let at-kind-at = at-if1 .before in
-    let start = at-kind-at .before .before .before .before .before .before .before in
+    let start = at-kind-at .before .before .before .before .before in
     let room = start .pre .1 .1 .1 in
     let opens = sees _ _ _ 6 (at-kind-at .kind-at .ensures) (at-if1 .if1 .taken) in
     let lent = start .pre .1 .0 in
     let z-low = end-low (start .args .text .now) (at-consume-expr .consume-expr .result .next) _ (lent .short) (at-end-at .end-at .ensures) in
     let group = group-built _ _ _ _ _ _ _ _ room opens _ _ _ (at-consume-expr .consume-expr .ensures) _ (at-end-at .end-at .ensures) z-low _ (at-move-end .move-end .ensures) in
-    let few = sizes _ _ _ _ lent .3 in
+    let few = sizes _ _ lent .1 in
     omega (arith, group .0, few)
 
 consume-node-returns : (t : ℕ) → of-consume-node consume-node-lts.Need-returns t
@@ -413,7 +414,7 @@ consume-node-returns t c =
     let at-consume-expr = at-end-at .before .before .before .before .before in
     let at-if1 = at-consume-expr .before .before .before in
     let at-kind-at = at-if1 .before in
-    let start = at-kind-at .before .before .before .before .before .before .before in
+    let start = at-kind-at .before .before .before .before .before in
     let room = start .pre .1 .1 .1 in
     let opens = sees _ _ _ 6 (at-kind-at .kind-at .ensures) (at-if1 .if1 .taken) in
     let lent = start .pre .1 .0 in
@@ -438,7 +439,7 @@ consume-node-add-consume-expr-3 t c =
     let at-spelled = at-if2 .before in
     let at-if1 = at-spelled .before .before in
     let at-kind-at = at-if1 .before in
-    let start = at-kind-at .before .before .before .before .before .before .before in
+    let start = at-kind-at .before .before .before .before .before in
     let room = start .pre .1 .1 .1 in
     let bare = misses _ _ _ 6 (at-kind-at .kind-at .ensures) (at-if1 .if1 .left) in
     let is-push = sym (at-spelled .spelled .ensures) ∙ at-if2 .if2 .taken in
@@ -451,13 +452,13 @@ consume-node-add-consume-expr-4 t c =
     let at-spelled = at-if2 .before in
     let at-if1 = at-spelled .before .before in
     let at-kind-at = at-if1 .before in
-    let start = at-kind-at .before .before .before .before .before .before .before in
+    let start = at-kind-at .before .before .before .before .before in
     let room = start .pre .1 .1 .1 in
     let bare = misses _ _ _ 6 (at-kind-at .kind-at .ensures) (at-if1 .if1 .left) in
     let is-push = sym (at-spelled .spelled .ensures) ∙ at-if2 .if2 .taken in
     let inner = push-in _ _ _ _ _ _ _ _ room bare is-push in
     let lent = start .pre .1 .0 in
-    let few = sizes _ _ _ _ lent .3 in
+    let few = sizes _ _ lent .1 in
     omega (arith, inner .0, few)
 
 consume-node-add-consume-expr-5 : (t : ℕ) → of-consume-node consume-node-lts.Need-add-consume-expr-5 t
@@ -466,13 +467,13 @@ consume-node-add-consume-expr-5 t c =
     let at-spelled = at-if2 .before in
     let at-if1 = at-spelled .before .before in
     let at-kind-at = at-if1 .before in
-    let start = at-kind-at .before .before .before .before .before .before .before in
+    let start = at-kind-at .before .before .before .before .before in
     let room = start .pre .1 .1 .1 in
     let bare = misses _ _ _ 6 (at-kind-at .kind-at .ensures) (at-if1 .if1 .left) in
     let is-push = sym (at-spelled .spelled .ensures) ∙ at-if2 .if2 .taken in
     let inner = push-in _ _ _ _ _ _ _ _ room bare is-push in
     let lent = start .pre .1 .0 in
-    let few = sizes _ _ _ _ lent .3 in
+    let few = sizes _ _ lent .1 in
     omega (arith, inner .0, few)
 
 consume-node-consume-expr-requires-2 : (t : ℕ) → of-consume-node consume-node-lts.Need-consume-expr-requires-2 t
@@ -481,20 +482,20 @@ consume-node-consume-expr-requires-2 t c κs =
     let at-spelled = at-if2 .before in
     let at-if1 = at-spelled .before .before in
     let at-kind-at = at-if1 .before in
-    let start = at-kind-at .before .before .before .before .before .before .before in
+    let start = at-kind-at .before .before .before .before .before in
     let measured = start .pre .0 in
     let lent = start .pre .1 .0 in
     let room = start .pre .1 .1 .1 in
     let bare = misses _ _ _ 6 (at-kind-at .kind-at .ensures) (at-if1 .if1 .left) in
     let is-push = sym (at-spelled .spelled .ensures) ∙ at-if2 .if2 .taken in
     let inner = push-in _ _ _ _ _ _ _ _ room bare is-push in
-    let fewer-push = fewer _ _ _ _ (start .args .at) (start .args .at + 1 + 1) lent (omega arith) (omega (arith, inner .0)) in
+    let fewer-push = fewer (start .args .text .now) (start .args .at) (start .args .at + 1 + 1) (omega arith) (omega (arith, inner .0)) in
     let scalars = start .pre .1 .1 .0 in
     (omega (arith, measured, fewer-push), (lent, (scalars, push-room _ _ _ _ _ _ _ _ room bare is-push)))
 
 consume-node-start-at-requires : (t : ℕ) → of-consume-node consume-node-lts.Need-start-at-requires t
 consume-node-start-at-requires t c κs =
-    let start = c .before .before .before .before .before .before .before .before .before .before .before .before .before .before .before .before .before .before in
+    let start = c .before .before .before .before .before .before .before .before .before .before .before .before .before .before .before .before in
     start .pre .1 .0
 
 consume-node-put-unary-requires : (t : ℕ) → of-consume-node consume-node-lts.Need-put-unary-requires t
@@ -505,7 +506,7 @@ consume-node-put-unary-requires t c κs =
     let at-spelled = at-if2 .before in
     let at-if1 = at-spelled .before .before in
     let at-kind-at = at-if1 .before in
-    let start = at-kind-at .before .before .before .before .before .before .before in
+    let start = at-kind-at .before .before .before .before .before in
     let room = start .pre .1 .1 .1 in
     let bare = misses _ _ _ 6 (at-kind-at .kind-at .ensures) (at-if1 .if1 .left) in
     let is-push = sym (at-spelled .spelled .ensures) ∙ at-if2 .if2 .taken in
@@ -514,8 +515,8 @@ consume-node-put-unary-requires t c κs =
     let put = push-over _ _ _ _ _ _ _ _ room bare is-push _ _ _ (at-consume-expr2 .consume-expr2 .ensures) _ a-low in
     put .0
 
-consume-node-add-t35 : (t : ℕ) → of-consume-node consume-node-lts.Need-add-t35 t
-consume-node-add-t35 t c =
+consume-node-add-t33 : (t : ℕ) → of-consume-node consume-node-lts.Need-add-t33 t
+consume-node-add-t33 t c =
     let at-put-unary = c .before .before .before in
     let at-start-at = at-put-unary .before .before in
     let at-consume-expr2 = at-start-at .before .before .before .before .before in
@@ -523,25 +524,25 @@ consume-node-add-t35 t c =
     let at-spelled = at-if2 .before in
     let at-if1 = at-spelled .before .before in
     let at-kind-at = at-if1 .before in
-    let start = at-kind-at .before .before .before .before .before .before .before in
+    let start = at-kind-at .before .before .before .before .before in
     let room = start .pre .1 .1 .1 in
     let bare = misses _ _ _ 6 (at-kind-at .kind-at .ensures) (at-if1 .if1 .left) in
     let is-push = sym (at-spelled .spelled .ensures) ∙ at-if2 .if2 .taken in
     let lent = start .pre .1 .0 in
     let a-low = start-low (start .args .text .now) (start .args .at) _ (lent .short) (at-start-at .start-at .ensures) in
     let pushed = push-built _ _ _ _ _ _ _ _ room bare is-push _ _ _ (at-consume-expr2 .consume-expr2 .ensures) _ (at-start-at .start-at .ensures) a-low _ (at-put-unary .put-unary .ensures) in
-    let few = sizes _ _ _ _ lent .3 in
+    let few = sizes _ _ lent .1 in
     omega (arith, pushed .0, few)
 
-consume-node-add-t36 : (t : ℕ) → of-consume-node consume-node-lts.Need-add-t36 t
-consume-node-add-t36 t c =
+consume-node-add-t34 : (t : ℕ) → of-consume-node consume-node-lts.Need-add-t34 t
+consume-node-add-t34 t c =
     let at-start-at = c .before .before .before .before .before .before in
     let at-consume-expr2 = at-start-at .before .before .before .before .before in
     let at-if2 = at-consume-expr2 .before .before .before in
     let at-spelled = at-if2 .before in
     let at-if1 = at-spelled .before .before in
     let at-kind-at = at-if1 .before in
-    let start = at-kind-at .before .before .before .before .before .before .before in
+    let start = at-kind-at .before .before .before .before .before in
     let room = start .pre .1 .1 .1 in
     let bare = misses _ _ _ 6 (at-kind-at .kind-at .ensures) (at-if1 .if1 .left) in
     let is-push = sym (at-spelled .spelled .ensures) ∙ at-if2 .if2 .taken in
@@ -559,7 +560,7 @@ consume-node-returns-2 t c =
     let at-spelled = at-if2 .before in
     let at-if1 = at-spelled .before .before in
     let at-kind-at = at-if1 .before in
-    let start = at-kind-at .before .before .before .before .before .before .before in
+    let start = at-kind-at .before .before .before .before .before in
     let room = start .pre .1 .1 .1 in
     let bare = misses _ _ _ 6 (at-kind-at .kind-at .ensures) (at-if1 .if1 .left) in
     let is-push = sym (at-spelled .spelled .ensures) ∙ at-if2 .if2 .taken in
@@ -579,7 +580,7 @@ consume-node-put-leaf-requires t c κs =
     let at-spelled = at-if2 .before in
     let at-if1 = at-spelled .before .before in
     let at-kind-at = at-if1 .before in
-    let start = at-kind-at .before .before .before .before .before .before .before in
+    let start = at-kind-at .before .before .before .before .before in
     let lent = start .pre .1 .0 in
     let scalars = start .pre .1 .1 .0 in
     let room = start .pre .1 .1 .1 in
@@ -605,7 +606,7 @@ consume-node-returns-3 t c =
     let at-spelled = at-if2 .before in
     let at-if1 = at-spelled .before .before in
     let at-kind-at = at-if1 .before in
-    let start = at-kind-at .before .before .before .before .before .before .before in
+    let start = at-kind-at .before .before .before .before .before in
     let room = start .pre .1 .1 .1 in
     let bare = misses _ _ _ 6 (at-kind-at .kind-at .ensures) (at-if1 .if1 .left) in
     let no-push = sym (at-spelled .spelled .ensures) ∙ at-if2 .if2 .left in
@@ -614,7 +615,7 @@ consume-node-returns-3 t c =
 
 unaries-get-node-tag-requires : (t : ℕ) → of-unaries unaries-lts.Need-get-node-tag-requires t
 unaries-get-node-tag-requires t c κs =
-    let start = c .before .before .before .before .before .before .before in
+    let start = c .before .before .before .before .before in
     let lent = start .pre .1 .0 in
     let room = start .pre .1 .1 .1 in
     (lent, tag-room _ _ _ _ _ _ _ _ room)
@@ -626,11 +627,11 @@ unaries-consume-node-requires : (t : ℕ) → of-unaries unaries-lts.Need-consum
 unaries-consume-node-requires t c κs =
     let at-signs-end = c .before .before in
     let at-get-node-tag = at-signs-end .before .before .before in
-    let start = at-get-node-tag .before .before .before .before .before .before .before .before in
+    let start = at-get-node-tag .before .before .before .before .before .before in
     let measured = start .pre .0 in
     let room = start .pre .1 .1 .1 in
     let lent = start .pre .1 .0 in
-    let node-falls-to = node-falls _ _ _ _ _ _ _ _ room _ _ _ _ (at-get-node-tag .get-node-tag .ensures .1) (at-get-node-tag .get-node-tag .ensures .0) (at-signs-end .signs-end .ensures) _ _ _ lent in
+    let node-falls-to = node-falls _ _ _ _ _ _ _ _ room _ _ _ _ (at-get-node-tag .get-node-tag .ensures .1) (at-get-node-tag .get-node-tag .ensures .0) (at-signs-end .signs-end .ensures) in
     let scalars = start .pre .1 .1 .0 in
     (omega (arith, measured, node-falls-to), (lent, (scalars, node-room _ _ _ _ _ _ _ _ room _ _ _ _ (at-get-node-tag .get-node-tag .ensures .1) (at-get-node-tag .get-node-tag .ensures .0) (at-signs-end .signs-end .ensures))))
 
@@ -639,7 +640,7 @@ unaries-put-postfixes-requires t c κs =
     let at-consume-node = c .before .before .before .before .before in
     let at-signs-end = at-consume-node .before .before .before in
     let at-get-node-tag = at-signs-end .before .before .before in
-    let start = at-get-node-tag .before .before .before .before .before .before .before .before in
+    let start = at-get-node-tag .before .before .before .before .before .before in
     let lent = start .pre .1 .0 in
     let room = start .pre .1 .1 .1 in
     (lent, posts-room _ _ _ _ _ _ _ _ room _ _ _ _ (at-get-node-tag .get-node-tag .ensures .1) (at-get-node-tag .get-node-tag .ensures .0) (at-signs-end .signs-end .ensures) _ _ _ (at-consume-node .consume-node .ensures))
@@ -650,7 +651,7 @@ unaries-open-at-requires t c κs =
     let at-consume-node = at-put-postfixes .before .before .before .before .before .before in
     let at-signs-end = at-consume-node .before .before .before in
     let at-get-node-tag = at-signs-end .before .before .before in
-    let start = at-get-node-tag .before .before .before .before .before .before .before .before in
+    let start = at-get-node-tag .before .before .before .before .before .before in
     let lent = start .pre .1 .0 in
     let room = start .pre .1 .1 .1 in
     (lent, open-room _ _ _ _ _ _ _ _ room _ _ _ _ (at-get-node-tag .get-node-tag .ensures .1) (at-get-node-tag .get-node-tag .ensures .0) (at-signs-end .signs-end .ensures) _ _ _ (at-consume-node .consume-node .ensures) _ _ (at-put-postfixes .put-postfixes .ensures))
@@ -662,14 +663,14 @@ unaries-put-signs-requires t c κs =
     let at-consume-node = at-put-postfixes .before .before .before .before .before .before in
     let at-signs-end = at-consume-node .before .before .before in
     let at-get-node-tag = at-signs-end .before .before .before in
-    let start = at-get-node-tag .before .before .before .before .before .before .before .before in
+    let start = at-get-node-tag .before .before .before .before .before .before in
     let lent = start .pre .1 .0 in
     let room = start .pre .1 .1 .1 in
     (lent, signs-room _ _ _ _ _ _ _ _ room _ _ _ _ (at-get-node-tag .get-node-tag .ensures .1) (at-get-node-tag .get-node-tag .ensures .0) (at-signs-end .signs-end .ensures) _ _ _ (at-consume-node .consume-node .ensures) _ _ (at-put-postfixes .put-postfixes .ensures) _ (at-open-at .open-at .ensures))
 
 unaries-head-at-requires : (t : ℕ) → of-unaries unaries-lts.Need-head-at-requires t
 unaries-head-at-requires t c κs =
-    let start = c .before .before .before .before .before .before .before .before .before .before .before .before .before .before .before .before .before .before .before .before .before .before .before .before .before .before .before .before .before .before in
+    let start = c .before .before .before .before .before .before .before .before .before .before .before .before .before .before .before .before .before .before .before .before .before .before .before .before .before .before .before .before in
     start .pre .1 .0
 
 unaries-put-tag-requires : (t : ℕ) → of-unaries unaries-lts.Need-put-tag-requires t
@@ -681,7 +682,7 @@ unaries-put-tag-requires t c κs =
     let at-consume-node = at-put-postfixes .before .before .before .before .before .before in
     let at-signs-end = at-consume-node .before .before .before in
     let at-get-node-tag = at-signs-end .before .before .before in
-    let start = at-get-node-tag .before .before .before .before .before .before .before .before in
+    let start = at-get-node-tag .before .before .before .before .before .before in
     let lent = start .pre .1 .0 in
     let room = start .pre .1 .1 .1 in
     (lent, tie-room _ _ _ _ _ _ _ _ room _ _ _ _ (at-get-node-tag .get-node-tag .ensures .1) (at-get-node-tag .get-node-tag .ensures .0) (at-signs-end .signs-end .ensures) _ _ _ (at-consume-node .consume-node .ensures) _ _ (at-put-postfixes .put-postfixes .ensures) _ (at-open-at .open-at .ensures) _ _ (at-put-signs .put-signs .ensures .0) (at-put-signs .put-signs .ensures .1) _ (at-head-at .head-at .ensures) (lent .short))
@@ -696,7 +697,7 @@ unaries-returns t c =
     let at-consume-node = at-put-postfixes .before .before .before .before .before .before in
     let at-signs-end = at-consume-node .before .before .before in
     let at-get-node-tag = at-signs-end .before .before .before in
-    let start = at-get-node-tag .before .before .before .before .before .before .before .before in
+    let start = at-get-node-tag .before .before .before .before .before .before in
     let room = start .pre .1 .1 .1 in
     let lent = start .pre .1 .0 in
     term-built _ _ _ _ _ _ _ _ room _ _ _ _ (at-get-node-tag .get-node-tag .ensures .1) (at-get-node-tag .get-node-tag .ensures .0) (at-signs-end .signs-end .ensures) _ _ _ (at-consume-node .consume-node .ensures) _ _ (at-put-postfixes .put-postfixes .ensures) _ (at-open-at .open-at .ensures) _ _ (at-put-signs .put-signs .ensures .0) (at-put-signs .put-signs .ensures .1) _ (at-head-at .head-at .ensures) (lent .short) _ _ (at-put-tag .put-tag .ensures)
@@ -768,7 +769,7 @@ pub +consume-expr+consume-node+unaries-spec : {M : Type 1} → statement M
     (consume-node-consume-expr-requires t)
     (consume-node-end-at-requires t)
     (consume-node-move-end-requires t)
-    (consume-node-add-t23 t)
+    (consume-node-add-t21 t)
     (consume-node-same-length t)
     (consume-node-same-length-2 t)
     (consume-node-returns t)
@@ -780,8 +781,8 @@ pub +consume-expr+consume-node+unaries-spec : {M : Type 1} → statement M
     (consume-node-consume-expr-requires-2 t)
     (consume-node-start-at-requires t)
     (consume-node-put-unary-requires t)
-    (consume-node-add-t35 t)
-    (consume-node-add-t36 t)
+    (consume-node-add-t33 t)
+    (consume-node-add-t34 t)
     (consume-node-same-length-3 t)
     (consume-node-same-length-4 t)
     (consume-node-returns-2 t)

@@ -3,10 +3,10 @@
 use Rattle.build.proofs.Parts.{string-long, insens-long}
 use native.Mathlib.Omega.{arith}
 use mathlib.Core.Path.{sym, _∙_}
-use Rattle.structure.proofs.Arrays.{sizes}
 use Rattle.structure.proofs.Steps.{sees, misses, inside-is}
 use Rattle.build.proofs.Leaves.{spelled-word, push-read, peek-read, peek-word, word-read, string-read, insens-read, ranged-read, room-same, built-same}
 use borrow.Author.Needs.{needs}
+use Rattle.token.proofs.Table.{sizes}
 use Rattle.build.proofs.inner.leaves.put_leaf.Statement.{statement}
 use Rattle.build.proofs.inner.leaves.put_leaf.Tie as tie
 
@@ -20,61 +20,61 @@ add-put-literal : tie.Need-add-put-literal
 add-put-literal c =
     let at-if1 = c .before .before in
     let at-spelled = at-if1 .before in
-    let start = at-spelled .before .before .before .before .before .before .before .before in
+    let start = at-spelled .before .before .before .before .before .before in
     let w = push-read _ _ _ (start .pre .1 .1) (sym (at-spelled .spelled .ensures) ∙ at-if1 .if1 .taken) .1 in
-    let n = sizes _ _ _ _ (start .pre .0) in
+    let n = sizes _ _ (start .pre .0) in
     omega arith
 
 add-put-literal-2 : tie.Need-add-put-literal-2
 add-put-literal-2 c =
     let at-if1 = c .before .before in
     let at-spelled = at-if1 .before in
-    let start = at-spelled .before .before .before .before .before .before .before .before in
+    let start = at-spelled .before .before .before .before .before .before in
     let w = push-read _ _ _ (start .pre .1 .1) (sym (at-spelled .spelled .ensures) ∙ at-if1 .if1 .taken) .1 in
-    let n = sizes _ _ _ _ (start .pre .0) in
+    let n = sizes _ _ (start .pre .0) in
     omega arith
 
 add-put-literal-3 : tie.Need-add-put-literal-3
 add-put-literal-3 c =
     let at-if1 = c .before .before in
     let at-spelled = at-if1 .before in
-    let start = at-spelled .before .before .before .before .before .before .before .before in
+    let start = at-spelled .before .before .before .before .before .before in
     let w = push-read _ _ _ (start .pre .1 .1) (sym (at-spelled .spelled .ensures) ∙ at-if1 .if1 .taken) .1 in
-    let n = sizes _ _ _ _ (start .pre .0) in
+    let n = sizes _ _ (start .pre .0) in
     omega arith
 
 add-put-literal-4 : tie.Need-add-put-literal-4
 add-put-literal-4 c =
     let at-if1 = c .before .before in
     let at-spelled = at-if1 .before in
-    let start = at-spelled .before .before .before .before .before .before .before .before in
+    let start = at-spelled .before .before .before .before .before .before in
     let w = push-read _ _ _ (start .pre .1 .1) (sym (at-spelled .spelled .ensures) ∙ at-if1 .if1 .taken) .1 in
-    let n = sizes _ _ _ _ (start .pre .0) in
+    let n = sizes _ _ (start .pre .0) in
     omega arith
 
 add-put-literal-5 : tie.Need-add-put-literal-5
 add-put-literal-5 c =
     let at-if1 = c .before .before in
     let at-spelled = at-if1 .before in
-    let start = at-spelled .before .before .before .before .before .before .before .before in
+    let start = at-spelled .before .before .before .before .before .before in
     let w = push-read _ _ _ (start .pre .1 .1) (sym (at-spelled .spelled .ensures) ∙ at-if1 .if1 .taken) .1 in
-    let n = sizes _ _ _ _ (start .pre .0) in
+    let n = sizes _ _ (start .pre .0) in
     omega arith
 
 add-put-literal-6 : tie.Need-add-put-literal-6
 add-put-literal-6 c =
     let at-if1 = c .before .before in
     let at-spelled = at-if1 .before in
-    let start = at-spelled .before .before .before .before .before .before .before .before in
+    let start = at-spelled .before .before .before .before .before .before in
     let w = push-read _ _ _ (start .pre .1 .1) (sym (at-spelled .spelled .ensures) ∙ at-if1 .if1 .taken) .1 in
-    let n = sizes _ _ _ _ (start .pre .0) in
+    let n = sizes _ _ (start .pre .0) in
     omega arith
 
 put-literal-requires : tie.Need-put-literal-requires
 put-literal-requires c κs =
     let at-if1 = c .before .before in
     let at-spelled = at-if1 .before in
-    let start = at-spelled .before .before .before .before .before .before .before .before in
+    let start = at-spelled .before .before .before .before .before .before in
     let lent = start .pre .0 in
     let room = start .pre .1 .1 in
     let pushed = push-read _ _ _ room (sym (at-spelled .spelled .ensures) ∙ at-if1 .if1 .taken) in
@@ -92,7 +92,7 @@ returns c =
     let at-put-literal = c .before .before .before .before in
     let at-if1 = at-put-literal .before .before .before in
     let at-spelled = at-if1 .before in
-    let start = at-spelled .before .before .before .before .before .before .before .before in
+    let start = at-spelled .before .before .before .before .before .before in
     built-same (push-read _ _ _ (start .pre .1 .1) (sym (at-spelled .spelled .ensures) ∙ at-if1 .if1 .taken) .2) (at-put-literal .put-literal .ensures)
 
 kind-at-requires : tie.Need-kind-at-requires
@@ -107,9 +107,9 @@ spelled-requires-2 c κs = search needs
 add-kind-at : tie.Need-add-kind-at
 add-kind-at c =
     let at-spelled2 = c .before in
-    let start = at-spelled2 .before .before .before .before .before .before .before .before .before .before .before .before in
+    let start = at-spelled2 .before .before .before .before .before .before .before .before .before .before in
     let w = inside-is _ _ 18 (omega arith) (spelled-word _ _ _ (sym (at-spelled2 .spelled2 .ensures) ∙ c .if2 .taken)) in
-    let n = sizes _ _ _ _ (start .pre .0) in
+    let n = sizes _ _ (start .pre .0) in
     omega arith
 
 kind-at-requires-2 : tie.Need-kind-at-requires-2
@@ -119,9 +119,9 @@ add-put-slice : tie.Need-add-put-slice
 add-put-slice c =
     let at-if2 = c .before .before .before .before in
     let at-spelled2 = at-if2 .before in
-    let start = at-spelled2 .before .before .before .before .before .before .before .before .before .before .before .before in
+    let start = at-spelled2 .before .before .before .before .before .before .before .before .before .before in
     let w = inside-is _ _ 18 (omega arith) (spelled-word _ _ _ (sym (at-spelled2 .spelled2 .ensures) ∙ at-if2 .if2 .taken)) in
-    let n = sizes _ _ _ _ (start .pre .0) in
+    let n = sizes _ _ (start .pre .0) in
     omega arith
 
 put-slice-requires : tie.Need-put-slice-requires
@@ -132,7 +132,7 @@ put-slice-requires c κs =
     let at-spelled2 = at-if2 .before in
     let at-if1 = at-spelled2 .before .before .before in
     let at-spelled = at-if1 .before in
-    let start = at-spelled .before .before .before .before .before .before .before .before in
+    let start = at-spelled .before .before .before .before .before .before in
     ((start .pre .0), room-same (peek-read _ _ _ (start .pre .1 .1) (sym (at-spelled .spelled .ensures) ∙ at-if1 .if1 .left) (sym (at-spelled2 .spelled2 .ensures) ∙ at-if2 .if2 .taken) (sees _ _ _ 4 (at-kind-at2 .kind-at2 .ensures) (at-if3 .if3 .taken))) (start .pre .1 .1))
 
 same-length-3 : tie.Need-same-length-3
@@ -150,7 +150,7 @@ returns-2 c =
     let at-spelled2 = at-if2 .before in
     let at-if1 = at-spelled2 .before .before .before in
     let at-spelled = at-if1 .before in
-    let start = at-spelled .before .before .before .before .before .before .before .before in
+    let start = at-spelled .before .before .before .before .before .before in
     built-same (peek-read _ _ _ (start .pre .1 .1) (sym (at-spelled .spelled .ensures) ∙ at-if1 .if1 .left) (sym (at-spelled2 .spelled2 .ensures) ∙ at-if2 .if2 .taken) (sees _ _ _ 4 (at-kind-at2 .kind-at2 .ensures) (at-if3 .if3 .taken))) (at-put-slice .put-slice .ensures)
 
 put-word-requires : tie.Need-put-word-requires
@@ -161,7 +161,7 @@ put-word-requires c κs =
     let at-spelled2 = at-if2 .before in
     let at-if1 = at-spelled2 .before .before .before in
     let at-spelled = at-if1 .before in
-    let start = at-spelled .before .before .before .before .before .before .before .before in
+    let start = at-spelled .before .before .before .before .before .before in
     ((start .pre .0), (peek-word _ _ _ (start .pre .1 .1) (sym (at-spelled .spelled .ensures) ∙ at-if1 .if1 .left) (sym (at-spelled2 .spelled2 .ensures) ∙ at-if2 .if2 .taken) (misses _ _ _ 4 (at-kind-at2 .kind-at2 .ensures) (at-if3 .if3 .left)) .0, room-same (peek-word _ _ _ (start .pre .1 .1) (sym (at-spelled .spelled .ensures) ∙ at-if1 .if1 .left) (sym (at-spelled2 .spelled2 .ensures) ∙ at-if2 .if2 .taken) (misses _ _ _ 4 (at-kind-at2 .kind-at2 .ensures) (at-if3 .if3 .left)) .1) (start .pre .1 .1)))
 
 same-length-5 : tie.Need-same-length-5
@@ -179,7 +179,7 @@ returns-3 c =
     let at-spelled2 = at-if2 .before in
     let at-if1 = at-spelled2 .before .before .before in
     let at-spelled = at-if1 .before in
-    let start = at-spelled .before .before .before .before .before .before .before .before in
+    let start = at-spelled .before .before .before .before .before .before in
     built-same (peek-word _ _ _ (start .pre .1 .1) (sym (at-spelled .spelled .ensures) ∙ at-if1 .if1 .left) (sym (at-spelled2 .spelled2 .ensures) ∙ at-if2 .if2 .taken) (misses _ _ _ 4 (at-kind-at2 .kind-at2 .ensures) (at-if3 .if3 .left)) .1) (at-put-word .put-word .ensures)
 
 put-word-requires-2 : tie.Need-put-word-requires-2
@@ -190,7 +190,7 @@ put-word-requires-2 c κs =
     let at-kind-at = at-spelled2 .before .before in
     let at-if1 = at-kind-at .before in
     let at-spelled = at-if1 .before in
-    let start = at-spelled .before .before .before .before .before .before .before .before in
+    let start = at-spelled .before .before .before .before .before .before in
     ((start .pre .0), (word-read _ _ _ (start .pre .1 .1) (sym (at-spelled .spelled .ensures) ∙ at-if1 .if1 .left) (sym (at-spelled2 .spelled2 .ensures) ∙ at-if2 .if2 .left) (sees _ _ _ 18 (at-kind-at .kind-at .ensures) (at-if4 .if4 .taken)) .0, room-same (word-read _ _ _ (start .pre .1 .1) (sym (at-spelled .spelled .ensures) ∙ at-if1 .if1 .left) (sym (at-spelled2 .spelled2 .ensures) ∙ at-if2 .if2 .left) (sees _ _ _ 18 (at-kind-at .kind-at .ensures) (at-if4 .if4 .taken)) .1) (start .pre .1 .1)))
 
 same-length-7 : tie.Need-same-length-7
@@ -208,7 +208,7 @@ returns-4 c =
     let at-kind-at = at-spelled2 .before .before in
     let at-if1 = at-kind-at .before in
     let at-spelled = at-if1 .before in
-    let start = at-spelled .before .before .before .before .before .before .before .before in
+    let start = at-spelled .before .before .before .before .before .before in
     built-same (word-read _ _ _ (start .pre .1 .1) (sym (at-spelled .spelled .ensures) ∙ at-if1 .if1 .left) (sym (at-spelled2 .spelled2 .ensures) ∙ at-if2 .if2 .left) (sees _ _ _ 18 (at-kind-at .kind-at .ensures) (at-if4 .if4 .taken)) .1) (at-put-word2 .put-word2 .ensures)
 
 add-put-literal-7 : tie.Need-add-put-literal-7
@@ -220,9 +220,9 @@ add-put-literal-7 c =
     let at-kind-at = at-spelled2 .before .before in
     let at-if1 = at-kind-at .before in
     let at-spelled = at-if1 .before in
-    let start = at-spelled .before .before .before .before .before .before .before .before in
+    let start = at-spelled .before .before .before .before .before .before in
     let w = string-read _ _ _ (start .pre .1 .1) (sym (at-spelled .spelled .ensures) ∙ at-if1 .if1 .left) (sym (at-spelled2 .spelled2 .ensures) ∙ at-if2 .if2 .left) (misses _ _ _ 18 (at-kind-at .kind-at .ensures) (at-if4 .if4 .left)) (sees _ _ _ 23 (at-kind-at .kind-at .ensures) (at-if5 .if5 .taken)) .0 in
-    let n = sizes _ _ _ _ (start .pre .0) in
+    let n = sizes _ _ (start .pre .0) in
     omega arith
 
 put-literal-requires-2 : tie.Need-put-literal-requires-2
@@ -234,7 +234,7 @@ put-literal-requires-2 c κs =
     let at-kind-at = at-spelled2 .before .before in
     let at-if1 = at-kind-at .before in
     let at-spelled = at-if1 .before in
-    let start = at-spelled .before .before .before .before .before .before .before .before in
+    let start = at-spelled .before .before .before .before .before .before in
     let lent = start .pre .0 in
     let quoted = sees _ _ _ 23 (at-kind-at .kind-at .ensures) (at-if5 .if5 .taken) in
     let scalars = start .pre .1 .0 in
@@ -261,7 +261,7 @@ returns-5 c =
     let at-kind-at = at-spelled2 .before .before in
     let at-if1 = at-kind-at .before in
     let at-spelled = at-if1 .before in
-    let start = at-spelled .before .before .before .before .before .before .before .before in
+    let start = at-spelled .before .before .before .before .before .before in
     built-same (string-read _ _ _ (start .pre .1 .1) (sym (at-spelled .spelled .ensures) ∙ at-if1 .if1 .left) (sym (at-spelled2 .spelled2 .ensures) ∙ at-if2 .if2 .left) (misses _ _ _ 18 (at-kind-at .kind-at .ensures) (at-if4 .if4 .left)) (sees _ _ _ 23 (at-kind-at .kind-at .ensures) (at-if5 .if5 .taken)) .1) (at-put-literal2 .put-literal2 .ensures)
 
 add-put-literal-8 : tie.Need-add-put-literal-8
@@ -274,9 +274,9 @@ add-put-literal-8 c =
     let at-kind-at = at-spelled2 .before .before in
     let at-if1 = at-kind-at .before in
     let at-spelled = at-if1 .before in
-    let start = at-spelled .before .before .before .before .before .before .before .before in
+    let start = at-spelled .before .before .before .before .before .before in
     let w = insens-read _ _ _ (start .pre .1 .1) (sym (at-spelled .spelled .ensures) ∙ at-if1 .if1 .left) (sym (at-spelled2 .spelled2 .ensures) ∙ at-if2 .if2 .left) (misses _ _ _ 18 (at-kind-at .kind-at .ensures) (at-if4 .if4 .left)) (misses _ _ _ 23 (at-kind-at .kind-at .ensures) (at-if5 .if5 .left)) (sees _ _ _ 24 (at-kind-at .kind-at .ensures) (at-if6 .if6 .taken)) .0 in
-    let n = sizes _ _ _ _ (start .pre .0) in
+    let n = sizes _ _ (start .pre .0) in
     omega arith
 
 put-literal-requires-3 : tie.Need-put-literal-requires-3
@@ -289,7 +289,7 @@ put-literal-requires-3 c κs =
     let at-kind-at = at-spelled2 .before .before in
     let at-if1 = at-kind-at .before in
     let at-spelled = at-if1 .before in
-    let start = at-spelled .before .before .before .before .before .before .before .before in
+    let start = at-spelled .before .before .before .before .before .before in
     let lent = start .pre .0 in
     let insens = sees _ _ _ 24 (at-kind-at .kind-at .ensures) (at-if6 .if6 .taken) in
     let scalars = start .pre .1 .0 in
@@ -318,7 +318,7 @@ returns-6 c =
     let at-kind-at = at-spelled2 .before .before in
     let at-if1 = at-kind-at .before in
     let at-spelled = at-if1 .before in
-    let start = at-spelled .before .before .before .before .before .before .before .before in
+    let start = at-spelled .before .before .before .before .before .before in
     built-same (insens-read _ _ _ (start .pre .1 .1) (sym (at-spelled .spelled .ensures) ∙ at-if1 .if1 .left) (sym (at-spelled2 .spelled2 .ensures) ∙ at-if2 .if2 .left) (misses _ _ _ 18 (at-kind-at .kind-at .ensures) (at-if4 .if4 .left)) (misses _ _ _ 23 (at-kind-at .kind-at .ensures) (at-if5 .if5 .left)) (sees _ _ _ 24 (at-kind-at .kind-at .ensures) (at-if6 .if6 .taken)) .1) (at-put-literal3 .put-literal3 .ensures)
 
 put-range-requires : tie.Need-put-range-requires
@@ -331,7 +331,7 @@ put-range-requires c κs =
     let at-kind-at = at-spelled2 .before .before in
     let at-if1 = at-kind-at .before in
     let at-spelled = at-if1 .before in
-    let start = at-spelled .before .before .before .before .before .before .before .before in
+    let start = at-spelled .before .before .before .before .before .before in
     ((start .pre .0), (ranged-read _ _ _ (start .pre .1 .1) (sym (at-spelled .spelled .ensures) ∙ at-if1 .if1 .left) (sym (at-spelled2 .spelled2 .ensures) ∙ at-if2 .if2 .left) (misses _ _ _ 18 (at-kind-at .kind-at .ensures) (at-if4 .if4 .left)) (misses _ _ _ 23 (at-kind-at .kind-at .ensures) (at-if5 .if5 .left)) (misses _ _ _ 24 (at-kind-at .kind-at .ensures) (at-if6 .if6 .left)) .0, room-same (ranged-read _ _ _ (start .pre .1 .1) (sym (at-spelled .spelled .ensures) ∙ at-if1 .if1 .left) (sym (at-spelled2 .spelled2 .ensures) ∙ at-if2 .if2 .left) (misses _ _ _ 18 (at-kind-at .kind-at .ensures) (at-if4 .if4 .left)) (misses _ _ _ 23 (at-kind-at .kind-at .ensures) (at-if5 .if5 .left)) (misses _ _ _ 24 (at-kind-at .kind-at .ensures) (at-if6 .if6 .left)) .1) (start .pre .1 .1)))
 
 same-length-13 : tie.Need-same-length-13
@@ -351,7 +351,7 @@ returns-7 c =
     let at-kind-at = at-spelled2 .before .before in
     let at-if1 = at-kind-at .before in
     let at-spelled = at-if1 .before in
-    let start = at-spelled .before .before .before .before .before .before .before .before in
+    let start = at-spelled .before .before .before .before .before .before in
     built-same (ranged-read _ _ _ (start .pre .1 .1) (sym (at-spelled .spelled .ensures) ∙ at-if1 .if1 .left) (sym (at-spelled2 .spelled2 .ensures) ∙ at-if2 .if2 .left) (misses _ _ _ 18 (at-kind-at .kind-at .ensures) (at-if4 .if4 .left)) (misses _ _ _ 23 (at-kind-at .kind-at .ensures) (at-if5 .if5 .left)) (misses _ _ _ 24 (at-kind-at .kind-at .ensures) (at-if6 .if6 .left)) .1) (at-put-range .put-range .ensures)
 
 pub put-leaf-spec : {M : Type 1} → statement M

@@ -20,7 +20,7 @@ add-put-string c =
     let at-opening-of = c .before in
     let at-end-at = at-opening-of .before in
     let at-start-at = at-end-at .before in
-    let start = at-start-at .before .before .before .before .before .before .before in
+    let start = at-start-at .before .before .before .before .before in
     let quotes = string-inside _ _ _ _ _ _ _ _ (start .pre .0 .short) (start .pre .1 .0) (start .pre .1 .1 .0) (start .pre .1 .1 .1) _ _ _ (at-start-at .start-at .ensures) (at-end-at .end-at .ensures) (at-opening-of .opening-of .ensures) in
     omega (arith, quotes)
 
@@ -29,7 +29,7 @@ sub-put-string c =
     let at-opening-of = c .before in
     let at-end-at = at-opening-of .before in
     let at-start-at = at-end-at .before in
-    let start = at-start-at .before .before .before .before .before .before .before in
+    let start = at-start-at .before .before .before .before .before in
     let p = string-inside _ _ _ _ _ _ _ _ (start .pre .0 .short) (start .pre .1 .0) (start .pre .1 .1 .0) (start .pre .1 .1 .1) _ _ _ (at-start-at .start-at .ensures) (at-end-at .end-at .ensures) (at-opening-of .opening-of .ensures) in
     omega arith
 
@@ -38,7 +38,7 @@ put-string-requires c κs =
     let at-opening-of = c .before in
     let at-end-at = at-opening-of .before in
     let at-start-at = at-end-at .before in
-    let start = at-start-at .before .before .before .before .before .before .before in
+    let start = at-start-at .before .before .before .before .before in
     let quotes = string-inside _ _ _ _ _ _ _ _ (start .pre .0 .short) (start .pre .1 .0) (start .pre .1 .1 .0) (start .pre .1 .1 .1) _ _ _ (at-start-at .start-at .ensures) (at-end-at .end-at .ensures) (at-opening-of .opening-of .ensures) in
     ((quotes .4, quotes .2), (string-good _ _ _ _ _ _ _ _ (start .pre .0 .short) (start .pre .1 .0) (start .pre .1 .1 .0) (start .pre .1 .1 .1) _ _ _ (at-start-at .start-at .ensures) (at-end-at .end-at .ensures) (at-opening-of .opening-of .ensures), string-room _ _ _ _ _ _ _ _ (start .pre .0 .short) (start .pre .1 .0) (start .pre .1 .1 .0) (start .pre .1 .1 .1) _ _ _ (at-start-at .start-at .ensures) (at-end-at .end-at .ensures) (at-opening-of .opening-of .ensures)))
 
@@ -48,7 +48,7 @@ sub-put-text c =
     let at-opening-of = at-put-string .before .before in
     let at-end-at = at-opening-of .before in
     let at-start-at = at-end-at .before in
-    let start = at-start-at .before .before .before .before .before .before .before in
+    let start = at-start-at .before .before .before .before .before in
     string-fits _ _ _ _ _ _ _ _ (start .pre .0 .short) (start .pre .1 .0) (start .pre .1 .1 .0) (start .pre .1 .1 .1) _ _ _ (at-start-at .start-at .ensures) (at-end-at .end-at .ensures) (at-opening-of .opening-of .ensures) _ _ (at-put-string .put-string .ensures) .0
 
 put-text-requires : tie.Need-put-text-requires
@@ -57,16 +57,16 @@ put-text-requires c κs =
     let at-opening-of = at-put-string .before .before in
     let at-end-at = at-opening-of .before in
     let at-start-at = at-end-at .before in
-    let start = at-start-at .before .before .before .before .before .before .before in
+    let start = at-start-at .before .before .before .before .before in
     string-fits _ _ _ _ _ _ _ _ (start .pre .0 .short) (start .pre .1 .0) (start .pre .1 .1 .0) (start .pre .1 .1 .1) _ _ _ (at-start-at .start-at .ensures) (at-end-at .end-at .ensures) (at-opening-of .opening-of .ensures) _ _ (at-put-string .put-string .ensures) .1
 
-add-t19 : tie.Need-add-t19
-add-t19 c =
+add-t17 : tie.Need-add-t17
+add-t17 c =
     let at-put-string = c .before .before .before .before .before .before in
     let at-opening-of = at-put-string .before .before in
     let at-end-at = at-opening-of .before in
     let at-start-at = at-end-at .before in
-    let start = at-start-at .before .before .before .before .before .before .before in
+    let start = at-start-at .before .before .before .before .before in
     let p = string-few _ _ _ _ _ _ _ _ (start .pre .0 .short) (start .pre .1 .0) (start .pre .1 .1 .0) (start .pre .1 .1 .1) _ _ _ (at-start-at .start-at .ensures) (at-end-at .end-at .ensures) (at-opening-of .opening-of .ensures) _ _ (at-put-string .put-string .ensures) in
     omega arith
 
@@ -83,7 +83,7 @@ returns c =
     let at-opening-of = at-put-string .before .before in
     let at-end-at = at-opening-of .before in
     let at-start-at = at-end-at .before in
-    let start = at-start-at .before .before .before .before .before .before .before in
+    let start = at-start-at .before .before .before .before .before in
     string-built _ _ _ _ _ _ _ _ (start .pre .0 .short) (start .pre .1 .0) (start .pre .1 .1 .0) (start .pre .1 .1 .1) _ _ _ (at-start-at .start-at .ensures) (at-end-at .end-at .ensures) (at-opening-of .opening-of .ensures) _ _ (at-put-string .put-string .ensures) _ (at-put-text .put-text .ensures)
 
 pub put-literal-spec : {M : Type 1} → statement M
@@ -98,7 +98,7 @@ put-literal-spec =
     put-string-requires
     sub-put-text
     put-text-requires
-    add-t19
+    add-t17
     same-length
     same-length-2
     returns)

@@ -5,23 +5,23 @@ use denote.Ref.{now}
 use lib.ListN.{length}
 use Prim.Native.Nat.{_-_}
 use native.Mathlib.Omega.{arith}
-use Rattle.structure.specs.Tokens.{toks}
+use Rattle.token.specs.Table.{toks}
 use Rattle.build.proofs.Loops.{PostsInv, posts-start, post-past, post-over, posts-more, posts-sound, posts-done}
 use Rattle.build.proofs.inner.loops.put_postfixes.Statement.{statement}
 use Rattle.build.proofs.inner.loops.put_postfixes.Tie as tie
 
 abbrev Inv-loop : tie.InvT-loop
-Inv-loop text kinds starts ends nodes₀ at used from to i₀ u₀ z₀ nodes i u z = PostsInv text nodes₀ at used from to nodes i u z
+Inv-loop text tokens nodes₀ at used from to i₀ u₀ z₀ nodes i u z = PostsInv text nodes₀ at used from to nodes i u z
 
 abbrev μ-loop : tie.MeasureT-loop
-μ-loop text kinds starts ends nodes₀ at used from to i₀ u₀ z₀ nodes i u z = length (toks text) - i
+μ-loop text tokens nodes₀ at used from to i₀ u₀ z₀ nodes i u z = length (toks text) - i
 
 loop-holds : tie.Need-loop-holds Inv-loop μ-loop
-loop-holds c = posts-start _ _ _ _ _ _ (c .before .before .before .before .before .pre .1 .stop)
+loop-holds c = posts-start _ _ _ _ _ _ (c .before .before .before .pre .1 .stop)
 
 suffix-at-requires : tie.Need-suffix-at-requires Inv-loop μ-loop
 suffix-at-requires c κs =
-    let start = c .before .before .before .before .before .before in
+    let start = c .before .before .before .before in
     (start .pre .0, posts-sound _ _ _ _ _ _ (start .pre .0 .short) (start .pre .1) _ _ _ _ (c .loop .inv))
 
 enum-known-suffix : tie.Need-enum-known-suffix Inv-loop μ-loop
@@ -32,13 +32,13 @@ sub-end-at c =
     let at-suffix = c .before in
     let at-suffix-at = at-suffix .before .before in
     let at-loop = at-suffix-at .before in
-    let start = at-loop .before .before .before .before .before .before in
+    let start = at-loop .before .before .before .before in
     let p = post-past (now (start .args .text)) (now (start .args .nodes)) (start .args .at) (start .args .used) (start .args .from) (start .args .to) (start .pre .0 .short) (start .pre .1) (at-loop .loop .nodes) (at-loop .loop .i) (at-loop .loop .u) (at-loop .loop .z) (at-loop .loop .inv) _ (at-suffix-at .suffix-at .ensures) _ _ (at-suffix .suffix .given .1) in
     omega arith
 
 end-at-requires : tie.Need-end-at-requires Inv-loop μ-loop
 end-at-requires c κs =
-    let start = c .before .before .before .before .before .before .before .before .before .before in
+    let start = c .before .before .before .before .before .before .before .before in
     start .pre .0
 
 put-unary-requires : tie.Need-put-unary-requires Inv-loop μ-loop
@@ -47,7 +47,7 @@ put-unary-requires c κs =
     let at-suffix = at-end-at .before .before in
     let at-suffix-at = at-suffix .before .before in
     let at-loop = at-suffix-at .before in
-    let start = at-loop .before .before .before .before .before .before in
+    let start = at-loop .before .before .before .before in
     post-over (now (start .args .text)) (now (start .args .nodes)) (start .args .at) (start .args .used) (start .args .from) (start .args .to) (start .pre .0 .short) (start .pre .1) (at-loop .loop .nodes) (at-loop .loop .i) (at-loop .loop .u) (at-loop .loop .z) (at-loop .loop .inv) _ (at-suffix-at .suffix-at .ensures) _ _ (at-suffix .suffix .given .1) _ (at-end-at .end-at .ensures)
 
 add-u : tie.Need-add-u Inv-loop μ-loop
@@ -56,7 +56,7 @@ add-u c =
     let at-suffix = at-end-at .before .before in
     let at-suffix-at = at-suffix .before .before in
     let at-loop = at-suffix-at .before in
-    let start = at-loop .before .before .before .before .before .before in
+    let start = at-loop .before .before .before .before in
     let o = post-over (now (start .args .text)) (now (start .args .nodes)) (start .args .at) (start .args .used) (start .args .from) (start .args .to) (start .pre .0 .short) (start .pre .1) (at-loop .loop .nodes) (at-loop .loop .i) (at-loop .loop .u) (at-loop .loop .z) (at-loop .loop .inv) _ (at-suffix-at .suffix-at .ensures) _ _ (at-suffix .suffix .given .1) _ (at-end-at .end-at .ensures) in
     let f = o .few in
     omega arith
@@ -66,7 +66,7 @@ loop-less c =
     let at-suffix = c .before .before .before .before .before .before in
     let at-suffix-at = at-suffix .before .before in
     let at-loop = at-suffix-at .before in
-    let start = at-loop .before .before .before .before .before .before in
+    let start = at-loop .before .before .before .before in
     let p = post-past (now (start .args .text)) (now (start .args .nodes)) (start .args .at) (start .args .used) (start .args .from) (start .args .to) (start .pre .0 .short) (start .pre .1) (at-loop .loop .nodes) (at-loop .loop .i) (at-loop .loop .u) (at-loop .loop .z) (at-loop .loop .inv) _ (at-suffix-at .suffix-at .ensures) _ _ (at-suffix .suffix .given .1) in
     omega arith
 
@@ -77,7 +77,7 @@ loop-again c =
     let at-suffix = at-end-at .before .before in
     let at-suffix-at = at-suffix .before .before in
     let at-loop = at-suffix-at .before in
-    let start = at-loop .before .before .before .before .before .before in
+    let start = at-loop .before .before .before .before in
     posts-more (now (start .args .text)) (now (start .args .nodes)) (start .args .at) (start .args .used) (start .args .from) (start .args .to) (start .pre .0 .short) (start .pre .1) (at-loop .loop .nodes) (at-loop .loop .i) (at-loop .loop .u) (at-loop .loop .z) (at-loop .loop .inv) _ (at-suffix-at .suffix-at .ensures) _ _ (at-suffix .suffix .given .1) _ _ (at-end-at .end-at .ensures) (at-put-unary .put-unary .ensures)
 
 enum-told : tie.Need-enum-told Inv-loop μ-loop
@@ -90,7 +90,7 @@ returns : tie.Need-returns Inv-loop μ-loop
 returns c =
     let at-suffix-at = c .before .before in
     let at-loop = at-suffix-at .before in
-    let start = at-loop .before .before .before .before .before .before in
+    let start = at-loop .before .before .before .before in
     posts-done (now (start .args .text)) (now (start .args .nodes)) (start .args .at) (start .args .used) (start .args .from) (start .args .to) (start .pre .0 .short) (start .pre .1) (at-loop .loop .nodes) (at-loop .loop .i) (at-loop .loop .u) (at-loop .loop .z) (at-loop .loop .inv) _ (at-suffix-at .suffix-at .ensures) (c .enum-told .given .1)
 
 pub put-postfixes-spec : {M : Type 1} → statement M

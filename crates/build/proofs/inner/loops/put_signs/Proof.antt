@@ -8,29 +8,29 @@ use Rattle.build.proofs.inner.loops.put_signs.Statement.{statement}
 use Rattle.build.proofs.inner.loops.put_signs.Tie as tie
 
 abbrev Inv-loop : tie.InvT-loop
-Inv-loop text kinds starts ends nodes₀ at last used z i₀ u₀ nodes i u = SignsInv text nodes₀ at last z used nodes i u
+Inv-loop text tokens nodes₀ at last used z i₀ u₀ nodes i u = SignsInv text nodes₀ at last z used nodes i u
 
 abbrev μ-loop : tie.MeasureT-loop
-μ-loop text kinds starts ends nodes₀ at last used z i₀ u₀ nodes i u = i - at
+μ-loop text tokens nodes₀ at last used z i₀ u₀ nodes i u = i - at
 
 loop-holds : tie.Need-loop-holds Inv-loop μ-loop
-loop-holds c = signs-start _ _ _ _ _ _ (c .before .before .before .before .before .pre .1)
+loop-holds c = signs-start _ _ _ _ _ _ (c .before .before .before .pre .1)
 
 sub-i : tie.Need-sub-i Inv-loop μ-loop
 sub-i c = omega arith
 
 start-at-requires : tie.Need-start-at-requires Inv-loop μ-loop
-start-at-requires c κs = c .before .before .before .before .before .before .before .pre .0
+start-at-requires c κs = c .before .before .before .before .before .pre .0
 
 sign-at-requires : tie.Need-sign-at-requires Inv-loop μ-loop
-sign-at-requires c κs = c .before .before .before .before .before .before .before .before .before .pre .0
+sign-at-requires c κs = c .before .before .before .before .before .before .before .pre .0
 
 put-unary-requires : tie.Need-put-unary-requires Inv-loop μ-loop
 put-unary-requires c κs =
     let at-start-at = c .before .before in
     let at-loop-test = at-start-at .before in
     let at-loop = at-loop-test .before in
-    let start = at-loop .before .before .before .before .before .before in
+    let start = at-loop .before .before .before .before in
     signs-over (now (start .args .text)) (now (start .args .nodes)) (start .args .at) (start .args .last) (start .args .z) (start .args .used) (start .pre .0 .short) (start .pre .1) (at-loop .loop .nodes) (at-loop .loop .i) (at-loop .loop .u) (at-loop .loop .inv) (at-loop-test .loop-test .taken) _ (at-start-at .start-at .ensures)
 
 add-u : tie.Need-add-u Inv-loop μ-loop
@@ -38,7 +38,7 @@ add-u c =
     let at-start-at = c .before .before .before .before .before in
     let at-loop-test = at-start-at .before in
     let at-loop = at-loop-test .before in
-    let start = at-loop .before .before .before .before .before .before in
+    let start = at-loop .before .before .before .before in
     let o = signs-over (now (start .args .text)) (now (start .args .nodes)) (start .args .at) (start .args .last) (start .args .z) (start .args .used) (start .pre .0 .short) (start .pre .1) (at-loop .loop .nodes) (at-loop .loop .i) (at-loop .loop .u) (at-loop .loop .inv) (at-loop-test .loop-test .taken) _ (at-start-at .start-at .ensures) in
     let f = o .few in
     omega arith
@@ -53,7 +53,7 @@ loop-again c =
     let at-start-at = at-sign-at .before .before in
     let at-loop-test = at-start-at .before in
     let at-loop = at-loop-test .before in
-    let start = at-loop .before .before .before .before .before .before in
+    let start = at-loop .before .before .before .before in
     signs-more (now (start .args .text)) (now (start .args .nodes)) (start .args .at) (start .args .last) (start .args .z) (start .args .used) (start .pre .0 .short) (start .pre .1) (at-loop .loop .nodes) (at-loop .loop .i) (at-loop .loop .u) (at-loop .loop .inv) (at-loop-test .loop-test .taken) _ _ _ (at-start-at .start-at .ensures) (at-sign-at .sign-at .ensures) (at-put-unary .put-unary .ensures)
 
 same-length : tie.Need-same-length Inv-loop μ-loop

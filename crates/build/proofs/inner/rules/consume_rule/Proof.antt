@@ -17,18 +17,18 @@ put-bytes-requires : tie.Need-put-bytes-requires
 put-bytes-requires c κs =
     let at-end-at = c .before in
     let at-start-at = at-end-at .before in
-    let start = at-start-at .before .before .before .before .before .before .before .before in
+    let start = at-start-at .before .before .before .before .before .before in
     (name-inside _ _ _ _ _ _ _ _ _ (start .pre .0 .short) (start .pre .1 .1) _ _ (at-start-at .start-at .ensures) (at-end-at .end-at .ensures), name-room _ _ _ _ _ _ _ _ _ (start .pre .0 .short) (start .pre .1 .1) _ _ (at-start-at .start-at .ensures) (at-end-at .end-at .ensures))
 
 add-mark-at : tie.Need-add-mark-at
 add-mark-at c =
-    let start = c .before .before .before .before .before .before .before .before .before .before .before .before .before in
+    let start = c .before .before .before .before .before .before .before .before .before .before .before in
     let p = rule-inside _ _ _ _ _ _ _ _ _ (start .pre .0 .short) (start .pre .1 .1) in
     omega arith
 
 add-mark-at-2 : tie.Need-add-mark-at-2
 add-mark-at-2 c =
-    let start = c .before .before .before .before .before .before .before .before .before .before .before .before .before in
+    let start = c .before .before .before .before .before .before .before .before .before .before .before in
     let p = rule-inside _ _ _ _ _ _ _ _ _ (start .pre .0 .short) (start .pre .1 .1) in
     omega arith
 
@@ -37,13 +37,13 @@ mark-at-requires c κs = search needs
 
 add-past-mark : tie.Need-add-past-mark
 add-past-mark c =
-    let start = c .before .before .before .before .before .before .before .before .before .before .before .before .before .before in
+    let start = c .before .before .before .before .before .before .before .before .before .before .before .before in
     let p = rule-inside _ _ _ _ _ _ _ _ _ (start .pre .0 .short) (start .pre .1 .1) in
     omega arith
 
 add-past-mark-2 : tie.Need-add-past-mark-2
 add-past-mark-2 c =
-    let start = c .before .before .before .before .before .before .before .before .before .before .before .before .before .before in
+    let start = c .before .before .before .before .before .before .before .before .before .before .before .before in
     let p = rule-inside _ _ _ _ _ _ _ _ _ (start .pre .0 .short) (start .pre .1 .1) in
     omega arith
 
@@ -52,7 +52,7 @@ past-mark-requires c κs = search needs
 
 add-past-bar : tie.Need-add-past-bar
 add-past-bar c =
-    let start = c .before .before .before .before .before .before .before .before .before .before .before .before .before .before .before in
+    let start = c .before .before .before .before .before .before .before .before .before .before .before .before .before in
     let p = rule-inside _ _ _ _ _ _ _ _ _ (start .pre .0 .short) (start .pre .1 .1) in
     let m = mark-near _ _ _ (c .past-mark .ensures) in
     omega arith
@@ -68,14 +68,14 @@ consume-expr-requires c κs =
     let at-put-bytes = at-mark-at .before .before .before in
     let at-end-at = at-put-bytes .before .before in
     let at-start-at = at-end-at .before in
-    let start = at-start-at .before .before .before .before .before .before .before .before in
+    let start = at-start-at .before .before .before .before .before .before in
     (start .pre .0, (start .pre .1 .0, body-room _ _ _ _ _ _ _ _ _ (start .pre .0 .short) (start .pre .1 .1) _ _ (at-start-at .start-at .ensures) (at-end-at .end-at .ensures) _ _ (at-put-bytes .put-bytes .ensures) _ (at-mark-at .mark-at .ensures) _ (at-past-mark .past-mark .ensures) _ (at-past-bar .past-bar .ensures)))
 
 sub-put-rule : tie.Need-sub-put-rule
 sub-put-rule c =
     let at-end-at = c .before .before .before .before .before .before .before .before .before .before .before .before .before .before .before in
     let at-start-at = at-end-at .before in
-    let start = at-start-at .before .before .before .before .before .before .before .before in
+    let start = at-start-at .before .before .before .before .before .before in
     let p = name-inside _ _ _ _ _ _ _ _ _ (start .pre .0 .short) (start .pre .1 .1) _ _ (at-start-at .start-at .ensures) (at-end-at .end-at .ensures) in
     omega arith
 
@@ -91,11 +91,11 @@ put-rule-requires c κs =
     let at-put-bytes = at-mark-at .before .before .before in
     let at-end-at = at-put-bytes .before .before in
     let at-start-at = at-end-at .before in
-    let start = at-start-at .before .before .before .before .before .before .before .before in
+    let start = at-start-at .before .before .before .before .before .before in
     rule-fits _ _ _ _ _ _ _ _ _ (start .pre .0 .short) (start .pre .1 .1) _ _ (at-start-at .start-at .ensures) (at-end-at .end-at .ensures) _ _ (at-put-bytes .put-bytes .ensures) _ (at-mark-at .mark-at .ensures) _ (at-past-mark .past-mark .ensures) _ (at-past-bar .past-bar .ensures) _ _ _ (at-consume-expr .consume-expr .ensures)
 
-add-t23 : tie.Need-add-t23
-add-t23 c =
+add-t21 : tie.Need-add-t21
+add-t21 c =
     let at-consume-expr = c .before .before .before .before .before .before .before .before .before .before in
     let at-past-bar = at-consume-expr .before .before .before in
     let at-past-mark = at-past-bar .before in
@@ -103,7 +103,7 @@ add-t23 c =
     let at-put-bytes = at-mark-at .before .before .before in
     let at-end-at = at-put-bytes .before .before in
     let at-start-at = at-end-at .before in
-    let start = at-start-at .before .before .before .before .before .before .before .before in
+    let start = at-start-at .before .before .before .before .before .before in
     let p = past-inside _ _ _ _ _ _ _ _ _ (start .pre .0 .short) (start .pre .1 .1) _ _ (at-start-at .start-at .ensures) (at-end-at .end-at .ensures) _ _ (at-put-bytes .put-bytes .ensures) _ (at-mark-at .mark-at .ensures) _ (at-past-mark .past-mark .ensures) _ (at-past-bar .past-bar .ensures) _ _ _ (at-consume-expr .consume-expr .ensures) in
     omega arith
 
@@ -126,7 +126,7 @@ returns c =
     let at-put-bytes = at-mark-at .before .before .before in
     let at-end-at = at-put-bytes .before .before in
     let at-start-at = at-end-at .before in
-    let start = at-start-at .before .before .before .before .before .before .before .before in
+    let start = at-start-at .before .before .before .before .before .before in
     rule-built _ _ _ _ _ _ _ _ _ (start .pre .0 .short) (start .pre .1 .1) _ _ (at-start-at .start-at .ensures) (at-end-at .end-at .ensures) _ _ (at-put-bytes .put-bytes .ensures) _ (at-mark-at .mark-at .ensures) _ (at-past-mark .past-mark .ensures) _ (at-past-bar .past-bar .ensures) _ _ _ (at-consume-expr .consume-expr .ensures) _ (at-put-rule .put-rule .ensures)
 
 pub consume-rule-spec : {M : Type 1} → statement M
@@ -148,7 +148,7 @@ consume-rule-spec =
     sub-put-rule
     sub-put-rule-2
     put-rule-requires
-    add-t23
+    add-t21
     same-length
     same-length-2
     same-length-3

@@ -2,48 +2,51 @@
 -- A doc comment takes one token (`rules-doc-more`), a rule one at least (`rules-more`): the tokens left fall. At the end no rule is left (`rules-done`).
 use Rattle.build.proofs.Rules.{RulesInv, rules-start, rules-done, rules-doc-more, rules-room, rules-more}
 use Rattle.build.specs.Rules.{rulesOf}
-use Rattle.structure.proofs.Arrays.{sizes}
-use Rattle.structure.specs.Tokens.{toks}
 use native.Mathlib.Omega.{arith}
 use lib.ListN.{length}
 use Prim.Native.Nat.{_-_}
+use Rattle.token.specs.Table.{toks}
+use Rattle.token.proofs.Table.{sizes}
 use Rattle.build.proofs.inner.rules.consume_rules_with_spans.Statement.{statement}
 use Rattle.build.proofs.inner.rules.consume_rules_with_spans.Tie as tie
 
 abbrev Inv-loop : tie.InvT-loop
-Inv-loop text kinds starts ends nodes₀ rules₀ store₀ level i₀ index₀ used₀ free₀ nodes rules store i index used free = RulesInv level text (rulesOf level text) nodes₀ rules₀ store₀ i index used free nodes rules store
+Inv-loop text tokens nodes₀ rules₀ store₀ level n i₀ index₀ used₀ free₀ nodes rules store i index used free = RulesInv level text (rulesOf level text) nodes₀ rules₀ store₀ i index used free nodes rules store
 
 abbrev μ-loop : tie.MeasureT-loop
-μ-loop text kinds starts ends nodes₀ rules₀ store₀ level i₀ index₀ used₀ free₀ nodes rules store i index used free = length (toks text) - i
+μ-loop text tokens nodes₀ rules₀ store₀ level n i₀ index₀ used₀ free₀ nodes rules store i index used free = length (toks text) - i
+
+token-count-requires : tie.Need-token-count-requires Inv-loop μ-loop
+token-count-requires c κs =
+    let start = c .before .before .before .before .before in
+    start .pre .0
 
 docs-end-requires : tie.Need-docs-end-requires Inv-loop μ-loop
 docs-end-requires c κs =
-    let start = c .before .before .before .before .before .before .before in
+    let start = c .before .before .before .before .before .before in
     start .pre .0
 
 loop-holds : tie.Need-loop-holds Inv-loop μ-loop
 loop-holds c =
-    let start = c .before .before .before .before .before .before .before .before in
+    let start = c .before .before .before .before .before .before .before in
     rules-start _ _ _ _ _ _ _ (c .docs-end .ensures) (start .pre .1 .1 .read)
 
 kind-at-requires : tie.Need-kind-at-requires Inv-loop μ-loop
 kind-at-requires c κs =
-    let start = c .before .before .before .before .before .before .before .before .before .before in
+    let start = c .before .before .before .before .before .before .before .before .before in
     start .pre .0
 
 add-i : tie.Need-add-i Inv-loop μ-loop
 add-i c =
     let at-loop-test = c .before .before in
-    let start = at-loop-test .before .before .before .before .before .before .before .before .before .before in
-    let z = sizes _ _ _ _ (start .pre .0) in
+    let z = at-loop-test .before .before .before .token-count .ensures in
     let h = at-loop-test .loop-test .taken in
     omega arith
 
 loop-less : tie.Need-loop-less Inv-loop μ-loop
 loop-less c =
     let at-loop-test = c .before .before in
-    let start = at-loop-test .before .before .before .before .before .before .before .before .before .before in
-    let z = sizes _ _ _ _ (start .pre .0) in
+    let z = at-loop-test .before .before .before .token-count .ensures in
     let h = at-loop-test .loop-test .taken in
     omega arith
 
@@ -52,8 +55,7 @@ loop-again c =
     let at-kind-at = c .before in
     let at-loop-test = at-kind-at .before in
     let at-loop = at-loop-test .before in
-    let start = at-loop .before .before .before .before .before .before .before .before .before in
-    let z = sizes _ _ _ _ (start .pre .0) in
+    let z = at-loop .before .before .token-count .ensures in
     let h = at-loop-test .loop-test .taken in
     rules-doc-more _ _ _ _ _ _ _ _ _ _ _ _ _ (at-loop .loop .inv) (omega arith) _ (at-kind-at .kind-at .ensures) (c .if1 .taken)
 
@@ -63,16 +65,16 @@ consume-rule-requires c κs =
     let at-kind-at = at-if1 .before in
     let at-loop-test = at-kind-at .before in
     let at-loop = at-loop-test .before in
-    let start = at-loop .before .before .before .before .before .before .before .before .before in
-    let z = sizes _ _ _ _ (start .pre .0) in
+    let start = at-loop .before .before .before .before .before .before .before .before in
+    let z = at-loop .before .before .token-count .ensures in
     let h = at-loop-test .loop-test .taken in
     (start .pre .0, (start .pre .1 .0, rules-room _ _ _ _ _ _ _ _ _ _ _ _ _ (at-loop .loop .inv) (omega arith) _ (at-kind-at .kind-at .ensures) (at-if1 .if1 .left) (start .pre .1 .1)))
 
 add-index : tie.Need-add-index Inv-loop μ-loop
 add-index c =
     let at-loop = c .before .before .before .before .before .before .before .before .before .before .before .before .before in
-    let start = at-loop .before .before .before .before .before .before .before .before .before in
-    let z = sizes _ _ _ _ (start .pre .0) in
+    let start = at-loop .before .before .before .before .before .before .before .before in
+    let z = sizes _ _ (start .pre .0) in
     let v = at-loop .loop .inv in
     let a = v .few in
     let b = v .within in
@@ -85,8 +87,8 @@ loop-less-2 c =
     let at-kind-at = at-if1 .before in
     let at-loop-test = at-kind-at .before in
     let at-loop = at-loop-test .before in
-    let start = at-loop .before .before .before .before .before .before .before .before .before in
-    let z = sizes _ _ _ _ (start .pre .0) in
+    let start = at-loop .before .before .before .before .before .before .before .before in
+    let z = at-loop .before .before .token-count .ensures in
     let h = at-loop-test .loop-test .taken in
     let m = rules-more _ _ _ _ _ _ _ _ _ _ _ _ _ (at-loop .loop .inv) (omega arith) _ (at-kind-at .kind-at .ensures) (at-if1 .if1 .left) (start .pre .0 .short) _ _ _ _ (at-consume-rule .consume-rule .ensures) in
     let a = m .0 in
@@ -100,8 +102,8 @@ loop-again-2 c =
     let at-kind-at = at-if1 .before in
     let at-loop-test = at-kind-at .before in
     let at-loop = at-loop-test .before in
-    let start = at-loop .before .before .before .before .before .before .before .before .before in
-    let z = sizes _ _ _ _ (start .pre .0) in
+    let start = at-loop .before .before .before .before .before .before .before .before in
+    let z = at-loop .before .before .token-count .ensures in
     let h = at-loop-test .loop-test .taken in
     rules-more _ _ _ _ _ _ _ _ _ _ _ _ _ (at-loop .loop .inv) (omega arith) _ (at-kind-at .kind-at .ensures) (at-if1 .if1 .left) (start .pre .0 .short) _ _ _ _ (at-consume-rule .consume-rule .ensures) .1
 
@@ -117,8 +119,8 @@ same-length-3 c = c .before .loop .inv .long .2
 returns : tie.Need-returns Inv-loop μ-loop
 returns c =
     let at-loop = c .before in
-    let start = at-loop .before .before .before .before .before .before .before .before .before in
-    let z = sizes _ _ _ _ (start .pre .0) in
+    let start = at-loop .before .before .before .before .before .before .before .before in
+    let z = at-loop .before .before .token-count .ensures in
     let h = c .loop-test .left in
     rules-done _ _ _ _ _ _ _ _ _ _ _ _ _ (at-loop .loop .inv) (omega arith) (start .pre .1 .1)
 
@@ -128,6 +130,7 @@ consume-rules-with-spans-spec =
     (tie.spec
     Inv-loop
     μ-loop
+    token-count-requires
     docs-end-requires
     loop-holds
     kind-at-requires

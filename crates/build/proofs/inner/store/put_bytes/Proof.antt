@@ -1,5 +1,5 @@
-use Rattle.structure.specs.Tokens.{part}
 use borrow.Author.Needs.{needs}
+use Rattle.token.specs.Table.{part}
 use Rattle.build.proofs.inner.store.put_bytes.Statement.{statement}
 use Rattle.build.proofs.inner.store.put_bytes.Tie as tie
 

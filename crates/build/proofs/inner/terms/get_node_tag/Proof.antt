@@ -1,9 +1,9 @@
 -- Three returns: no tag stands here (`no-tag`), a tag that plain drops (`plain-tag`), a tag whose bytes behind the `#` go into the store (`tagged-tag`).
 -- A tag is a token of the list, which has 65536 at most, so that two further on is no overflow (`tag-inside`).
 use native.Mathlib.Omega.{arith}
-use Rattle.structure.proofs.Arrays.{sizes}
 use Rattle.build.proofs.Terms.{no-tag, tag-inside, plain-tag, tag-bytes, tagged-tag}
 use borrow.Author.Needs.{needs}
+use Rattle.token.proofs.Table.{sizes}
 use Rattle.build.proofs.inner.terms.get_node_tag.Statement.{statement}
 use Rattle.build.proofs.inner.terms.get_node_tag.Tie as tie
 
@@ -11,7 +11,7 @@ kind-at-requires : tie.Need-kind-at-requires
 kind-at-requires c κs = search needs
 
 returns : tie.Need-returns
-returns c = no-tag _ _ _ _ _ (c .before .kind-at .ensures) (c .before .before .before .before .before .before .before .args .level) (c .if1 .taken)
+returns c = no-tag _ _ _ _ _ (c .before .kind-at .ensures) (c .before .before .before .before .before .args .level) (c .if1 .taken)
 
 enum-told : tie.Need-enum-told
 enum-told c = search needs
@@ -23,7 +23,7 @@ add-a : tie.Need-add-a
 add-a c =
     let at-if1 = c .before .before .before in
     let at-kind-at = at-if1 .before in
-    let start = at-kind-at .before .before .before .before .before .before in
+    let start = at-kind-at .before .before .before .before in
     let t = tag-inside (start .args .text .now) (start .args .store .now) (start .args .at) (start .args .free) _ (at-kind-at .kind-at .ensures) (at-if1 .if1 .left) in
     let h = start .pre .0 .short in
     let e = c .start-at .ensures in
@@ -39,46 +39,46 @@ put-bytes-requires c κs =
     let at-enum-told = at-start-at .before in
     let at-if1 = at-enum-told .before .before in
     let at-kind-at = at-if1 .before in
-    let start = at-kind-at .before .before .before .before .before .before in
+    let start = at-kind-at .before .before .before .before in
     tag-bytes _ _ _ _ _ (at-kind-at .kind-at .ensures) (at-if1 .if1 .left) _ _ (at-start-at .start-at .ensures) (at-end-at .end-at .ensures) (at-enum-told .enum-told .given .1) (start .pre .1)
 
-add-t15 : tie.Need-add-t15
-add-t15 c =
+add-t13 : tie.Need-add-t13
+add-t13 c =
     let at-if1 = c .before .before .before .before .before .before .before .before in
     let at-kind-at = at-if1 .before in
-    let start = at-kind-at .before .before .before .before .before .before in
+    let start = at-kind-at .before .before .before .before in
     let t = tag-inside (start .args .text .now) (start .args .store .now) (start .args .at) (start .args .free) _ (at-kind-at .kind-at .ensures) (at-if1 .if1 .left) in
-    let n = sizes _ _ _ _ (start .pre .0) in
+    let n = sizes _ _ (start .pre .0) in
     omega arith
 
-add-t18 : tie.Need-add-t18
-add-t18 c =
+add-t16 : tie.Need-add-t16
+add-t16 c =
     let at-if1 = c .before .before .before .before .before .before .before .before in
     let at-kind-at = at-if1 .before in
-    let start = at-kind-at .before .before .before .before .before .before in
+    let start = at-kind-at .before .before .before .before in
     let t = tag-inside (start .args .text .now) (start .args .store .now) (start .args .at) (start .args .free) _ (at-kind-at .kind-at .ensures) (at-if1 .if1 .left) in
-    let n = sizes _ _ _ _ (start .pre .0) in
+    let n = sizes _ _ (start .pre .0) in
     omega arith
 
 enum-told-2 : tie.Need-enum-told-2
 enum-told-2 c = search needs
 
-add-t19 : tie.Need-add-t19
-add-t19 c =
+add-t17 : tie.Need-add-t17
+add-t17 c =
     let at-if1 = c .before .before in
     let at-kind-at = at-if1 .before in
-    let start = at-kind-at .before .before .before .before .before .before in
+    let start = at-kind-at .before .before .before .before in
     let t = tag-inside (start .args .text .now) (start .args .store .now) (start .args .at) (start .args .free) _ (at-kind-at .kind-at .ensures) (at-if1 .if1 .left) in
-    let n = sizes _ _ _ _ (start .pre .0) in
+    let n = sizes _ _ (start .pre .0) in
     omega arith
 
-add-t20 : tie.Need-add-t20
-add-t20 c =
+add-t18 : tie.Need-add-t18
+add-t18 c =
     let at-if1 = c .before .before in
     let at-kind-at = at-if1 .before in
-    let start = at-kind-at .before .before .before .before .before .before in
+    let start = at-kind-at .before .before .before .before in
     let t = tag-inside (start .args .text .now) (start .args .store .now) (start .args .at) (start .args .free) _ (at-kind-at .kind-at .ensures) (at-if1 .if1 .left) in
-    let n = sizes _ _ _ _ (start .pre .0) in
+    let n = sizes _ _ (start .pre .0) in
     omega arith
 
 same-length : tie.Need-same-length
@@ -108,11 +108,11 @@ get-node-tag-spec =
     add-a
     end-at-requires
     put-bytes-requires
-    add-t15
-    add-t18
+    add-t13
+    add-t16
     enum-told-2
-    add-t19
-    add-t20
+    add-t17
+    add-t18
     same-length
     returns-2
     returns-3)

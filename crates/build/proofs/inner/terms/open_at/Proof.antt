@@ -1,9 +1,9 @@
 -- Where a bracket opened the node, its start is moved there (`opened-yes`); otherwise nothing is to be done (`opened-no`).
 -- A start lies in a text of 65536 bytes at most, so that it fits 32 bits.
 use native.Mathlib.Omega.{arith}
-use Rattle.structure.proofs.Arrays.{low}
 use Rattle.build.proofs.Terms.{opened-yes, opened-no}
 use borrow.Author.Needs.{needs}
+use Rattle.token.proofs.Table.{low}
 use Rattle.build.proofs.inner.terms.open_at.Statement.{statement}
 use Rattle.build.proofs.inner.terms.open_at.Tie as tie
 
@@ -16,7 +16,7 @@ start-at-requires c κs = search needs
 move-start-requires : tie.Need-move-start-requires
 move-start-requires c κs =
     let at-start-at = c .before in
-    let start = at-start-at .before .before .before .before .before .before .before .before in
+    let start = at-start-at .before .before .before .before .before .before in
     let l = low (start .args .text .now) (start .args .at) in
     let h = start .pre .0 .short in
     let e = at-start-at .start-at .ensures in

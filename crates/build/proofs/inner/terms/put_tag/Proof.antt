@@ -30,17 +30,17 @@ put-tag-requires c κs =
     let at-enum-told2 = at-start-at .before in
     let at-if1 = at-enum-told2 .before .before in
     let at-kind-at = at-if1 .before in
-    let start = at-kind-at .before .before .before .before .before .before in
+    let start = at-kind-at .before .before .before .before in
     let f = tag-fits _ _ _ _ _ _ _ (at-kind-at .kind-at .ensures) (at-if1 .if1 .left) (start .pre .0 .short) _ (at-start-at .start-at .ensures) (at-enum-told2 .enum-told2 .given .1) (start .pre .1) in
     (f .0, f .1)
 
-add-t19 : tie.Need-add-t19
-add-t19 c =
+add-t17 : tie.Need-add-t17
+add-t17 c =
     let at-start-at = c .before .before .before .before in
     let at-enum-told2 = at-start-at .before in
     let at-if1 = at-enum-told2 .before .before in
     let at-kind-at = at-if1 .before in
-    let start = at-kind-at .before .before .before .before .before .before in
+    let start = at-kind-at .before .before .before .before in
     let f = tag-fits _ _ _ _ _ _ _ (at-kind-at .kind-at .ensures) (at-if1 .if1 .left) (start .pre .0 .short) _ (at-start-at .start-at .ensures) (at-enum-told2 .enum-told2 .given .1) (start .pre .1) .2 in
     omega arith
 
@@ -57,7 +57,7 @@ returns-3 c =
     let at-enum-told2 = at-start-at .before in
     let at-if1 = at-enum-told2 .before .before in
     let at-kind-at = at-if1 .before in
-    let start = at-kind-at .before .before .before .before .before .before in
+    let start = at-kind-at .before .before .before .before in
     tie-tagged _ _ _ _ _ _ _ (at-kind-at .kind-at .ensures) (at-if1 .if1 .left) (start .pre .0 .short) _ (at-start-at .start-at .ensures) (at-enum-told2 .enum-told2 .given .1) _ (at-put-tag .put-tag .ensures)
 
 pub put-tag-spec : {M : Type 1} → statement M
@@ -71,7 +71,7 @@ put-tag-spec =
     start-at-requires
     sub-put-tag
     put-tag-requires
-    add-t19
+    add-t17
     returns-2
     same-length
     returns-3)

@@ -1,5 +1,5 @@
-use Rattle.structure.proofs.Arrays.{opens-two, opens-one}
 use borrow.Author.Needs.{needs}
+use Rattle.structure.proofs.Bytes.{opens-two, opens-one}
 use Rattle.build.proofs.inner.values.opening_of.Statement.{statement}
 use Rattle.build.proofs.inner.values.opening_of.Tie as tie
 

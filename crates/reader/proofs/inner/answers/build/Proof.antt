@@ -23,7 +23,7 @@ consume-rules-with-spans-requires c κs =
     let at-judge = at-enum-told .before .before in
     let at-whole2 = at-judge .before in
     let at-whole = at-whole2 .before in
-    let start = at-whole .before .before .before .before .before .before .before .before in
+    let start = at-whole .before .before .before .before .before .before in
     let g = build-room _ _ _ _ _ _ _ _ (at-judge .judge .ensures) (at-whole .whole .ensures) (at-whole2 .whole2 .ensures) (at-enum-told .enum-told .given .1) (start .pre .short) in
     (start .pre, (g .0, g .1))
 

@@ -1,4 +1,4 @@
--- Three arrays of the same length, 16384, are the space that `work` asks for; what `work` ensures for that length is handed on.
+-- A table of 49152 numbers has 16384 rows; what `work` ensures for so many is handed on.
 use borrow.Author.Needs.{needs}
 use Rattle.reader.proofs.inner.sizes.try_middle.Statement.{statement}
 use Rattle.reader.proofs.inner.sizes.try_middle.Tie as tie
@@ -9,14 +9,8 @@ use Rattle.reader.proofs.inner.answers.work.Reads as work-reads
 slice-aggregate-work : tie.Need-slice-aggregate-work
 slice-aggregate-work c = search needs
 
-slice-aggregate-work-2 : tie.Need-slice-aggregate-work-2
-slice-aggregate-work-2 c = search needs
-
-slice-aggregate-work-3 : tie.Need-slice-aggregate-work-3
-slice-aggregate-work-3 c = search needs
-
 work-requires : tie.Need-work-requires
-work-requires c κs = (search needs, record { short = search needs; starts = search needs; ends = search needs })
+work-requires c κs = (search needs, search needs)
 
 same-length : tie.Need-same-length
 same-length c = search needs
@@ -35,8 +29,6 @@ try-middle-spec =
     tie.close
     (tie.spec
     slice-aggregate-work
-    slice-aggregate-work-2
-    slice-aggregate-work-3
     work-requires
     same-length
     same-length-2

@@ -1,7 +1,6 @@
 -- What settle and leap stashed is one leap; the first pass over the rest then decides whether it is written.
 use Rattle.stream.proofs.Leaps.{so-many, leapt-both, leapt-longer, stash-fits, list-fits, ran-stops, ran-on, stores}
 use Rattle.stream.proofs.Writes.{ran-refuses, ran-stands}
-use Rattle.states.specs.Feed.{flat, roomOf}
 use Rattle.stream.specs.Shapes.{ranBy, givesOf}
 use Rattle.states.specs.Steps.{Step, ranOf}
 use lib.Seq.{sets, length-sets}
@@ -10,6 +9,7 @@ use Prim.Native.Nat.{_*_, _-_}
 use mathlib.Core.Path.{sym, _∙_, ap, refl}
 use native.Mathlib.Omega.{arith}
 use borrow.Author.Needs.{needs}
+use Rattle.token.specs.Table.{flat, roomOf}
 use Rattle.stream.proofs.passes.quick.fast.Statement.{statement}
 use Rattle.stream.proofs.passes.quick.fast.Tie as tie
 

@@ -1,10 +1,10 @@
 -- From token to token: each is the law of one token, so what the stash holds and the rest of the packet make up the whole.
 use Rattle.stream.proofs.Leaps.{yes, all-left, inside, clean-on, leapt-none, leapt-same, over-yes, sound-between, leap-turn}
 use Rattle.stream.specs.Quick.{startAt, Free, Leapt}
-use Rattle.states.specs.Feed.{roomOf}
 use Rattle.states.specs.Utf.{brokenAt, utfFeed}
 use Rattle.states.specs.declared.Utf.the-variants.{Whole}
 use Rattle.text.specs.declared.Check.the-variants.{Good}
+use Rattle.token.specs.Table.{roomOf}
 use lib.ListN.{length, drop, length-drop, length-set}
 use mathlib.Core.Path.{_∙_, ap, refl, _≡_}
 use native.Mathlib.Omega.{arith}

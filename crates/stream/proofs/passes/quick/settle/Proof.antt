@@ -3,13 +3,13 @@ use Rattle.stream.proofs.Leaps.{yes, leapt-none, over-yes, two-small, s
 use Rattle.stream.proofs.Writes.{step-room}
 use Rattle.stream.proofs.Sounds.{many-small, many-two}
 use Rattle.stream.specs.Quick.{Leapt}
-use Rattle.states.specs.Feed.{roomOf}
 use lib.Seq.{length-sets}
 use lib.ListN.{length}
 use mathlib.Core.Path.{_∙_, ap, refl, _≡_}
 use native.Mathlib.Omega.{arith}
 use borrow.Author.Needs.{needs}
 use Prim.Native.Nat.{_+_, _-_}
+use Rattle.token.specs.Table.{roomOf}
 use Rattle.stream.proofs.passes.quick.settle.Statement.{statement}
 use Rattle.stream.proofs.passes.quick.settle.Tie as tie
 

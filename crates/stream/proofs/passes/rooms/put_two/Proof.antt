@@ -5,8 +5,8 @@ use lib.ListN.{length}
 use native.Mathlib.Omega.{arith}
 use mathlib.Core.Path.{_∙_, ap}
 use borrow.Author.Needs.{needs}
+use Rattle.token.specs.Table.{roomOf}
 use Rattle.steps.specs.Shapes.{listOf}
-use Rattle.states.specs.Feed.{roomOf}
 use Rattle.stream.proofs.Writes.{over-first, over-second, put-more}
 use Rattle.stream.proofs.Sounds.{many-small}
 use Rattle.stream.proofs.passes.rooms.put_two.Statement.{statement}

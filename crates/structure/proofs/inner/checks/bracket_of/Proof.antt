@@ -3,9 +3,9 @@
 use borrow.Author.Tests.{not-true, not-false}
 use Rattle.structure.proofs.Checks.{bracket-group, bracket-nothing, push-in, bracket-push, bracket-unopened}
 use Rattle.structure.specs.declared.Level.the-variants.{Plain}
-use Rattle.structure.proofs.Arrays.{sizes}
 use native.Mathlib.Omega.{arith}
 use borrow.Author.Needs.{needs}
+use Rattle.token.proofs.Table.{sizes}
 use Rattle.structure.proofs.inner.checks.bracket_of.Statement.{statement}
 use Rattle.structure.proofs.inner.checks.bracket_of.Tie as tie
 
@@ -28,7 +28,7 @@ returns-2 c =
     bracket-nothing Plain _ _ _ (at-kind-at .kind-at .ensures) (at-if1 .if1 .left) _ (c .before .spelled .ensures) (not-true _ (c .if2 .taken))
 
 add-i : tie.Need-add-i
-add-i c = let i = push-in Plain _ _ _ (c .before .before .before .before .kind-at .ensures) (c .before .before .before .if1 .left) _ (c .before .spelled .ensures) (not-false _ (c .if2 .left)) in let z = sizes _ _ _ _ (c .before .before .before .before .before .before .before .before .before .pre) in omega arith
+add-i c = let i = push-in Plain _ _ _ (c .before .before .before .before .kind-at .ensures) (c .before .before .before .if1 .left) _ (c .before .spelled .ensures) (not-false _ (c .if2 .left)) in let z = sizes _ _ (c .before .before .before .before .before .before .before .pre) in omega arith
 
 kind-at-requires-2 : tie.Need-kind-at-requires-2
 kind-at-requires-2 c κs = search needs

@@ -1,32 +1,32 @@
 -- Invariant (`PostInv`): the postfixes from the start on, around any tree, are those from i on around a tree with `count` more nodes and the
 -- same bytes. A postfix takes a token at least, so that the tokens left fall and `count` can't overflow.
 use Rattle.structure.proofs.Checks.{PostInv, post-start, post-more, post-bad, post-done}
-use Rattle.structure.proofs.Arrays.{sizes}
-use Rattle.structure.specs.Tokens.{toks}
 use borrow.Author.Needs.{needs}
 use native.Mathlib.Omega.{arith}
 use lib.ListN.{length}
 use Prim.Native.Nat.{_-_}
+use Rattle.token.specs.Table.{toks}
+use Rattle.token.proofs.Table.{sizes}
 use Rattle.structure.proofs.inner.checks.check_posts.Statement.{statement}
 use Rattle.structure.proofs.inner.checks.check_posts.Tie as tie
 
 abbrev Inv-loop : tie.InvT-loop
-Inv-loop text kinds starts ends at i₀ count₀ i count = PostInv text at i count
+Inv-loop text tokens at i₀ count₀ i count = PostInv text at i count
 
 abbrev μ-loop : tie.MeasureT-loop
-μ-loop text kinds starts ends at i₀ count₀ i count = length (toks text) - i
+μ-loop text tokens at i₀ count₀ i count = length (toks text) - i
 
 loop-holds : tie.Need-loop-holds Inv-loop μ-loop
 loop-holds c = post-start _ _
 
 postfix-end-requires : tie.Need-postfix-end-requires Inv-loop μ-loop
-postfix-end-requires c κs = c .before .before .before .before .before .pre
+postfix-end-requires c κs = c .before .before .before .pre
 
 enum-known-tail : tie.Need-enum-known-tail Inv-loop μ-loop
 enum-known-tail c = search needs
 
 add-count : tie.Need-add-count Inv-loop μ-loop
-add-count c = let i = post-more _ _ _ _ _ _ (c .before .before .before .postfix-end .ensures) (c .before .tail .given .1) (c .before .before .before .before .loop .inv) in let z = sizes _ _ _ _ (c .before .before .before .before .before .before .before .before .before .pre) in let f = i .2 .from in omega arith
+add-count c = let i = post-more _ _ _ _ _ _ (c .before .before .before .postfix-end .ensures) (c .before .tail .given .1) (c .before .before .before .before .loop .inv) in let z = sizes _ _ (c .before .before .before .before .before .before .before .pre) in let f = i .2 .from in omega arith
 
 loop-less : tie.Need-loop-less Inv-loop μ-loop
 loop-less c = let i = post-more _ _ _ _ _ _ (c .before .before .before .postfix-end .ensures) (c .before .tail .given .1) (c .before .before .before .before .loop .inv) in let a = i .0 in let b = i .1 in omega arith

@@ -2,9 +2,9 @@
 -- the bytes behind the `#` can be counted.
 use Rattle.structure.proofs.Checks.{tag-none, tag-untied, tag-kept, tag-dropped}
 use Rattle.structure.proofs.Leaves.{post-in}
-use Rattle.structure.proofs.Arrays.{sizes, spans}
 use native.Mathlib.Omega.{arith}
 use borrow.Author.Needs.{needs}
+use Rattle.token.proofs.Table.{sizes, spans}
 use Rattle.structure.proofs.inner.checks.tag_of.Statement.{statement}
 use Rattle.structure.proofs.inner.checks.tag_of.Tie as tie
 
@@ -15,7 +15,7 @@ returns : tie.Need-returns
 returns c = tag-none _ _ _ _ (c .before .kind-at .ensures) (c .if1 .taken)
 
 add-expect : tie.Need-add-expect
-add-expect c = let i = post-in _ _ _ (c .before .kind-at .ensures) 19 (omega arith) (c .if1 .left) in let z = sizes _ _ _ _ (c .before .before .before .before .before .before .pre) in omega arith
+add-expect c = let i = post-in _ _ _ (c .before .kind-at .ensures) 19 (omega arith) (c .if1 .left) in let z = sizes _ _ (c .before .before .before .before .pre) in omega arith
 
 expect-requires : tie.Need-expect-requires
 expect-requires c κs = search needs
@@ -42,11 +42,11 @@ start-at-requires c κs = search needs
 end-at-requires : tie.Need-end-at-requires
 end-at-requires c κs = search needs
 
-add-t15 : tie.Need-add-t15
-add-t15 c = let i = post-in _ _ _ (c .before .before .before .before .before .before .before .before .before .kind-at .ensures) 19 (omega arith) (c .before .before .before .before .before .before .before .before .if1 .left) in let p = spans _ _ i in let z = c .before .before .before .before .before .before .before .before .before .before .before .before .before .before .pre .short in let a = c .before .start-at .ensures in omega arith
+add-t13 : tie.Need-add-t13
+add-t13 c = let i = post-in _ _ _ (c .before .before .before .before .before .before .before .before .before .kind-at .ensures) 19 (omega arith) (c .before .before .before .before .before .before .before .before .if1 .left) in let p = spans _ _ i in let z = c .before .before .before .before .before .before .before .before .before .before .before .before .pre .short in let a = c .before .start-at .ensures in omega arith
 
-sub-t16 : tie.Need-sub-t16
-sub-t16 c = let i = post-in _ _ _ (c .before .before .before .before .before .before .before .before .before .kind-at .ensures) 19 (omega arith) (c .before .before .before .before .before .before .before .before .if1 .left) in let p = spans _ _ i in let a = c .before .start-at .ensures in let b = c .end-at .ensures in omega arith
+sub-t14 : tie.Need-sub-t14
+sub-t14 c = let i = post-in _ _ _ (c .before .before .before .before .before .before .before .before .before .kind-at .ensures) 19 (omega arith) (c .before .before .before .before .before .before .before .before .if1 .left) in let p = spans _ _ i in let a = c .before .start-at .ensures in let b = c .end-at .ensures in omega arith
 
 enum-told-3 : tie.Need-enum-told-3
 enum-told-3 c = search needs
@@ -82,8 +82,8 @@ tag-of-spec =
     enum-told-2
     start-at-requires
     end-at-requires
-    add-t15
-    sub-t16
+    add-t13
+    sub-t14
     enum-told-3
     returns-3
     returns-4)

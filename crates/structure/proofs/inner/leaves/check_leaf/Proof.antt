@@ -1,9 +1,9 @@
 -- By the kind of the token, a law of Leaves for each: a word is left to `check_word`, the two kinds of string are read, a character must begin
 -- a range, and any other is refused. A kind above 0 says that there is a token, so that the next index fits.
 use Rattle.structure.proofs.Leaves.{post-in, leaf-string, leaf-insens, leaf-range, leaf-none}
-use Rattle.structure.proofs.Arrays.{sizes}
 use native.Mathlib.Omega.{arith}
 use borrow.Author.Needs.{needs}
+use Rattle.token.proofs.Table.{sizes}
 use Rattle.structure.proofs.inner.leaves.check_leaf.Statement.{statement}
 use Rattle.structure.proofs.inner.leaves.check_leaf.Tie as tie
 
@@ -16,17 +16,17 @@ check-word-requires c κs = search needs
 string-bytes-requires : tie.Need-string-bytes-requires
 string-bytes-requires c κs = search needs
 
-add-t11 : tie.Need-add-t11
-add-t11 c = let i = post-in _ _ _ (c .before .before .kind-at .ensures) 23 (omega arith) (c .before .match .keys2) in let z = sizes _ _ _ _ (c .before .before .before .before .before .before .before .pre) in omega arith
+add-t9 : tie.Need-add-t9
+add-t9 c = let i = post-in _ _ _ (c .before .before .kind-at .ensures) 23 (omega arith) (c .before .match .keys2) in let z = sizes _ _ (c .before .before .before .before .before .pre) in omega arith
 
 string-bytes-requires-2 : tie.Need-string-bytes-requires-2
 string-bytes-requires-2 c κs = search needs
 
-add-t12 : tie.Need-add-t12
-add-t12 c = let i = post-in _ _ _ (c .before .before .kind-at .ensures) 24 (omega arith) (c .before .match .keys3) in let z = sizes _ _ _ _ (c .before .before .before .before .before .before .before .pre) in omega arith
+add-t10 : tie.Need-add-t10
+add-t10 c = let i = post-in _ _ _ (c .before .before .kind-at .ensures) 24 (omega arith) (c .before .match .keys3) in let z = sizes _ _ (c .before .before .before .before .before .pre) in omega arith
 
 check-range-requires : tie.Need-check-range-requires
-check-range-requires c κs = (c .before .before .before .before .before .before .pre, post-in _ _ _ (c .before .kind-at .ensures) 25 (omega arith) (c .match .keys4))
+check-range-requires c κs = (c .before .before .before .before .pre, post-in _ _ _ (c .before .kind-at .ensures) 25 (omega arith) (c .match .keys4))
 
 start-at-requires : tie.Need-start-at-requires
 start-at-requires c κs = search needs
@@ -55,9 +55,9 @@ check-leaf-spec =
     kind-at-requires
     check-word-requires
     string-bytes-requires
-    add-t11
+    add-t9
     string-bytes-requires-2
-    add-t12
+    add-t10
     check-range-requires
     start-at-requires
     returns

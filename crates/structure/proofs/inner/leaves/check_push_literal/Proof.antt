@@ -1,14 +1,14 @@
 -- The tokens are wanted in the order of the definition (`pushed`), and each way out has its law: no `(`, too deep, no string, no `)`, and all
 -- there. Then it is one node with the bytes of its string.
 use Rattle.structure.proofs.Leaves.{pushed-bare, pushed-deep, pushed-empty, pushed-unclosed, pushed-read}
-use Rattle.structure.proofs.Arrays.{sizes}
 use native.Mathlib.Omega.{arith}
 use borrow.Author.Needs.{needs}
+use Rattle.token.proofs.Table.{sizes}
 use Rattle.structure.proofs.inner.leaves.check_push_literal.Statement.{statement}
 use Rattle.structure.proofs.inner.leaves.check_push_literal.Tie as tie
 
 add-expect : tie.Need-add-expect
-add-expect c = let z = sizes _ _ _ _ (c .before .before .before .before .pre .0) in let h = c .before .before .before .before .pre .1 in omega arith
+add-expect c = let z = sizes _ _ (c .before .before .pre .0) in let h = c .before .before .pre .1 in omega arith
 
 expect-requires : tie.Need-expect-requires
 expect-requires c κs = search needs
@@ -20,7 +20,7 @@ enum-told : tie.Need-enum-told
 enum-told c = search needs
 
 add-start-at : tie.Need-add-start-at
-add-start-at c = let z = sizes _ _ _ _ (c .before .before .before .before .before .before .before .pre .0) in let h = c .before .before .before .before .before .before .before .pre .1 in omega arith
+add-start-at c = let z = sizes _ _ (c .before .before .before .before .before .pre .0) in let h = c .before .before .before .before .before .pre .1 in omega arith
 
 start-at-requires : tie.Need-start-at-requires
 start-at-requires c κs = search needs
@@ -29,7 +29,7 @@ returns : tie.Need-returns
 returns c = pushed-bare _ _ _ _ (c .before .before .before .expect .ensures) (c .before .enum-told .given .1) _ (c .start-at .ensures)
 
 add-start-at-2 : tie.Need-add-start-at-2
-add-start-at-2 c = let z = sizes _ _ _ _ (c .before .before .before .before .before .before .before .before .before .pre .0) in let h = c .before .before .before .before .before .before .before .before .before .pre .1 in omega arith
+add-start-at-2 c = let z = sizes _ _ (c .before .before .before .before .before .before .before .pre .0) in let h = c .before .before .before .before .before .before .before .pre .1 in omega arith
 
 start-at-requires-2 : tie.Need-start-at-requires-2
 start-at-requires-2 c κs = search needs

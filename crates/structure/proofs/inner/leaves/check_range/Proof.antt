@@ -1,14 +1,14 @@
 -- The tokens are wanted in the order of the definition (`ranged`), and each way out has its law: no `..`, no second character, and both there.
 -- Then it is one node without bytes.
 use Rattle.structure.proofs.Leaves.{range-undotted, range-open, range-read}
-use Rattle.structure.proofs.Arrays.{sizes}
 use native.Mathlib.Omega.{arith}
 use borrow.Author.Needs.{needs}
+use Rattle.token.proofs.Table.{sizes}
 use Rattle.structure.proofs.inner.leaves.check_range.Statement.{statement}
 use Rattle.structure.proofs.inner.leaves.check_range.Tie as tie
 
 add-expect : tie.Need-add-expect
-add-expect c = let z = sizes _ _ _ _ (c .before .before .before .before .pre .0) in let h = c .before .before .before .before .pre .1 in omega arith
+add-expect c = let z = sizes _ _ (c .before .before .pre .0) in let h = c .before .before .pre .1 in omega arith
 
 expect-requires : tie.Need-expect-requires
 expect-requires c κs = search needs
@@ -20,7 +20,7 @@ enum-told : tie.Need-enum-told
 enum-told c = search needs
 
 add-start-at : tie.Need-add-start-at
-add-start-at c = let z = sizes _ _ _ _ (c .before .before .before .before .before .before .before .pre .0) in let h = c .before .before .before .before .before .before .before .pre .1 in omega arith
+add-start-at c = let z = sizes _ _ (c .before .before .before .before .before .pre .0) in let h = c .before .before .before .before .before .pre .1 in omega arith
 
 start-at-requires : tie.Need-start-at-requires
 start-at-requires c κs = search needs

@@ -2,20 +2,20 @@
 -- what has no comma, no number or no `}` where one is due is refused.
 use Rattle.structure.proofs.Leaves.{number-exact, number-open, number-least, number-comma, number-unclosed, number-both}
 use Rattle.structure.proofs.Wants.{here-in}
-use Rattle.structure.proofs.Arrays.{sizes}
 use native.Mathlib.Omega.{arith}
 use borrow.Author.Needs.{needs}
+use Rattle.token.proofs.Table.{sizes}
 use Rattle.structure.proofs.inner.leaves.number_end.Statement.{statement}
 use Rattle.structure.proofs.inner.leaves.number_end.Tie as tie
 
 add-i : tie.Need-add-i
-add-i c = let z = sizes _ _ _ _ (c .before .before .before .before .pre .0) in let h = c .before .before .before .before .pre .1 in omega arith
+add-i c = let z = sizes _ _ (c .before .before .pre .0) in let h = c .before .before .pre .1 in omega arith
 
 kind-at-requires : tie.Need-kind-at-requires
 kind-at-requires c κs = search needs
 
-add-t15 : tie.Need-add-t15
-add-t15 c = let z = sizes _ _ _ _ (c .before .before .before .before .before .before .pre .0) in let h = c .before .before .before .before .before .before .pre .1 in omega arith
+add-t13 : tie.Need-add-t13
+add-t13 c = let z = sizes _ _ (c .before .before .before .before .pre .0) in let h = c .before .before .before .before .pre .1 in omega arith
 
 returns : tie.Need-returns
 returns c = number-exact _ _ _ (c .before .kind-at .ensures) (c .if1 .taken)
@@ -42,8 +42,8 @@ returns-2 c =
 kind-at-requires-2 : tie.Need-kind-at-requires-2
 kind-at-requires-2 c κs = search needs
 
-add-t18 : tie.Need-add-t18
-add-t18 c = let i = here-in _ _ 15 _ _ (omega arith) (c .before .before .before .before .before .expect .ensures) (c .before .before .before .comma .given .1) in let z = sizes _ _ _ _ (c .before .before .before .before .before .before .before .before .before .before .before .before .pre .0) in omega arith
+add-t16 : tie.Need-add-t16
+add-t16 c = let i = here-in _ _ 15 _ _ (omega arith) (c .before .before .before .before .before .expect .ensures) (c .before .before .before .comma .given .1) in let z = sizes _ _ (c .before .before .before .before .before .before .before .before .before .before .pre .0) in omega arith
 
 returns-3 : tie.Need-returns-3
 returns-3 c =
@@ -87,7 +87,7 @@ enum-told-3 c = search needs
 
 start-at-requires-3 : tie.Need-start-at-requires-3
 start-at-requires-3 c κs =
-    let start = c .before .before .before .before .before .before .before .before .before .before .before .before .before .before .before .before .before .before .before in
+    let start = c .before .before .before .before .before .before .before .before .before .before .before .before .before .before .before .before .before in
     start .pre .0
 
 returns-5 : tie.Need-returns-5
@@ -122,7 +122,7 @@ number-end-spec =
     (tie.spec
     add-i
     kind-at-requires
-    add-t15
+    add-t13
     returns
     expect-requires
     enum-known-comma
@@ -130,7 +130,7 @@ number-end-spec =
     start-at-requires
     returns-2
     kind-at-requires-2
-    add-t18
+    add-t16
     returns-3
     expect-requires-2
     enum-known-most

@@ -2,35 +2,35 @@
 -- no postfix. A kind above 0 says that there is a token, so that the next index fits.
 use Rattle.structure.proofs.Leaves.{post-in, post-opt, post-rep, post-once, post-number, post-comma, post-none}
 use Rattle.structure.proofs.Steps.{inside-is, sees}
-use Rattle.structure.proofs.Arrays.{sizes}
 use native.Mathlib.Omega.{arith}
 use borrow.Author.Needs.{needs}
+use Rattle.token.proofs.Table.{sizes}
 use Rattle.structure.proofs.inner.leaves.postfix_end.Statement.{statement}
 use Rattle.structure.proofs.inner.leaves.postfix_end.Tie as tie
 
 kind-at-requires : tie.Need-kind-at-requires
 kind-at-requires c κs = search needs
 
+add-t6 : tie.Need-add-t6
+add-t6 c = let i = post-in _ _ _ (c .before .kind-at .ensures) 12 (omega arith) (c .match .keys1) in let z = sizes _ _ (c .before .before .before .before .pre) in omega arith
+
+add-t7 : tie.Need-add-t7
+add-t7 c = let i = post-in _ _ _ (c .before .kind-at .ensures) 13 (omega arith) (c .match .keys2) in let z = sizes _ _ (c .before .before .before .before .pre) in omega arith
+
 add-t8 : tie.Need-add-t8
-add-t8 c = let i = post-in _ _ _ (c .before .kind-at .ensures) 12 (omega arith) (c .match .keys1) in let z = sizes _ _ _ _ (c .before .before .before .before .before .before .pre) in omega arith
-
-add-t9 : tie.Need-add-t9
-add-t9 c = let i = post-in _ _ _ (c .before .kind-at .ensures) 13 (omega arith) (c .match .keys2) in let z = sizes _ _ _ _ (c .before .before .before .before .before .before .pre) in omega arith
-
-add-t10 : tie.Need-add-t10
-add-t10 c = let i = post-in _ _ _ (c .before .kind-at .ensures) 14 (omega arith) (c .match .keys3) in let z = sizes _ _ _ _ (c .before .before .before .before .before .before .pre) in omega arith
+add-t8 c = let i = post-in _ _ _ (c .before .kind-at .ensures) 14 (omega arith) (c .match .keys3) in let z = sizes _ _ (c .before .before .before .before .pre) in omega arith
 
 add-kind-at : tie.Need-add-kind-at
-add-kind-at c = let i = post-in _ _ _ (c .before .kind-at .ensures) 2 (omega arith) (c .match .keys4) in let z = sizes _ _ _ _ (c .before .before .before .before .before .before .pre) in omega arith
+add-kind-at c = let i = post-in _ _ _ (c .before .kind-at .ensures) 2 (omega arith) (c .match .keys4) in let z = sizes _ _ (c .before .before .before .before .pre) in omega arith
 
 kind-at-requires-2 : tie.Need-kind-at-requires-2
 kind-at-requires-2 c κs = search needs
 
 add-number-end : tie.Need-add-number-end
-add-number-end c = let i = post-in _ _ _ (c .before .before .before .kind-at .ensures) 2 (omega arith) (c .before .before .match .keys4) in let z = sizes _ _ _ _ (c .before .before .before .before .before .before .before .before .pre) in omega arith
+add-number-end c = let i = post-in _ _ _ (c .before .before .before .kind-at .ensures) 2 (omega arith) (c .before .before .match .keys4) in let z = sizes _ _ (c .before .before .before .before .before .before .pre) in omega arith
 
 number-end-requires : tie.Need-number-end-requires
-number-end-requires c κs = (c .before .before .before .before .before .before .before .before .pre, inside-is _ _ 20 (omega arith) (sees _ _ _ 20 (c .before .kind-at2 .ensures) (c .if1 .taken)))
+number-end-requires c κs = (c .before .before .before .before .before .before .pre, inside-is _ _ 20 (omega arith) (sees _ _ _ 20 (c .before .kind-at2 .ensures) (c .if1 .taken)))
 
 returns : tie.Need-returns
 returns c =
@@ -40,7 +40,7 @@ returns c =
     post-number _ _ _ (at-kind-at .kind-at .ensures) (at-match .match .keys4) _ (at-kind-at2 .kind-at2 .ensures) (c .before .if1 .taken) _ (c .number-end .ensures)
 
 add-comma-end : tie.Need-add-comma-end
-add-comma-end c = let i = post-in _ _ _ (c .before .before .before .kind-at .ensures) 2 (omega arith) (c .before .before .match .keys4) in let z = sizes _ _ _ _ (c .before .before .before .before .before .before .before .before .pre) in omega arith
+add-comma-end c = let i = post-in _ _ _ (c .before .before .before .kind-at .ensures) 2 (omega arith) (c .before .before .match .keys4) in let z = sizes _ _ (c .before .before .before .before .before .before .pre) in omega arith
 
 comma-end-requires : tie.Need-comma-end-requires
 comma-end-requires c κs = search needs
@@ -69,9 +69,9 @@ postfix-end-spec =
     tie.close
     (tie.spec
     kind-at-requires
+    add-t6
+    add-t7
     add-t8
-    add-t9
-    add-t10
     add-kind-at
     kind-at-requires-2
     add-number-end

@@ -2,28 +2,28 @@
 -- the name and of the expression are few (`word-short`, `expr-ends`), so that their sum fits.
 use Rattle.structure.proofs.Rules.{name-in, rule-unnamed, rule-untied, rule-unbraced, rule-refused, rule-unclosed, rule-read}
 use Rattle.structure.proofs.Cycle.{expr-ends}
-use Rattle.structure.proofs.Arrays.{sizes}
 use Rattle.structure.proofs.Sizes.{word-short}
 use borrow.Author.Tests.{not-true, not-false}
 use native.Mathlib.Omega.{arith}
 use borrow.Author.Needs.{needs}
+use Rattle.token.proofs.Table.{sizes}
 use Rattle.structure.proofs.inner.rules.check_rule.Statement.{statement}
 use Rattle.structure.proofs.inner.rules.check_rule.Tie as tie
 
 is-name-requires : tie.Need-is-name-requires
-is-name-requires c κs = c .before .before .before .before .pre
+is-name-requires c κs = c .before .before .pre
 
 start-at-requires : tie.Need-start-at-requires
-start-at-requires c κs = c .before .before .before .before .before .before .pre
+start-at-requires c κs = c .before .before .before .before .pre
 
 returns : tie.Need-returns
 returns c = rule-unnamed _ _ _ _ (c .before .before .is-name .ensures) (not-true _ (c .before .if1 .taken)) _ (c .start-at .ensures)
 
 add-expect : tie.Need-add-expect
-add-expect c = let i = name-in _ _ _ (c .before .is-name .ensures) (not-false _ (c .if1 .left)) in let z = sizes _ _ _ _ (c .before .before .before .before .before .before .pre) in omega arith
+add-expect c = let i = name-in _ _ _ (c .before .is-name .ensures) (not-false _ (c .if1 .left)) in let z = sizes _ _ (c .before .before .before .before .pre) in omega arith
 
 expect-requires : tie.Need-expect-requires
-expect-requires c κs = (c .before .before .before .before .before .before .pre, omega arith)
+expect-requires c κs = (c .before .before .before .before .pre, omega arith)
 
 enum-known-tie : tie.Need-enum-known-tie
 enum-known-tie c = search needs
@@ -32,10 +32,10 @@ enum-told : tie.Need-enum-told
 enum-told c = search needs
 
 add-start-at : tie.Need-add-start-at
-add-start-at c = let i = name-in _ _ _ (c .before .before .before .before .is-name .ensures) (not-false _ (c .before .before .before .if1 .left)) in let z = sizes _ _ _ _ (c .before .before .before .before .before .before .before .before .before .pre) in omega arith
+add-start-at c = let i = name-in _ _ _ (c .before .before .before .before .is-name .ensures) (not-false _ (c .before .before .before .if1 .left)) in let z = sizes _ _ (c .before .before .before .before .before .before .before .pre) in omega arith
 
 start-at-requires-2 : tie.Need-start-at-requires-2
-start-at-requires-2 c κs = c .before .before .before .before .before .before .before .before .before .pre
+start-at-requires-2 c κs = c .before .before .before .before .before .before .before .pre
 
 returns-2 : tie.Need-returns-2
 returns-2 c =
@@ -45,10 +45,10 @@ returns-2 c =
     rule-untied _ _ _ _ (at-is-name .is-name .ensures) (not-false _ (at-if1 .if1 .left)) _ (at-expect .expect .ensures) (c .before .enum-told .given .1) _ (c .start-at2 .ensures)
 
 past-mark-requires : tie.Need-past-mark-requires
-past-mark-requires c κs = c .before .before .before .before .before .before .before .before .before .before .pre
+past-mark-requires c κs = c .before .before .before .before .before .before .before .before .pre
 
 expect-requires-2 : tie.Need-expect-requires-2
-expect-requires-2 c κs = (c .before .before .before .before .before .before .before .before .before .before .before .pre, omega arith)
+expect-requires-2 c κs = (c .before .before .before .before .before .before .before .before .before .pre, omega arith)
 
 enum-known-brace : tie.Need-enum-known-brace
 enum-known-brace c = search needs
@@ -57,7 +57,7 @@ enum-told-2 : tie.Need-enum-told-2
 enum-told-2 c = search needs
 
 start-at-requires-3 : tie.Need-start-at-requires-3
-start-at-requires-3 c κs = c .before .before .before .before .before .before .before .before .before .before .before .before .before .before .pre
+start-at-requires-3 c κs = c .before .before .before .before .before .before .before .before .before .before .before .before .pre
 
 returns-3 : tie.Need-returns-3
 returns-3 c =
@@ -70,10 +70,10 @@ returns-3 c =
     rule-unbraced _ _ _ _ (at-is-name .is-name .ensures) (not-false _ (at-if1 .if1 .left)) _ (at-expect .expect .ensures) _ (at-tie .tie .given .1) _ (at-past-mark .past-mark .ensures) _ (at-expect2 .expect2 .ensures) (c .before .enum-told2 .given .1) _ (c .start-at3 .ensures)
 
 past-bar-requires : tie.Need-past-bar-requires
-past-bar-requires c κs = c .before .before .before .before .before .before .before .before .before .before .before .before .before .before .before .pre
+past-bar-requires c κs = c .before .before .before .before .before .before .before .before .before .before .before .before .before .pre
 
 check-expr-requires : tie.Need-check-expr-requires
-check-expr-requires c κs = (c .before .before .before .before .before .before .before .before .before .before .before .before .before .before .before .before .pre, omega arith)
+check-expr-requires c κs = (c .before .before .before .before .before .before .before .before .before .before .before .before .before .before .pre, omega arith)
 
 enum-known-inside : tie.Need-enum-known-inside
 enum-known-inside c = search needs
@@ -82,7 +82,7 @@ enum-known-inside-2 : tie.Need-enum-known-inside-2
 enum-known-inside-2 c = search needs
 
 expect-requires-3 : tie.Need-expect-requires-3
-expect-requires-3 c κs = (c .before .before .before .before .before .before .before .before .before .before .before .before .before .before .before .before .before .before .before .before .pre, omega arith)
+expect-requires-3 c κs = (c .before .before .before .before .before .before .before .before .before .before .before .before .before .before .before .before .before .before .pre, omega arith)
 
 enum-known-close : tie.Need-enum-known-close
 enum-known-close c = search needs
@@ -92,7 +92,7 @@ enum-told-3 c = search needs
 
 start-at-requires-4 : tie.Need-start-at-requires-4
 start-at-requires-4 c κs =
-    let start = c .before .before .before .before .before .before .before .before .before .before .before .before .before .before .before .before .before .before .before .before .before .before .before in
+    let start = c .before .before .before .before .before .before .before .before .before .before .before .before .before .before .before .before .before .before .before .before .before in
     start .pre
 
 returns-4 : tie.Need-returns-4
@@ -112,19 +112,19 @@ returns-4 c =
 
 word-bytes-requires : tie.Need-word-bytes-requires
 word-bytes-requires c κs =
-    let start = c .before .before .before .before .before .before .before .before .before .before .before .before .before .before .before .before .before .before .before .before .before .before .before .before in
+    let start = c .before .before .before .before .before .before .before .before .before .before .before .before .before .before .before .before .before .before .before .before .before .before in
     start .pre
 
-add-t34 : tie.Need-add-t34
-add-t34 c =
-    let a = expr-ends _ _ (c .before .before .before .before .before .before .before .before .before .before .before .before .before .before .before .before .before .before .before .before .before .before .before .before .before .pre .short) _ _ _ _ _ _ (c .before .before .before .before .before .before .before .before .check-expr .ensures) (c .before .before .before .before .before .before .inside2 .given .1) in
+add-t32 : tie.Need-add-t32
+add-t32 c =
+    let a = expr-ends _ _ (c .before .before .before .before .before .before .before .before .before .before .before .before .before .before .before .before .before .before .before .before .before .before .before .pre .short) _ _ _ _ _ _ (c .before .before .before .before .before .before .before .before .check-expr .ensures) (c .before .before .before .before .before .before .inside2 .given .1) in
     let b = a .small in
     let d = a .few in
     let f = a .within in
     let w = c .word-bytes .ensures in
-    let l = word-short (c .before .before .before .before .before .before .before .before .before .before .before .before .before .before .before .before .before .before .before .before .before .before .before .before .before .args .text .now) (c .before .before .before .before .before .before .before .before .before .before .before .before .before .before .before .before .before .before .before .before .before .before .before .before .before .args .at) in
-    let h = c .before .before .before .before .before .before .before .before .before .before .before .before .before .before .before .before .before .before .before .before .before .before .before .before .before .pre .short in
-    let z = sizes _ _ _ _ (c .before .before .before .before .before .before .before .before .before .before .before .before .before .before .before .before .before .before .before .before .before .before .before .before .before .pre) in
+    let l = word-short (c .before .before .before .before .before .before .before .before .before .before .before .before .before .before .before .before .before .before .before .before .before .before .before .args .text .now) (c .before .before .before .before .before .before .before .before .before .before .before .before .before .before .before .before .before .before .before .before .before .before .before .args .at) in
+    let h = c .before .before .before .before .before .before .before .before .before .before .before .before .before .before .before .before .before .before .before .before .before .before .before .pre .short in
+    let z = sizes _ _ (c .before .before .before .before .before .before .before .before .before .before .before .before .before .before .before .before .before .before .before .before .before .before .before .pre) in
     omega arith
 
 returns-5 : tie.Need-returns-5
@@ -186,6 +186,6 @@ check-rule-spec =
     start-at-requires-4
     returns-4
     word-bytes-requires
-    add-t34
+    add-t32
     returns-5
     returns-6)

@@ -1,28 +1,28 @@
 -- Invariant (`DocsInv`): the docs of the text end where those from i on end. Each turn takes one token, so that the tokens left fall; at a
 -- token that is no doc they end.
 use Rattle.structure.proofs.Rules.{DocsInv, docs-start, docs-more, docs-done}
-use Rattle.structure.proofs.Arrays.{sizes}
-use Rattle.structure.specs.Tokens.{toks}
 use native.Mathlib.Omega.{arith}
 use lib.ListN.{length}
 use Prim.Native.Nat.{_-_}
+use Rattle.token.specs.Table.{toks}
+use Rattle.token.proofs.Table.{sizes}
 use Rattle.structure.proofs.inner.rules.docs_end.Statement.{statement}
 use Rattle.structure.proofs.inner.rules.docs_end.Tie as tie
 
 abbrev Inv-loop : tie.InvT-loop
-Inv-loop text kinds starts ends i₀ i = DocsInv text i
+Inv-loop text tokens i₀ i = DocsInv text i
 
 abbrev μ-loop : tie.MeasureT-loop
-μ-loop text kinds starts ends i₀ i = length (toks text) - i
+μ-loop text tokens i₀ i = length (toks text) - i
 
 loop-holds : tie.Need-loop-holds Inv-loop μ-loop
 loop-holds c = docs-start _
 
 kind-at-requires : tie.Need-kind-at-requires Inv-loop μ-loop
-kind-at-requires c κs = c .before .before .before .before .before .pre
+kind-at-requires c κs = c .before .before .before .pre
 
 add-i : tie.Need-add-i Inv-loop μ-loop
-add-i c = let i = docs-more _ _ _ (c .before .kind-at .ensures) (c .if1 .taken) (c .before .before .loop .inv) .0 in let z = sizes _ _ _ _ (c .before .before .before .before .before .before .before .pre) in omega arith
+add-i c = let i = docs-more _ _ _ (c .before .kind-at .ensures) (c .if1 .taken) (c .before .before .loop .inv) .0 in let z = sizes _ _ (c .before .before .before .before .before .pre) in omega arith
 
 loop-less : tie.Need-loop-less Inv-loop μ-loop
 loop-less c = let i = docs-more _ _ _ (c .before .kind-at .ensures) (c .if1 .taken) (c .before .before .loop .inv) .0 in omega arith

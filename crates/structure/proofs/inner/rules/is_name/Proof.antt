@@ -2,9 +2,9 @@
 -- what the definition asks (`name-by`).
 use Rattle.structure.proofs.Rules.{name-other, name-by}
 use Rattle.structure.proofs.Leaves.{post-in}
-use Rattle.structure.proofs.Arrays.{spans}
 use native.Mathlib.Omega.{arith}
 use borrow.Author.Needs.{needs}
+use Rattle.token.proofs.Table.{spans}
 use Rattle.structure.proofs.inner.rules.is_name.Statement.{statement}
 use Rattle.structure.proofs.inner.rules.is_name.Tie as tie
 

@@ -1,7 +1,7 @@
 use Rattle.structure.proofs.Rules.{mark-stays, mark-past, mark-inside}
-use Rattle.structure.proofs.Arrays.{sizes}
 use native.Mathlib.Omega.{arith}
 use borrow.Author.Needs.{needs}
+use Rattle.token.proofs.Table.{sizes}
 use Rattle.structure.proofs.inner.rules.past_mark.Statement.{statement}
 use Rattle.structure.proofs.inner.rules.past_mark.Tie as tie
 
@@ -12,7 +12,7 @@ returns : tie.Need-returns
 returns c = mark-stays _ _ _ (c .before .mark-at .ensures) (c .if1 .taken)
 
 add-result : tie.Need-add-result
-add-result c = let i = mark-inside _ _ _ (c .before .mark-at .ensures) (c .if1 .left) in let z = sizes _ _ _ _ (c .before .before .before .before .before .before .pre) in omega arith
+add-result c = let i = mark-inside _ _ _ (c .before .mark-at .ensures) (c .if1 .left) in let z = sizes _ _ (c .before .before .before .before .pre) in omega arith
 
 returns-2 : tie.Need-returns-2
 returns-2 c = mark-past _ _ _ (c .before .mark-at .ensures) (c .if1 .left)

@@ -1,8 +1,9 @@
 -- Three tests: the kind, the length, the bytes. Where word and spelling have the same length, whether the text from the word's start on begins
 -- so is whether the word does (`spells-by`).
-use Rattle.structure.proofs.Arrays.{low, spells-other, spells-longer, spells-by}
 use native.Mathlib.Omega.{arith}
 use borrow.Author.Needs.{needs}
+use Rattle.token.proofs.Table.{low}
+use Rattle.structure.proofs.Bytes.{spells-other, spells-longer, spells-by}
 use Rattle.structure.proofs.inner.tokens.spelled.Statement.{statement}
 use Rattle.structure.proofs.inner.tokens.spelled.Tie as tie
 
@@ -19,7 +20,7 @@ end-at-requires : tie.Need-end-at-requires
 end-at-requires c κs = search needs
 
 sub-if2 : tie.Need-sub-if2
-sub-if2 c = let l = low (c .before .before .before .before .before .before .before .before .before .args .text .now) (c .before .before .before .before .before .before .before .before .before .args .at) in let a = c .before .start-at .ensures in let z = c .end-at .ensures in omega arith
+sub-if2 c = let l = low (c .before .before .before .before .before .before .before .args .text .now) (c .before .before .before .before .before .before .before .args .at) in let a = c .before .start-at .ensures in let z = c .end-at .ensures in omega arith
 
 returns-2 : tie.Need-returns-2
 returns-2 c =
@@ -29,7 +30,7 @@ returns-2 c =
     spells-longer _ _ _ _ (at-kind-at .kind-at .ensures) (at-if1 .if1 .left) _ _ (at-start-at .start-at .ensures) (c .before .end-at .ensures) (c .if2 .taken)
 
 begins-at-requires : tie.Need-begins-at-requires
-begins-at-requires c κs = let l = low (c .before .before .before .before .before .before .before .before .before .before .args .text .now) (c .before .before .before .before .before .before .before .before .before .before .args .at) in let a = c .before .before .start-at .ensures in omega arith
+begins-at-requires c κs = let l = low (c .before .before .before .before .before .before .before .before .args .text .now) (c .before .before .before .before .before .before .before .before .args .at) in let a = c .before .before .start-at .ensures in omega arith
 
 returns-3 : tie.Need-returns-3
 returns-3 c =

@@ -2,8 +2,8 @@
 -- end behind its start is empty.
 use Rattle.literal.specs.Escapes.{unescaped}
 use Rattle.text.specs.Splice.{spent}
-use Rattle.structure.proofs.Arrays.{part-is}
-use Rattle.structure.proofs.Arrays.{bytes-none, bytes-left}
+use Rattle.token.proofs.Table.{part-is}
+use Rattle.structure.proofs.Bytes.{bytes-none, bytes-left}
 use mathlib.Core.Path.{_∙_, ap}
 use borrow.Author.Needs.{needs}
 use Rattle.structure.proofs.inner.tokens.unescaped_bytes.Statement.{statement}

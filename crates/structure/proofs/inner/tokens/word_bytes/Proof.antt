@@ -1,6 +1,6 @@
-use Rattle.structure.proofs.Arrays.{word-length}
 use native.Mathlib.Omega.{arith}
 use borrow.Author.Needs.{needs}
+use Rattle.token.proofs.Table.{word-length}
 use Rattle.structure.proofs.inner.tokens.word_bytes.Statement.{statement}
 use Rattle.structure.proofs.inner.tokens.word_bytes.Tie as tie
 

@@ -1,6 +1,7 @@
 -- A part that doesn't end behind its start is empty and has no bad escape (`bad-none`). Any other is the slice that is searched (`part-is`).
-use Rattle.structure.proofs.Arrays.{bad-none, part-is}
 use Rattle.literal.specs.Escapes.{badEscape}
+use Rattle.token.proofs.Table.{part-is}
+use Rattle.structure.proofs.Bytes.{bad-none}
 use mathlib.Core.Path.{_∙_, ap}
 use borrow.Author.Needs.{needs}
 use Rattle.structure.proofs.inner.values.bad_escape_in.Statement.{statement}

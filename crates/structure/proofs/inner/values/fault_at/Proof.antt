@@ -2,9 +2,9 @@
 -- literals, is what the definition takes (`opens-two`, `opens-one`).
 use Rattle.structure.specs.declared.Fault.the-variants.{Sound}
 use Rattle.structure.proofs.Faults.{value-word, value-number, value-minus, value-string, value-insens, value-character, value-none}
-use Rattle.structure.proofs.Arrays.{opens-one, opens-two}
 use native.Mathlib.Omega.{arith}
 use borrow.Author.Needs.{needs}
+use Rattle.structure.proofs.Bytes.{opens-one, opens-two}
 use Rattle.structure.proofs.inner.values.fault_at.Statement.{statement}
 use Rattle.structure.proofs.inner.values.fault_at.Tie as tie
 
@@ -21,15 +21,15 @@ peek-fault-requires : tie.Need-peek-fault-requires
 peek-fault-requires c κs = search needs
 
 literal-fault-requires : tie.Need-literal-fault-requires
-literal-fault-requires c κs = (c .before .before .before .before .before .before .pre .0, (c .before .before .before .before .before .before .pre .1, opens-one _ _ _ (c .before .kind-at .ensures) (λ h. let q = c .match .keys4 in omega arith)))
+literal-fault-requires c κs = (c .before .before .before .before .pre .0, (c .before .before .before .before .pre .1, opens-one _ _ _ (c .before .kind-at .ensures) (λ h. let q = c .match .keys4 in omega arith)))
 
 literal-fault-requires-2 : tie.Need-literal-fault-requires-2
 literal-fault-requires-2 c κs =
-    let start = c .before .before .before .before .before .before in
+    let start = c .before .before .before .before in
     (start .pre .0, (start .pre .1, opens-two _ _ _ (c .before .kind-at .ensures) (c .match .keys5)))
 
 literal-fault-requires-3 : tie.Need-literal-fault-requires-3
-literal-fault-requires-3 c κs = (c .before .before .before .before .before .before .pre .0, (c .before .before .before .before .before .before .pre .1, opens-one _ _ _ (c .before .kind-at .ensures) (λ h. let q = c .match .keys6 in omega arith)))
+literal-fault-requires-3 c κs = (c .before .before .before .before .pre .0, (c .before .before .before .before .pre .1, opens-one _ _ _ (c .before .kind-at .ensures) (λ h. let q = c .match .keys6 in omega arith)))
 
 returns : tie.Need-returns
 returns c = value-word _ _ _ _ _ (c .before .before .kind-at .ensures) _ (c .before .match .keys1) (c .word-fault .ensures)

@@ -1,76 +1,78 @@
 -- Invariant (`FaultInv`): the first fault of the text is the first from token i on, the token before being of kind `before`. A sound token is
 -- passed, so that the tokens left fall; any fault is the first (`faults-stop`).
 use Rattle.structure.proofs.Faults.{FaultInv, faults-start, faults-more, faults-stop, faults-none}
-use Rattle.structure.proofs.Arrays.{sizes, kind-in}
 use Rattle.structure.specs.declared.Fault.the-variants.{Over, Zero, PeekRange, NotScalar, NotPlain}
-use Rattle.structure.specs.Tokens.{toks}
 use borrow.Author.Needs.{needs}
 use native.Mathlib.Omega.{arith}
 use lib.ListN.{length}
 use Prim.Native.Nat.{_-_}
 use mathlib.Core.Path.{refl}
+use Rattle.token.specs.Table.{toks}
 use Rattle.structure.proofs.inner.values.faults.Statement.{statement}
 use Rattle.structure.proofs.inner.values.faults.Tie as tie
 
 abbrev Inv-loop : tie.InvT-loop
-Inv-loop text kinds starts ends level before₀ i₀ before i = FaultInv level text before i
+Inv-loop text tokens level n before₀ i₀ before i = FaultInv level text before i
 
 abbrev μ-loop : tie.MeasureT-loop
-μ-loop text kinds starts ends level before₀ i₀ before i = length (toks text) - i
+μ-loop text tokens level n before₀ i₀ before i = length (toks text) - i
+
+token-count-requires : tie.Need-token-count-requires Inv-loop μ-loop
+token-count-requires c κs = search needs
 
 loop-holds : tie.Need-loop-holds Inv-loop μ-loop
 loop-holds c = faults-start _ _
 
 fault-at-requires : tie.Need-fault-at-requires Inv-loop μ-loop
-fault-at-requires c κs = (c .before .before .before .before .before .before .pre, (let z = sizes _ _ _ _ (c .before .before .before .before .before .before .pre) in let h = c .loop-test .taken in omega arith))
+fault-at-requires c κs = (c .before .before .before .before .before .pre, (let z = c .before .before .token-count .ensures in let h = c .loop-test .taken in omega arith))
 
 enum-told : tie.Need-enum-told Inv-loop μ-loop
 enum-told c = search needs
 
-shared-slice-read-before : tie.Need-shared-slice-read-before Inv-loop μ-loop
-shared-slice-read-before c = search needs
+kind-at-requires : tie.Need-kind-at-requires Inv-loop μ-loop
+kind-at-requires c κs = search needs
 
 add-i : tie.Need-add-i Inv-loop μ-loop
-add-i c = let z = sizes _ _ _ _ (c .before .before .before .before .before .before .before .before .before .before .pre) in let h = c .before .before .before .before .loop-test .taken in omega arith
+add-i c = let z = c .before .before .before .before .before .before .token-count .ensures in let h = c .before .before .before .before .loop-test .taken in omega arith
 
 loop-less : tie.Need-loop-less Inv-loop μ-loop
-loop-less c = let z = sizes _ _ _ _ (c .before .before .before .before .before .before .before .before .before .before .pre) in let h = c .before .before .before .before .loop-test .taken in omega arith
+loop-less c = let z = c .before .before .before .before .before .before .token-count .ensures in let h = c .before .before .before .before .loop-test .taken in omega arith
 
 loop-again : tie.Need-loop-again Inv-loop μ-loop
-loop-again c = faults-more _ _ _ _ (let z = sizes _ _ _ _ (c .before .before .before .before .before .before .before .before .before .before .pre) in let h = c .before .before .before .before .loop-test .taken in omega arith) (c .before .before .before .before .before .loop .inv) _ (c .before .before .before .fault-at .ensures) (c .before .enum-told .given .1) _ (kind-in _ _ _ _ (c .before .before .before .before .before .before .before .before .before .before .pre) _ (c .before .before .before .before .loop-test .taken))
+loop-again c = faults-more _ _ _ _ (let z = c .before .before .before .before .before .before .token-count .ensures in let h = c .before .before .before .before .loop-test .taken in omega arith) (c .before .before .before .before .before .loop .inv) _ (c .before .before .before .fault-at .ensures) (c .before .enum-told .given .1) _ (c .kind-at .ensures)
 
 enum-known-fault : tie.Need-enum-known-fault Inv-loop μ-loop
 enum-known-fault c = search needs
 
 returns : tie.Need-returns Inv-loop μ-loop
-returns c = faults-stop _ _ _ _ (let z = sizes _ _ _ _ (c .before .before .before .before .before .before .before .before .before .before .pre) in let h = c .before .before .before .before .loop-test .taken in omega arith) (c .before .before .before .before .before .loop .inv) _ (c .before .before .before .fault-at .ensures) (Over _) (λ f. refl) (c .before .fault .given .1)
+returns c = faults-stop _ _ _ _ (let z = c .before .before .before .before .before .before .token-count .ensures in let h = c .before .before .before .before .loop-test .taken in omega arith) (c .before .before .before .before .before .loop .inv) _ (c .before .before .before .fault-at .ensures) (Over _) (λ f. refl) (c .before .fault .given .1)
 
 enum-known-fault-2 : tie.Need-enum-known-fault-2 Inv-loop μ-loop
 enum-known-fault-2 c = search needs
 
 returns-2 : tie.Need-returns-2 Inv-loop μ-loop
-returns-2 c = faults-stop _ _ _ _ (let z = sizes _ _ _ _ (c .before .before .before .before .before .before .before .before .before .before .pre) in let h = c .before .before .before .before .loop-test .taken in omega arith) (c .before .before .before .before .before .loop .inv) _ (c .before .before .before .fault-at .ensures) (Zero _) (λ f. refl) (c .before .fault2 .given .1)
+returns-2 c = faults-stop _ _ _ _ (let z = c .before .before .before .before .before .before .token-count .ensures in let h = c .before .before .before .before .loop-test .taken in omega arith) (c .before .before .before .before .before .loop .inv) _ (c .before .before .before .fault-at .ensures) (Zero _) (λ f. refl) (c .before .fault2 .given .1)
 
 enum-known-fault-3 : tie.Need-enum-known-fault-3 Inv-loop μ-loop
 enum-known-fault-3 c = search needs
 
 returns-3 : tie.Need-returns-3 Inv-loop μ-loop
-returns-3 c = faults-stop _ _ _ _ (let z = sizes _ _ _ _ (c .before .before .before .before .before .before .before .before .before .before .pre) in let h = c .before .before .before .before .loop-test .taken in omega arith) (c .before .before .before .before .before .loop .inv) _ (c .before .before .before .fault-at .ensures) (PeekRange _) (λ f. refl) (c .before .fault3 .given .1)
+returns-3 c = faults-stop _ _ _ _ (let z = c .before .before .before .before .before .before .token-count .ensures in let h = c .before .before .before .before .loop-test .taken in omega arith) (c .before .before .before .before .before .loop .inv) _ (c .before .before .before .fault-at .ensures) (PeekRange _) (λ f. refl) (c .before .fault3 .given .1)
 
 enum-known-fault-4 : tie.Need-enum-known-fault-4 Inv-loop μ-loop
 enum-known-fault-4 c = search needs
 
 returns-4 : tie.Need-returns-4 Inv-loop μ-loop
-returns-4 c = faults-stop _ _ _ _ (let z = sizes _ _ _ _ (c .before .before .before .before .before .before .before .before .before .before .pre) in let h = c .before .before .before .before .loop-test .taken in omega arith) (c .before .before .before .before .before .loop .inv) _ (c .before .before .before .fault-at .ensures) (NotScalar _) (λ f. refl) (c .before .fault4 .given .1)
+returns-4 c = faults-stop _ _ _ _ (let z = c .before .before .before .before .before .before .token-count .ensures in let h = c .before .before .before .before .loop-test .taken in omega arith) (c .before .before .before .before .before .loop .inv) _ (c .before .before .before .fault-at .ensures) (NotScalar _) (λ f. refl) (c .before .fault4 .given .1)
 
 enum-known-fault-5 : tie.Need-enum-known-fault-5 Inv-loop μ-loop
 enum-known-fault-5 c = search needs
 
 returns-5 : tie.Need-returns-5 Inv-loop μ-loop
-returns-5 c = faults-stop _ _ _ _ (let z = sizes _ _ _ _ (c .before .before .before .before .before .before .before .before .before .before .pre) in let h = c .before .before .before .before .loop-test .taken in omega arith) (c .before .before .before .before .before .loop .inv) _ (c .before .before .before .fault-at .ensures) (NotPlain _) (λ f. refl) (c .before .fault5 .given .1)
+returns-5 c = faults-stop _ _ _ _ (let z = c .before .before .before .before .before .before .token-count .ensures in let h = c .before .before .before .before .loop-test .taken in omega arith) (c .before .before .before .before .before .loop .inv) _ (c .before .before .before .fault-at .ensures) (NotPlain _) (λ f. refl) (c .before .fault5 .given .1)
 
 returns-6 : tie.Need-returns-6 Inv-loop μ-loop
-returns-6 c = faults-none _ _ _ _ (let z = sizes _ _ _ _ (c .before .before .before .before .before .before .pre) in let h = c .loop-test .left in omega arith) (c .before .loop .inv)
+returns-6 c = faults-none _ _ _ _ (let z = c .before .before .token-count .ensures in let h = c .loop-test .left in omega arith) (c .before .loop .inv)
 
 pub faults-spec : {M : Type 1} → statement M
 faults-spec =
@@ -78,10 +80,11 @@ faults-spec =
     (tie.spec
     Inv-loop
     μ-loop
+    token-count-requires
     loop-holds
     fault-at-requires
     enum-told
-    shared-slice-read-before
+    kind-at-requires
     add-i
     loop-less
     loop-again

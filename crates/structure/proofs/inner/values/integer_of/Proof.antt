@@ -1,9 +1,9 @@
 -- By the kind: of a negative number the bytes behind `-` are read against 2^31, of any other all bytes against 2^31 - 1. A token has a byte at
 -- least and lies inside the text (`spans`), so that both slices exist.
 use Rattle.structure.proofs.Faults.{integer-negative, integer-positive}
-use Rattle.structure.proofs.Arrays.{spans}
 use native.Mathlib.Omega.{arith}
 use borrow.Author.Needs.{needs}
+use Rattle.token.proofs.Table.{spans}
 use Rattle.structure.proofs.inner.values.integer_of.Statement.{statement}
 use Rattle.structure.proofs.inner.values.integer_of.Tie as tie
 
@@ -17,16 +17,16 @@ kind-at-requires : tie.Need-kind-at-requires
 kind-at-requires c κs = search needs
 
 add-b : tie.Need-add-b
-add-b c = let p = spans _ _ (c .before .before .before .before .before .before .before .before .pre .1) in let a = c .before .before .before .start-at .ensures in let b = c .before .before .end-at .ensures in let h = c .before .before .before .before .before .before .before .before .pre .0 .short in omega arith
+add-b c = let p = spans _ _ (c .before .before .before .before .before .before .pre .1) in let a = c .before .before .before .start-at .ensures in let b = c .before .before .end-at .ensures in let h = c .before .before .before .before .before .before .pre .0 .short in omega arith
 
 sub-decimal-of : tie.Need-sub-decimal-of
-sub-decimal-of c = let p = spans _ _ (c .before .before .before .before .before .before .before .before .pre .1) in let a = c .before .before .before .start-at .ensures in let b = c .before .before .end-at .ensures in let h = c .before .before .before .before .before .before .before .before .pre .0 .short in omega arith
+sub-decimal-of c = let p = spans _ _ (c .before .before .before .before .before .before .pre .1) in let a = c .before .before .before .start-at .ensures in let b = c .before .before .end-at .ensures in let h = c .before .before .before .before .before .before .pre .0 .short in omega arith
 
 part-decimal-of-start : tie.Need-part-decimal-of-start
-part-decimal-of-start c = let p = spans _ _ (c .before .before .before .before .before .before .before .before .pre .1) in let a = c .before .before .before .start-at .ensures in let b = c .before .before .end-at .ensures in let h = c .before .before .before .before .before .before .before .before .pre .0 .short in omega arith
+part-decimal-of-start c = let p = spans _ _ (c .before .before .before .before .before .before .pre .1) in let a = c .before .before .before .start-at .ensures in let b = c .before .before .end-at .ensures in let h = c .before .before .before .before .before .before .pre .0 .short in omega arith
 
 part-decimal-of-end : tie.Need-part-decimal-of-end
-part-decimal-of-end c = let p = spans _ _ (c .before .before .before .before .before .before .before .before .pre .1) in let a = c .before .before .before .start-at .ensures in let b = c .before .before .end-at .ensures in let h = c .before .before .before .before .before .before .before .before .pre .0 .short in omega arith
+part-decimal-of-end c = let p = spans _ _ (c .before .before .before .before .before .before .pre .1) in let a = c .before .before .before .start-at .ensures in let b = c .before .before .end-at .ensures in let h = c .before .before .before .before .before .before .pre .0 .short in omega arith
 
 decimal-of-requires : tie.Need-decimal-of-requires
 decimal-of-requires c κs = search needs
@@ -40,13 +40,13 @@ returns c =
     integer-negative _ _ _ (at-kind-at .kind-at .ensures) _ _ (at-start-at .start-at .ensures) (at-end-at .end-at .ensures) _ (at-if1 .if1 .taken) (c .decimal-of .ensures)
 
 sub-decimal-of-2 : tie.Need-sub-decimal-of-2
-sub-decimal-of-2 c = let p = spans _ _ (c .before .before .before .before .before .before .before .before .pre .1) in let a = c .before .before .before .start-at .ensures in let b = c .before .before .end-at .ensures in let h = c .before .before .before .before .before .before .before .before .pre .0 .short in omega arith
+sub-decimal-of-2 c = let p = spans _ _ (c .before .before .before .before .before .before .pre .1) in let a = c .before .before .before .start-at .ensures in let b = c .before .before .end-at .ensures in let h = c .before .before .before .before .before .before .pre .0 .short in omega arith
 
 part-decimal-of-start-2 : tie.Need-part-decimal-of-start-2
-part-decimal-of-start-2 c = let p = spans _ _ (c .before .before .before .before .before .before .before .before .pre .1) in let a = c .before .before .before .start-at .ensures in let b = c .before .before .end-at .ensures in let h = c .before .before .before .before .before .before .before .before .pre .0 .short in omega arith
+part-decimal-of-start-2 c = let p = spans _ _ (c .before .before .before .before .before .before .pre .1) in let a = c .before .before .before .start-at .ensures in let b = c .before .before .end-at .ensures in let h = c .before .before .before .before .before .before .pre .0 .short in omega arith
 
 part-decimal-of-end-2 : tie.Need-part-decimal-of-end-2
-part-decimal-of-end-2 c = let p = spans _ _ (c .before .before .before .before .before .before .before .before .pre .1) in let a = c .before .before .before .start-at .ensures in let b = c .before .before .end-at .ensures in let h = c .before .before .before .before .before .before .before .before .pre .0 .short in omega arith
+part-decimal-of-end-2 c = let p = spans _ _ (c .before .before .before .before .before .before .pre .1) in let a = c .before .before .before .start-at .ensures in let b = c .before .before .end-at .ensures in let h = c .before .before .before .before .before .before .pre .0 .short in omega arith
 
 decimal-of-requires-2 : tie.Need-decimal-of-requires-2
 decimal-of-requires-2 c κs = search needs

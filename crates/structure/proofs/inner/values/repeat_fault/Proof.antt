@@ -1,8 +1,8 @@
 -- By what the number is worth, a law of Faults for each way: too large is a fault; 0 is one exactly where `}` follows; all else is sound.
 use Rattle.structure.proofs.Faults.{repeat-other, repeat-over, repeat-some, repeat-zero, repeat-least}
-use Rattle.structure.proofs.Arrays.{sizes}
 use native.Mathlib.Omega.{arith}
 use borrow.Author.Needs.{needs}
+use Rattle.token.proofs.Table.{sizes}
 use Rattle.structure.proofs.inner.values.repeat_fault.Statement.{statement}
 use Rattle.structure.proofs.inner.values.repeat_fault.Tie as tie
 
@@ -25,7 +25,7 @@ returns : tie.Need-returns
 returns c = repeat-some _ _ _ _ (c .before .before .before .before .number-of .ensures) _ (c .before .before .value .given .1) (c .if1 .taken)
 
 add-kind-at : tie.Need-add-kind-at
-add-kind-at c = let z = sizes _ _ _ _ (c .before .before .before .before .before .before .before .before .before .pre .0) in let h = c .before .before .before .before .before .before .before .before .before .pre .1 in omega arith
+add-kind-at c = let z = sizes _ _ (c .before .before .before .before .before .before .before .pre .0) in let h = c .before .before .before .before .before .before .before .pre .1 in omega arith
 
 kind-at-requires : tie.Need-kind-at-requires
 kind-at-requires c κs = search needs
