@@ -50,7 +50,7 @@ fn pack(code: usize, kind: usize, backslash: usize, depth: usize) -> Packed
 }
 
 // A state in numbers.
-pub(crate) fn packed(q: State) -> Packed
+pub fn packed(q: State) -> Packed
     ensures { λ r. ⌜ partsBy r ≡ Keep.partsOf q ⌝ }
 {
     match q {
@@ -88,7 +88,7 @@ pub(crate) fn packed(q: State) -> Packed
 }
 
 // The tokens' machine refused.
-pub(crate) fn refused(c: Conf) -> Check
+pub fn refused(c: Conf) -> Check
     ensures { λ r. ⌜ r ≡ refusedAt c ⌝ }
 {
     let q = c.state;
@@ -100,7 +100,7 @@ pub(crate) fn refused(c: Conf) -> Check
 }
 
 // Bytes that were seen and are not yet counted.
-pub(crate) fn waiting(q: State) -> usize
+pub fn waiting(q: State) -> usize
     ensures { λ r. ⌜ r ≡ Keep.waiting q ⌝ }
 {
     let p = packed(q);
@@ -113,7 +113,7 @@ pub(crate) fn waiting(q: State) -> usize
     }
 }
 
-pub(crate) fn utf_code(u: Utf) -> usize
+pub fn utf_code(u: Utf) -> usize
     ensures { λ r. ⌜ r ≡ Keep.utfCode u ⌝ }
 {
     match u {
@@ -133,7 +133,7 @@ fn utf_start(u: Utf) -> usize
     }
 }
 
-pub(crate) fn standing(c: Stand) -> Feed
+pub fn standing(c: Stand) -> Feed
     ensures { λ r. ⌜ r ≡ numbered (Status.Open c) ⌝ }
 {
     let conf = c.conf;
@@ -154,7 +154,7 @@ pub(crate) fn standing(c: Stand) -> Feed
     }
 }
 
-pub(crate) fn held(number: usize, place: usize, records: usize) -> Feed
+pub fn held(number: usize, place: usize, records: usize) -> Feed
     ensures { λ r. ⌜ r ≡ numbered (Status.Held number place records) ⌝ }
 {
     Feed {

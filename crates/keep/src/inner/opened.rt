@@ -241,7 +241,7 @@ fn fits(c: Stand) -> bool
     both(state_fits(q, conf.size), utf_fits(u, c.seen))
 }
 
-pub(crate) fn fresh() -> Stand
+pub fn fresh() -> Stand
     ensures { λ r. ⌜ r ≡ begin ⌝ }
 {
     Stand {
@@ -268,7 +268,7 @@ fn is_refusal(number: usize) -> bool
     }
 }
 
-pub(crate) fn status(f: Feed) -> Status
+pub fn status(f: Feed) -> Status
     ensures { λ r. ⌜ r ≡ Feeds.opened f ⌝ }
 {
     if f.number == 0 {
