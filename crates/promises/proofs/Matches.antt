@@ -17,6 +17,7 @@ use Rattle.token.specs.Blanks as TokenBlanks
 use Rattle.token.specs.Lister as TokenLister
 use Rattle.token.specs.Lists as TokenLists
 use Rattle.token.specs.Tokens as TokenTokens
+use Rattle.token.specs.Table as TokenTable
 use Rattle.table.specs.Check as TableCheck
 use Rattle.table.specs.Flat as TableFlat
 use Rattle.table.specs.Record as TableRecord
@@ -81,7 +82,7 @@ pub record Matching : Type 0 where
   pub two-lines : ranLines (ascii "r={\"a\"}") (97 ∷ 13 ∷ 10 ∷ 98 ∷ []) zeros ≡ 0 ∷ 0 ∷ 1 ∷ 1 ∷ 1 ∷ 0 ∷ 0 ∷ 0 ∷ 0 ∷ 1 ∷ []
 
 pub matching : Matching
-unfolding TextChoice.all TextClasses.classOf TextDigits.decimalFrom TextDigits.decimalOf TextDigits.digits TextDigits.decimal TextDigits.decimalPut TextDigits.decimalIn TextDigits.hexOf TextDigits.hexDigit TextDigits.hexes TextScans.spelled TextScans.sought TextSplice.spent TextSplice.fronted TextUtf8.scalar TextUtf8.leadOf TextUtf8.gathered TextUtf8.judged TextUtf8.charOf TextUtf8.firstBad TextUtf8.encoded TextUtf8.encodeOf TextUtf8.encodeIn TextWords.isWord TextWords.begins TextWords.wordOf LiteralEscapes.digitsOf LiteralEscapes.simpleOf LiteralEscapes.pairOf LiteralEscapes.bracedOf LiteralEscapes.afterOf LiteralEscapes.escapeOf LiteralEscapes.noEscape LiteralEscapes.badEscape LiteralEscapes.unescaped LiteralEscapes.unescapeOf LiteralEscapes.unescapeIn LiteralLiterals.hexCount LiteralLiterals.showOf LiteralLiterals.shownBy LiteralLiterals.shown LiteralLiterals.inside LiteralLiterals.literal LiteralLiterals.formatOf LiteralLiterals.formatIn TokenBlanks.run TokenBlanks.markOf TokenBlanks.closeOf TokenBlanks.lineBlank TokenBlanks.slashBlank TokenBlanks.returnBlank TokenBlanks.openerBlank TokenBlanks.blankBy TokenLister.nextOf TokenLister.lister TokenLists.tokensIn TokenLists.tokensFrom TokenLists.tokensOf TokenLists.filledOf TokenTokens.allowed TokenTokens.wordToken TokenTokens.tagToken TokenTokens.numberToken TokenTokens.minusToken TokenTokens.dotsToken TokenTokens.insideLook TokenTokens.stringOf TokenTokens.insensToken TokenTokens.quoted TokenTokens.charToken TokenTokens.docToken TokenTokens.openerToken TokenTokens.oneKind TokenTokens.tokenBy TokenTokens.tokenOf TokenTokens.tokenAt TableCheck.shaped TableCheck.isUtf8 TableCheck.isName TableCheck.isLabel TableCheck.goodLeaf TableCheck.goodOp TableCheck.goodAt TableCheck.goodName TableCheck.goodRoot TableCheck.goodRule TableCheck.lowest TableCheck.tables TableCheck.numbered TableCheck.verdict TableCheck.fine TableCheck.fineRule TableCheck.fineRules TableFlat.numbersOf TableFlat.flat TableFlat.front TableFlat.ruleRecord TableFlat.nodesFrom TableFlat.recordsFrom TableRecord.nodeOf TableRecord.nodeAt TableRecord.spanAt TableRecord.rowAt TableRecord.column TableRecord.treeAt TableRecord.firstAt TableRecord.headAt TableRecord.ruleRowAt TableRecord.ruleAt TableRecord.rulesFrom TableRecord.rulesOf TableRegroup.joined TableRegroup.regrouped TableRegroup.parts TableRegroup.regroup TableRegroup.links TableRegroup.grouped TableRegroup.untagged TableRegroup.items TableRegroup.unlabelled TableTree.below TableTree.counts TableTree.stored TableTree.ruleStored TableTree.rulesStored TableTree.aside StructureAnswers.unread StructureAnswers.summary StructureAnswers.wanted StructureAnswers.openingOf StructureAnswers.signs StructureAnswers.bracketOf StructureAnswers.tailOf StructureAnswers.tailed StructureAnswers.ruleSummary StructureAnswers.summaries StructureStructure.next StructureStructure.want StructureStructure.opened StructureStructure.join StructureStructure.closed TableTree.endsAt TableTree.startsAt StructureStructure.before StructureStructure.after StructureStructure.inTag StructureStructure.fromNumber StructureStructure.fromComma StructureStructure.postfixAt StructureStructure.sliceTo StructureStructure.slice StructureStructure.pushed StructureStructure.ranged StructureStructure.leafAt StructureStructure.body StructureStructure.run StructureStructure.Run StructureStructure.markAt StructureStructure.ruleOf StructureStructure.thenRules StructureStructure.ruleAt StructureStructure.rulesIn StructureStructure.docsIn StructureStructure.grammar StructureTokens.tokenOf StructureTokens.kind StructureTokens.start StructureTokens.end StructureTokens.is StructureTokens.part StructureTokens.word StructureTokens.label StructureTokens.spells StructureValues.number StructureValues.integer StructureValues.string StructureValues.character StructureValues.faultAt StructureValues.faultsFrom StructureValues.faults RecordsRecords.written RecordsRecords.ruleWritten BuildBuild.suffixOf ReaderRead.roomBy ReaderRead.listedOf ReaderRead.judgedOf ReaderRead.readOf ReaderRead.leftIn ReaderRead.numbered TableNames.sameText TableNames.otherName TableNames.ruleNamed MatcherProgram.actOf MatcherProgram.linkFor MatcherProgram.mentionOf MatcherProgram.linkAt MatcherProgram.program MatcherProgram.fitAt MatcherProgram.knownAt MatcherProgram.ownAt MatcherProgram.named MatcherMatch.after MatcherMatch.took MatcherMatch.lower MatcherMatch.starts MatcherMatch.one MatcherMatch.full MatcherMatch.rounds MatcherMatch.repeat MatcherMatch.enter MatcherMatch.visit MatcherAnswers.readyNames MatcherAnswers.readyOf MatcherAnswers.reply MatcherAnswers.lineOf MatcherAnswers.matchOf MatcherAnswers.numbered MatcherLines.lines MatcherLines.past MatcherLines.rows MatcherLines.ranOver MatcherLines.linesOf MatcherLines.recorded MatcherLines.recordsOf
+unfolding TextChoice.all TextClasses.classOf TextDigits.decimalFrom TextDigits.decimalOf TextDigits.digits TextDigits.decimal TextDigits.decimalPut TextDigits.decimalIn TextDigits.hexOf TextDigits.hexDigit TextDigits.hexes TextScans.spelled TextScans.sought TextSplice.spent TextSplice.fronted TextUtf8.scalar TextUtf8.leadOf TextUtf8.gathered TextUtf8.judged TextUtf8.charOf TextUtf8.firstBad TextUtf8.encoded TextUtf8.encodeOf TextUtf8.encodeIn TextWords.isWord TextWords.begins TextWords.wordOf LiteralEscapes.digitsOf LiteralEscapes.simpleOf LiteralEscapes.pairOf LiteralEscapes.bracedOf LiteralEscapes.afterOf LiteralEscapes.escapeOf LiteralEscapes.noEscape LiteralEscapes.badEscape LiteralEscapes.unescaped LiteralEscapes.unescapeOf LiteralEscapes.unescapeIn LiteralLiterals.hexCount LiteralLiterals.showOf LiteralLiterals.shownBy LiteralLiterals.shown LiteralLiterals.inside LiteralLiterals.literal LiteralLiterals.formatOf LiteralLiterals.formatIn TokenBlanks.run TokenBlanks.markOf TokenBlanks.closeOf TokenBlanks.lineBlank TokenBlanks.slashBlank TokenBlanks.returnBlank TokenBlanks.openerBlank TokenBlanks.blankBy TokenLister.nextOf TokenLister.lister TokenLists.tokensIn TokenLists.tokensFrom TokenLists.tokensOf TokenLists.filledOf TokenTokens.allowed TokenTokens.wordToken TokenTokens.tagToken TokenTokens.numberToken TokenTokens.minusToken TokenTokens.dotsToken TokenTokens.insideLook TokenTokens.stringOf TokenTokens.insensToken TokenTokens.quoted TokenTokens.charToken TokenTokens.docToken TokenTokens.openerToken TokenTokens.oneKind TokenTokens.tokenBy TokenTokens.tokenOf TokenTokens.tokenAt TableCheck.shaped TableCheck.isUtf8 TableCheck.isName TableCheck.isLabel TableCheck.goodLeaf TableCheck.goodOp TableCheck.goodAt TableCheck.goodName TableCheck.goodRoot TableCheck.goodRule TableCheck.lowest TableCheck.tables TableCheck.numbered TableCheck.verdict TableCheck.fine TableCheck.fineRule TableCheck.fineRules TableFlat.numbersOf TableFlat.flat TableFlat.front TableFlat.ruleRecord TableFlat.nodesFrom TableFlat.recordsFrom TableRecord.nodeOf TableRecord.nodeAt TableRecord.spanAt TableRecord.rowAt TableRecord.column TableRecord.treeAt TableRecord.firstAt TableRecord.headAt TableRecord.ruleRowAt TableRecord.ruleAt TableRecord.rulesFrom TableRecord.rulesOf TableRegroup.joined TableRegroup.regrouped TableRegroup.parts TableRegroup.regroup TableRegroup.links TableRegroup.grouped TableRegroup.untagged TableRegroup.items TableRegroup.unlabelled TableTree.below TableTree.counts TableTree.stored TableTree.ruleStored TableTree.rulesStored TableTree.aside StructureAnswers.unread StructureAnswers.summary StructureAnswers.wanted StructureAnswers.openingOf StructureAnswers.signs StructureAnswers.bracketOf StructureAnswers.tailOf StructureAnswers.tailed StructureAnswers.ruleSummary StructureAnswers.summaries StructureStructure.next StructureStructure.want StructureStructure.opened StructureStructure.join StructureStructure.closed TableTree.endsAt TableTree.startsAt StructureStructure.before StructureStructure.after StructureStructure.inTag StructureStructure.fromNumber StructureStructure.fromComma StructureStructure.postfixAt StructureStructure.sliceTo StructureStructure.slice StructureStructure.pushed StructureStructure.ranged StructureStructure.leafAt StructureStructure.body StructureStructure.run StructureStructure.Run StructureStructure.markAt StructureStructure.ruleOf StructureStructure.thenRules StructureStructure.ruleAt StructureStructure.rulesIn StructureStructure.docsIn StructureStructure.grammar TokenTable.tokOf TokenTable.kind TokenTable.start TokenTable.end TokenTable.is TokenTable.part TokenTable.word TokenTable.label StructureTokens.spells StructureValues.number StructureValues.integer StructureValues.string StructureValues.character StructureValues.faultAt StructureValues.faultsFrom StructureValues.faults RecordsRecords.written RecordsRecords.ruleWritten BuildBuild.suffixOf ReaderRead.roomBy ReaderRead.listedOf ReaderRead.judgedOf ReaderRead.readOf ReaderRead.leftIn ReaderRead.numbered TableNames.sameText TableNames.otherName TableNames.ruleNamed MatcherProgram.actOf MatcherProgram.linkFor MatcherProgram.mentionOf MatcherProgram.linkAt MatcherProgram.program MatcherProgram.fitAt MatcherProgram.knownAt MatcherProgram.ownAt MatcherProgram.named MatcherMatch.after MatcherMatch.took MatcherMatch.lower MatcherMatch.starts MatcherMatch.one MatcherMatch.full MatcherMatch.rounds MatcherMatch.repeat MatcherMatch.enter MatcherMatch.visit MatcherAnswers.readyNames MatcherAnswers.readyOf MatcherAnswers.reply MatcherAnswers.lineOf MatcherAnswers.matchOf MatcherAnswers.numbered MatcherLines.lines MatcherLines.past MatcherLines.rows MatcherLines.ranOver MatcherLines.linesOf MatcherLines.recorded MatcherLines.recordsOf
 matching =
     record {
       swallows = refl;
