@@ -9,6 +9,7 @@ use Rattle.forms.specs.declared.Style.{Style}
 use Rattle.printer.specs.Answers as Answers
 use Rattle.token.specs.Lister.{lister}
 use Rattle.matcher.specs.Answers as Match
+use Rattle.replies.specs.Replies as Replies
 use Rattle.matcher.specs.Lines.{fields, linesOf, recordsOf}
 use Rattle.replies.specs.Replies.{tallied, finding}
 use Rattle.matcher.specs.Sought.{foundOf}
@@ -38,8 +39,8 @@ pub token-unique : (s : List ℕ) (at : ℕ) {a b : List ℕ} → a ≡ tokenNum
 token-unique s at v u = v ∙ sym u
 
 -- flascjuvan_match: the answer
-pub match-unique : (ns rs st : List ℕ) (start : ℕ) (line : List ℕ) (allowance : ℕ) {a b : List ℕ} → a ≡ fields (Match.numbered (Match.matchOf ns rs st start line allowance))
-    → b ≡ fields (Match.numbered (Match.matchOf ns rs st start line allowance)) → a ≡ b
+pub match-unique : (ns rs st : List ℕ) (start : ℕ) (line : List ℕ) (allowance : ℕ) {a b : List ℕ} → a ≡ fields (Replies.numbered (Match.matchOf ns rs st start line allowance))
+    → b ≡ fields (Replies.numbered (Match.matchOf ns rs st start line allowance)) → a ≡ b
 match-unique ns rs st start line allowance v u = v ∙ sym u
 
 -- flascjuvan_match_lines: the answer, and what the records hold

@@ -7,10 +7,11 @@ use lib.ListN.{length}
 use Rattle.text.specs.Utf8.{firstBad}
 use Rattle.text.specs.declared.Check.the-variants as Check
 use Rattle.token.specs.Lists.{tokensOf}
+use Rattle.token.specs.Table.{roomOf}
 use Rattle.structure.specs.declared.Level.{Level}
 use Rattle.reader.specs.declared.Reading.the-variants as Reading
 use Rattle.reader.specs.Read.{readOf}
-use Rattle.states.specs.Feed.{roomOf, numberOf, placeOf, endOf}
+use Rattle.states.specs.Feed.{numberOf, placeOf, endOf}
 use Rattle.states.specs.Packets.{Packet, joined, lent, Kept, callsOf}
 use Rattle.states.proofs.Numbers.{zeros}
 use Rattle.states.proofs.Promises.{ended, same-3}

@@ -9,6 +9,7 @@ use lib.Dec.{eqb}
 use borrow.Author.Tests.{lt-leb}
 use Rattle.text.specs.Choice.{choose, among}
 use Rattle.text.specs.Words.{begins, push}
+use Rattle.token.specs.Table.{kind, start, end, is, label}
 use Rattle.table.specs.declared.Join.{Join}
 use Rattle.table.specs.declared.Join.the-variants.{Seq, Choice}
 use Rattle.table.specs.declared.Unary.{Unary}
@@ -25,7 +26,7 @@ use Rattle.forms.specs.declared.Form.the-variants as Form
 use Rattle.forms.specs.Printing.{unaryForm, wrapForm, under}
 use Rattle.structure.specs.declared.Level.{Level}
 use Rattle.structure.specs.declared.Level.the-variants.{Tagged, Plain}
-use Rattle.structure.specs.Tokens.{kind, start, end, is, label, spells}
+use Rattle.structure.specs.Tokens.{spells}
 use Rattle.structure.specs.Structure.{Parsed, got, refused, next, join, closed, before, after, inTag, Postfix, post, noPost, postfixAt, postsBy, expr, term, signed, node, chain, posts, Run}
 use Rattle.structure.proofs.Steps.{choose-true, choose-false, next-good, want-true, opened-false}
 use Rattle.structure.proofs.Grammar.{expr-law, chain-law, term-law, signed-law, node-law, posts-law}

@@ -9,7 +9,7 @@ use native.Mathlib.Decide.{decLe}
 use native.Mathlib.Omega.{arith}
 use lib.ListN.{length}
 use Rattle.token.specs.Blanks.{run, openerBlank, blankBy}
-use Rattle.token.specs.Tokens.{allowed, wordToken, oneKind, tokenBy, tokenAt}
+use Rattle.token.specs.Tokens.{allowed, wordToken, oneKind, tokenBy, tokenAt, pushLiteral}
 use Rattle.token.specs.Tokens as Token
 use Rattle.token.specs.Lists.{tokensIn, tokensFrom, tokensOf}
 use Rattle.table.specs.declared.Join.the-variants.{Choice}
@@ -20,10 +20,11 @@ use Rattle.text.specs.Scans.{sought}
 use Rattle.text.specs.Words.{begins, push}
 use Rattle.text.specs.Utf8.{encoded}
 use Rattle.literal.specs.Literals.{shown, showOf, shownBy}
+use Rattle.token.specs.Table.{toks, tokOf, kind, start, end, is, part, word}
 use Rattle.forms.specs.declared.Style.the-variants.{Full, Short}
 use Rattle.forms.specs.declared.Place.the-variants.{Alone}
 use Rattle.forms.specs.Printing.{brackets, enclosed, character, rangeText, sortText, tagText, printed}
-use Rattle.structure.specs.Tokens.{toks, tokenOf, kind, start, end, is, part, word, spells, pushLiteral}
+use Rattle.structure.specs.Tokens.{spells}
 use Rattle.structure.proofs.Steps.{inside-is}
 use Rattle.promises.specs.Pairs.{here, past-close, past-open, past-other, Pair, without, cut}
 use Rattle.promises.specs.Fewest.{opensTo}
@@ -98,7 +99,7 @@ pub record Pairs : Type 0 where
   pub push-literal-spelled : spells pushLiteral pushedLiteral 3 ≡ true
 
 pub pairs : Pairs
-unfolding without cut opensTo classOf begins sought run openerBlank blankBy allowed wordToken oneKind tokenBy Token.tokenOf tokenAt tokensIn tokensFrom tokensOf tokenOf kind start end is part word spells
+unfolding without cut opensTo classOf begins sought run openerBlank blankBy allowed wordToken oneKind tokenBy Token.tokenOf tokenAt tokensIn tokensFrom tokensOf tokOf kind start end is part word spells
 pairs = record {
   outer = record {
     opens = refl;

@@ -9,6 +9,7 @@ use native.Mathlib.Decide.{decLe}
 use lib.Dec.{ltb}
 use lib.ListN.{length}
 use borrow.Author.Tests.{ltb-true, ltb-false}
+use Rattle.token.specs.Table.{toks, is}
 use Rattle.table.specs.Tree.{Tree, leaf, one, two, aside, placed}
 use Rattle.forms.specs.declared.Place.{Place}
 use Rattle.forms.specs.declared.Place.the-variants.{LeftOf, RightOf}
@@ -16,7 +17,6 @@ use Rattle.forms.specs.declared.Form.the-variants.{Joined}
 use Rattle.forms.specs.Printing.{atomForm, wrapForm, under}
 use Rattle.forms.specs.Levels.{own, asked}
 use Rattle.forms.proofs.Levels.{short-by-level}
-use Rattle.structure.specs.Tokens.{toks, is}
 use Rattle.structure.proofs.Steps.{inside-is}
 use Rattle.promises.specs.Round.{one?, atomDepth, wrapDepth}
 use Rattle.forms.specs.declared.Style.the-variants.{Short}

@@ -11,6 +11,7 @@ use Rattle.literal.specs.Literals as Literals
 use Rattle.token.specs.Blanks as Blanks
 use Rattle.token.specs.Lister as Lister
 use Rattle.token.specs.Lists as Lists
+use Rattle.token.specs.Table as Table
 use Rattle.token.specs.Tokens as TokenTokens
 use Rattle.table.specs.Check as Check
 use Rattle.table.specs.Flat as Flat
@@ -42,7 +43,7 @@ unfolding Escapes.digitsOf Escapes.simpleOf Escapes.pairOf Escapes.bracedOf Esca
 literal-opened = tt
 
 unfoldable pub token-opened : Unit {0}
-unfolding Blanks.run Blanks.markOf Blanks.closeOf Blanks.lineBlank Blanks.slashBlank Blanks.returnBlank Blanks.openerBlank Blanks.blankBy Lister.nextOf Lister.lister Lists.tokensIn Lists.tokensFrom Lists.tokensOf Lists.filledOf TokenTokens.allowed TokenTokens.wordToken TokenTokens.tagToken TokenTokens.numberToken TokenTokens.minusToken TokenTokens.dotsToken TokenTokens.insideLook TokenTokens.stringOf TokenTokens.insensToken TokenTokens.quoted TokenTokens.charToken TokenTokens.docToken TokenTokens.openerToken TokenTokens.oneKind TokenTokens.tokenBy TokenTokens.tokenOf TokenTokens.tokenAt
+unfolding Blanks.run Blanks.markOf Blanks.closeOf Blanks.lineBlank Blanks.slashBlank Blanks.returnBlank Blanks.openerBlank Blanks.blankBy Lister.nextOf Lister.lister Lists.tokensIn Lists.tokensFrom Lists.tokensOf Lists.filledOf TokenTokens.allowed TokenTokens.wordToken TokenTokens.tagToken TokenTokens.numberToken TokenTokens.minusToken TokenTokens.dotsToken TokenTokens.insideLook TokenTokens.stringOf TokenTokens.insensToken TokenTokens.quoted TokenTokens.charToken TokenTokens.docToken TokenTokens.openerToken TokenTokens.oneKind TokenTokens.tokenBy TokenTokens.tokenOf TokenTokens.tokenAt Table.tokOf Table.kind Table.start Table.end Table.is Table.part Table.word Table.label
 token-opened = tt
 
 unfoldable pub table-opened : Unit {0}
@@ -58,7 +59,7 @@ unfolding PrinterAnswers.tableText PrinterAnswers.roomOf PrinterAnswers.printOf 
 printer-opened = tt
 
 unfoldable pub structure-opened : Unit {0}
-unfolding StructureAnswers.unread StructureAnswers.summary StructureAnswers.wanted StructureAnswers.openingOf StructureAnswers.signs StructureAnswers.bracketOf StructureAnswers.tailOf StructureAnswers.tailed StructureAnswers.ruleSummary StructureAnswers.summaries Structure.next Structure.want Structure.opened Structure.join Structure.closed Structure.before Structure.after Structure.inTag Structure.fromNumber Structure.fromComma Structure.postfixAt Structure.sliceTo Structure.slice Structure.pushed Structure.ranged Structure.leafAt Structure.body Structure.run Structure.Run Structure.markAt Structure.ruleOf Structure.thenRules Structure.ruleAt Structure.rulesIn Structure.docsIn Structure.grammar StructureTokens.tokenOf StructureTokens.kind StructureTokens.start StructureTokens.end StructureTokens.is StructureTokens.part StructureTokens.word StructureTokens.label StructureTokens.spells Values.number Values.integer Values.string Values.character Values.faultAt Values.faultsFrom Values.faults
+unfolding StructureAnswers.unread StructureAnswers.summary StructureAnswers.wanted StructureAnswers.openingOf StructureAnswers.signs StructureAnswers.bracketOf StructureAnswers.tailOf StructureAnswers.tailed StructureAnswers.ruleSummary StructureAnswers.summaries Structure.next Structure.want Structure.opened Structure.join Structure.closed Structure.before Structure.after Structure.inTag Structure.fromNumber Structure.fromComma Structure.postfixAt Structure.sliceTo Structure.slice Structure.pushed Structure.ranged Structure.leafAt Structure.body Structure.run Structure.Run Structure.markAt Structure.ruleOf Structure.thenRules Structure.ruleAt Structure.rulesIn Structure.docsIn Structure.grammar StructureTokens.spells Values.number Values.integer Values.string Values.character Values.faultAt Values.faultsFrom Values.faults
 structure-opened = tt
 
 unfoldable pub records-opened : Unit {0}

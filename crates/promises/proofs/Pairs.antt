@@ -6,6 +6,7 @@ use mathlib.Core.List.{List, [], _∷_, _++_, append-assoc, append-nil}
 use lib.Dec.{eqb, ltb}
 use Rattle.text.specs.Choice.{choose, and, or}
 use Rattle.text.specs.Words.{begins, push}
+use Rattle.token.specs.Tokens.{pushLiteral}
 use Rattle.table.specs.declared.Unary.the-variants.{PosPred, NegPred, Opt, Rep, RepOnce, RepExact, RepMin, RepMax, RepMinMax, Push}
 use Rattle.table.specs.declared.Sort.the-variants.{Str, Insens, Ident, PushLiteral}
 use Rattle.table.specs.declared.Join.{Join}
@@ -13,7 +14,7 @@ use Rattle.table.specs.declared.Join.the-variants.{Seq, Choice}
 use Rattle.table.specs.declared.End.{End}
 use Rattle.table.specs.declared.End.the-variants.{Open, At}
 use Rattle.table.specs.Tree.{Atom, text, range, peekSlice, Wrap, plain, nodeTag, Tree, leaf, one, two, Rule}
-use Rattle.structure.specs.Tokens.{same, peek, pushLiteral}
+use Rattle.structure.specs.Tokens.{same, peek}
 use Rattle.promises.specs.Pieces.{Piece, gap, tok, lbrace, rbrace, space, equals, dots, signedKind, integer, endPieces, opens, closes, enclosed, atomPieces, before, after, separator, pieces, markPieces, rulePieces, rulesPieces}
 use Rattle.promises.proofs.Bared.{Bared, at-leaf, at-one, at-two, in-one, in-left, in-right, BaredRules, in-first, in-rest}
 

@@ -5,6 +5,7 @@ use mathlib.Core.Bool.{Bool, true, false}
 use mathlib.Core.List.{List, [], _∷_, map}
 use native.Mathlib.Omega.{arith}
 use lib.ListN.{length}
+use Rattle.token.specs.Table.{toks}
 use Rattle.table.specs.Tree.{Rule, Nowhere, ruleBy, asideRule}
 use Rattle.table.specs.Record as Record
 use Rattle.table.specs.Regroup.{regroup, untagged, regroupRules, untaggedRules}
@@ -13,7 +14,6 @@ use Rattle.forms.specs.declared.Style.the-variants.{Full, Short}
 use Rattle.printer.specs.Answers.{tableText}
 use Rattle.structure.specs.declared.Level.{Level}
 use Rattle.structure.specs.declared.Level.the-variants.{Tagged, Plain}
-use Rattle.structure.specs.Tokens.{toks}
 use Rattle.build.specs.Rules.{rulesOf}
 use Rattle.promises.specs.Pieces.{spelled, rulesPieces}
 use Rattle.promises.specs.Pairs.{Pair, cut}

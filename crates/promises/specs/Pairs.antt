@@ -5,7 +5,9 @@ use mathlib.Core.Bool.{true, false}
 use mathlib.Core.List.{List, _++_}
 use lib.ListN.{take, drop}
 use Rattle.text.specs.Words.{push}
-use Rattle.structure.specs.Tokens.{start, is, spells, pushLiteral}
+use Rattle.token.specs.Table.{start, is}
+use Rattle.token.specs.Tokens.{pushLiteral}
+use Rattle.structure.specs.Tokens.{spells}
 
 -- behind a `(`, from token i on, with d more open inside it: the `)` that closes it is token j
 pub data Closed (s : List ℕ) : ℕ → ℕ → ℕ → Type 0 where
