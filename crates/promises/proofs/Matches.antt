@@ -12,6 +12,7 @@ use Rattle.replies.specs.declared.Answer.{Answer}
 use Rattle.replies.specs.declared.Answer.the-variants.{Matched, NoMatch, Unfit, NoRule, NotUtf8, Over}
 use Rattle.matcher.specs.Answers.{matchOf}
 use Rattle.promises.specs.Twelve.{ascii}
+use Rattle.matcher.specs.Lines.{recordsOf as linesRecordsOf}
 use Rattle.promises.proofs.Opened.{all-opened}
 
 -- rule 0 of a layout, read at the tagged level, over a line

@@ -29,6 +29,8 @@ use Rattle.structure.specs.Values as Values
 use Rattle.records.specs.Records as Records
 use Rattle.build.specs.Build as Build
 use Rattle.reader.specs.Read as Read
+use Rattle.links.specs.Ready as Ready
+use Rattle.replies.specs.Replies as Replies
 use Rattle.links.specs.Program as Program
 use Rattle.matcher.specs.Match as Match
 use Rattle.matcher.specs.Answers as MatcherAnswers
@@ -79,7 +81,7 @@ unfolding Program.actOf Program.linkFor Program.mentionOf Program.linkAt Program
 links-opened = tt
 
 unfoldable pub matcher-opened : Unit {0}
-unfolding Match.after Match.took Match.lower Match.starts Match.one Match.full Match.rounds Match.repeat Match.enter Match.visit MatcherAnswers.readyNames MatcherAnswers.readyOf MatcherAnswers.reply MatcherAnswers.lineOf MatcherAnswers.matchOf MatcherAnswers.numbered Lines.lines Lines.past Lines.rows Lines.ranOver Lines.linesOf Lines.recorded Lines.recordsOf
+unfolding Match.after Match.took Match.lower Match.starts Match.one Match.full Match.rounds Match.repeat Match.enter Match.visit Ready.readyNames Ready.readyOf MatcherAnswers.reply MatcherAnswers.lineOf MatcherAnswers.matchOf Replies.numbered Lines.lines Lines.past Lines.rows Lines.ranOver Lines.linesOf Lines.recorded Lines.recordsOf
 matcher-opened = tt
 
 -- reading and printing

@@ -60,7 +60,7 @@ pub fn read(
     }
     let t = text::inner::classes::classes();
     if text.len() <= 2048 {
-        return inner::sizes::read_listed(&t, text, level, nodes, rules, store, 2048);
+        return inner::sizes::read_listed(&t, text, level, nodes, rules, store, 1536);
     }
-    inner::sizes::read_listed(&t, text, level, nodes, rules, store, 16384)
+    inner::sizes::read_listed(&t, text, level, nodes, rules, store, 12288)
 }

@@ -1,4 +1,4 @@
-// Tables of three sizes for a text's tokens: 2048, 16384 and 65536 rows. A local table is cleared at each
+// Tables of three sizes for a text's tokens: 1536, 12288 and 65536 rows. A local table is cleared at each
 // call, so that a size too large costs time, and each size has a function of its own, so that a small text
 // needs little stack.
 use super::answers::work;
@@ -21,10 +21,10 @@ fn try_small(
 ) -> Tried
     requires { ⌜ now t ≡ classes ⌝ }
     requires { ⌜ length (now text) ≤ 65536 ⌝ }
-    ensures answer { λ r. ⌜ r ≡ triedOf 2048 level (now (text .entry)) (roomForNodes (now (nodes .entry))) (roomForRules (now (rules .entry))) (length (now (store .entry))) ⌝ }
+    ensures answer { λ r. ⌜ r ≡ triedOf 1536 level (now (text .entry)) (roomForNodes (now (nodes .entry))) (roomForRules (now (rules .entry))) (length (now (store .entry))) ⌝ }
     ensures left { λ r. ⌜ TriedLeaves level (now (text .entry)) r (now (nodes .entry)) (now (rules .entry)) (now (store .entry)) (now (nodes .exit)) (now (rules .exit)) (now (store .exit)) ⌝ }
 {
-    let mut tokens = [0u32; 6144];
+    let mut tokens = [0u32; 4608];
     work(t, text, &mut tokens, level, nodes, rules, store)
 }
 
@@ -38,10 +38,10 @@ fn try_middle(
 ) -> Tried
     requires { ⌜ now t ≡ classes ⌝ }
     requires { ⌜ length (now text) ≤ 65536 ⌝ }
-    ensures answer { λ r. ⌜ r ≡ triedOf 16384 level (now (text .entry)) (roomForNodes (now (nodes .entry))) (roomForRules (now (rules .entry))) (length (now (store .entry))) ⌝ }
+    ensures answer { λ r. ⌜ r ≡ triedOf 12288 level (now (text .entry)) (roomForNodes (now (nodes .entry))) (roomForRules (now (rules .entry))) (length (now (store .entry))) ⌝ }
     ensures left { λ r. ⌜ TriedLeaves level (now (text .entry)) r (now (nodes .entry)) (now (rules .entry)) (now (store .entry)) (now (nodes .exit)) (now (rules .exit)) (now (store .exit)) ⌝ }
 {
-    let mut tokens = [0u32; 49152];
+    let mut tokens = [0u32; 36864];
     work(t, text, &mut tokens, level, nodes, rules, store)
 }
 
@@ -78,18 +78,18 @@ pub fn read_listed(
     ensures answer { λ r. ⌜ r ≡ listedOf level (now (text .entry)) (roomForNodes (now (nodes .entry))) (roomForRules (now (rules .entry))) (length (now (store .entry))) ⌝ }
     ensures left { λ r. ⌜ Leaves level (now (text .entry)) r (now (nodes .entry)) (now (rules .entry)) (now (store .entry)) (now (nodes .exit)) (now (rules .exit)) (now (store .exit)) ⌝ }
 {
-    if room <= 2048 {
+    if room <= 1536 {
         let small = try_small(t, text, level, nodes, rules, store);
         match small {
             Tried::Done(reading) => {
                 return reading;
             }
             Tried::Full => {
-                return read_listed(t, text, level, nodes, rules, store, 16384);
+                return read_listed(t, text, level, nodes, rules, store, 12288);
             }
         }
     }
-    if room <= 16384 {
+    if room <= 12288 {
         let middle = try_middle(t, text, level, nodes, rules, store);
         match middle {
             Tried::Done(reading) => {

@@ -1,5 +1,5 @@
--- Arrays that were full left all as it was, so that the answer of the next size is the answer (`listed-again`). 65536 less `room` falls at each call.
--- The largest are never full, since no text has more tokens than bytes (`tried-all`).
+-- A table that was full left all as it was, so that the answer of the next size is the answer (`listed-again`). 65536 less `room` falls at each call.
+-- The largest is never full, since no text has more tokens than bytes (`tried-all`).
 use Prim.Native.Nat.{_-_}
 use borrow.Author.Needs.{needs}
 use native.Mathlib.Omega.{arith}
@@ -52,7 +52,7 @@ read-listed-returns : (t : ℕ) → of-read-listed read-listed-lts.Need-returns 
 read-listed-returns t c =
     let at-small = c .before in
     let at-try-small = at-small .before .before .before .before .before .before .before .before in
-    listed-done 2048 _ _ _ _ _ _ _ _ (at-try-small .try-small .ensures .0) (at-try-small .try-small .ensures .1) (at-small .small .given .1)
+    listed-done 1536 _ _ _ _ _ _ _ _ (at-try-small .try-small .ensures .0) (at-try-small .try-small .ensures .1) (at-small .small .given .1)
 
 read-listed-enum-told : (t : ℕ) → of-read-listed read-listed-lts.Need-enum-told t
 read-listed-enum-told t c = search needs
@@ -100,7 +100,7 @@ read-listed-returns-3 : (t : ℕ) → of-read-listed read-listed-lts.Need-return
 read-listed-returns-3 t c =
     let at-middle = c .before in
     let at-try-middle = at-middle .before .before .before .before .before .before .before .before in
-    listed-done 16384 _ _ _ _ _ _ _ _ (at-try-middle .try-middle .ensures .0) (at-try-middle .try-middle .ensures .1) (at-middle .middle .given .1)
+    listed-done 12288 _ _ _ _ _ _ _ _ (at-try-middle .try-middle .ensures .0) (at-try-middle .try-middle .ensures .1) (at-middle .middle .given .1)
 
 read-listed-enum-told-2 : (t : ℕ) → of-read-listed read-listed-lts.Need-enum-told-2 t
 read-listed-enum-told-2 t c = search needs

@@ -1,4 +1,4 @@
--- A table of 49152 numbers has 16384 rows; what `work` ensures for so many is handed on.
+-- A table of 36864 numbers has 12288 rows; what `work` ensures for so many is handed on.
 use borrow.Author.Needs.{needs}
 use Rattle.reader.proofs.inner.sizes.try_middle.Statement.{statement}
 use Rattle.reader.proofs.inner.sizes.try_middle.Tie as tie
