@@ -108,13 +108,16 @@ enum flascjuvan_answer {
 /* Numbers in the record of a line. */
 #define FLASCJUVAN_LINE_RECORD 5
 
-/* Numbers in a node record and in a rule record. */
+/* Numbers in a node record and in a rule record. FLASCJUVAN_RECORD is the older name of both, and right only while they
+ * are equal. */
+#define FLASCJUVAN_NODE_RECORD 6
+#define FLASCJUVAN_RULE_RECORD 6
 #define FLASCJUVAN_RECORD 6
 
 /* The most that is ever used: numbers of nodes, numbers of rules, bytes of a text or a printed store. Buffers of these
  * sizes are always enough to read into. A text of n bytes never uses more than n nodes, n rules and n store bytes. */
-#define FLASCJUVAN_NODES (4096 * FLASCJUVAN_RECORD)
-#define FLASCJUVAN_RULES (1024 * FLASCJUVAN_RECORD)
+#define FLASCJUVAN_NODES (4096 * FLASCJUVAN_NODE_RECORD)
+#define FLASCJUVAN_RULES (1024 * FLASCJUVAN_RULE_RECORD)
 #define FLASCJUVAN_TEXT 65536
 
 /* The most numbers of a list of tokens: a token has a byte at least. With such a list 14 is never given. */
@@ -220,8 +223,8 @@ enum flascjuvan_token {
 #endif
 #ifdef FLASCJUVAN_ASSERT
 FLASCJUVAN_ASSERT(sizeof(size_t) == sizeof(uint64_t), "flascjuvan needs a machine with 64-bit sizes");
-FLASCJUVAN_ASSERT(FLASCJUVAN_FIELD_R + 1 == FLASCJUVAN_RECORD, "a node record has six numbers");
-FLASCJUVAN_ASSERT(FLASCJUVAN_RULE_END + 1 == FLASCJUVAN_RECORD, "a rule record has six numbers");
+FLASCJUVAN_ASSERT(FLASCJUVAN_FIELD_R + 1 == FLASCJUVAN_NODE_RECORD, "a node record has six numbers");
+FLASCJUVAN_ASSERT(FLASCJUVAN_RULE_END + 1 == FLASCJUVAN_RULE_RECORD, "a rule record has six numbers");
 FLASCJUVAN_ASSERT(FLASCJUVAN_MATCH_STEPS + 1 == FLASCJUVAN_LINE_RECORD, "a line's record has five numbers");
 #undef FLASCJUVAN_ASSERT
 #endif
@@ -238,8 +241,8 @@ void flascjuvan_read(const uint8_t *text, size_t text_len, uint32_t tagged,
                      uint8_t *store, size_t store_len,
                      uint64_t answer[5]);
 
-/* Prints tables, a rule to a line, every bracket shown. Lend exactly the tables: after a reading, 6 times its nodes, 6
- * times its rules, and its store bytes.
+/* Prints tables, a rule to a line, every bracket shown. Lend exactly the tables: after a reading, its nodes times
+ * FLASCJUVAN_NODE_RECORD, its rules times FLASCJUVAN_RULE_RECORD, and its store bytes.
  *
  * Read again, a chain that was grouped to the right comes back grouped to the left: a ~ (b ~ c) prints as (a ~ b ~ c).
  *

@@ -332,16 +332,16 @@ static void names(void)
 /* r = { !! .. !"a" }, as many visits inside one another */
 static void nested(uint32_t visits, uint64_t number, uint64_t steps)
 {
-    static uint32_t deep[1025 * FLASCJUVAN_RECORD];
+    static uint32_t deep[1025 * FLASCJUVAN_NODE_RECORD];
     const uint64_t due[5] = {number, 0, 0, 0, steps};
     uint32_t rule[] = {RULE(0, 1, visits - 1)}, i;
     struct tables t;
     for (i = 0; i < visits; i++) {
         const uint32_t leaf[] = {NODE(1, 1, 1, 0)}, not_that[] = {NODE(7, i - 1, 0, 0)};
-        memcpy(deep + i * FLASCJUVAN_RECORD, i == 0 ? leaf : not_that, sizeof leaf);
+        memcpy(deep + i * FLASCJUVAN_NODE_RECORD, i == 0 ? leaf : not_that, sizeof leaf);
     }
     t.nodes = deep;
-    t.nodes_len = visits * FLASCJUVAN_RECORD;
+    t.nodes_len = visits * FLASCJUVAN_NODE_RECORD;
     t.rules = rule;
     t.rules_len = LENGTH(rule);
     t.store = "ra";

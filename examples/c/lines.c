@@ -64,8 +64,8 @@ static int read_layout(const char *file)
         return refuse(file, answer);
     }
     /* from here on exactly the tables are lent */
-    nodes_len = (size_t)answer[FLASCJUVAN_READ_NODES] * FLASCJUVAN_RECORD;
-    rules_len = (size_t)answer[FLASCJUVAN_READ_RULES] * FLASCJUVAN_RECORD;
+    nodes_len = (size_t)answer[FLASCJUVAN_READ_NODES] * FLASCJUVAN_NODE_RECORD;
+    rules_len = (size_t)answer[FLASCJUVAN_READ_RULES] * FLASCJUVAN_RULE_RECORD;
     store_len = (size_t)answer[FLASCJUVAN_READ_STORE];
     return RUN;
 }

@@ -13,7 +13,7 @@
 
 #include <flascjuvan.h>
 
-#define NODE_RECORDS (FLASCJUVAN_NODES / FLASCJUVAN_RECORD)
+#define NODE_RECORDS (FLASCJUVAN_NODES / FLASCJUVAN_NODE_RECORD)
 #define PRINTED_AT_FIRST 4096
 #define STACK (3u << 20)
 
@@ -115,7 +115,7 @@ static void measure(size_t count)
 {
     size_t i;
     for (i = 0; i < count; i++) {
-        const uint32_t *node = nodes + i * FLASCJUVAN_RECORD;
+        const uint32_t *node = nodes + i * FLASCJUVAN_NODE_RECORD;
         int children = children_of(node[FLASCJUVAN_FIELD_KIND]);
         uint32_t below = children > 0 ? depths[node[FLASCJUVAN_FIELD_P]] : 0;
         if (children == 2 && depths[node[FLASCJUVAN_FIELD_Q]] > below) {
@@ -137,11 +137,11 @@ static void list_names(size_t from, size_t to)
     const char *before = "; uses ";
     size_t i, k;
     for (i = from; i < to; i++) {
-        const uint32_t *node = nodes + i * FLASCJUVAN_RECORD;
+        const uint32_t *node = nodes + i * FLASCJUVAN_NODE_RECORD;
         if (node[FLASCJUVAN_FIELD_KIND] != FLASCJUVAN_NODE_IDENT) {
             continue;
         }
-        for (k = from; k < i && !same_name(nodes + k * FLASCJUVAN_RECORD, node); k++) {
+        for (k = from; k < i && !same_name(nodes + k * FLASCJUVAN_NODE_RECORD, node); k++) {
         }
         if (k == i) {
             /* a name isn't ended by a 0: its length says where it ends */
@@ -156,7 +156,7 @@ static void show(size_t rule_count, const uint8_t *printed)
 {
     size_t k, from = 0, line, column;
     for (k = 0; k < rule_count; k++) {
-        const uint32_t *rule = rules + k * FLASCJUVAN_RECORD;
+        const uint32_t *rule = rules + k * FLASCJUVAN_RULE_RECORD;
         size_t root = rule[FLASCJUVAN_RULE_ROOT];
         const uint8_t *end = printed;
         line_and_column(rule[FLASCJUVAN_RULE_START], &line, &column);
@@ -185,8 +185,8 @@ static uint8_t *print(printer *by, size_t node_count, size_t rule_count, size_t 
         if (out == NULL) {
             return NULL;
         }
-        by(nodes, node_count * FLASCJUVAN_RECORD, rules, rule_count * FLASCJUVAN_RECORD, store, store_bytes, out, room,
-           answer);
+        by(nodes, node_count * FLASCJUVAN_NODE_RECORD, rules, rule_count * FLASCJUVAN_RULE_RECORD, store, store_bytes,
+           out, room, answer);
         if (answer[FLASCJUVAN_ANSWER_NUMBER] != FLASCJUVAN_REFUSED_OUTPUT_ROOM) {
             return out;
         }

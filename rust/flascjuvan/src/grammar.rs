@@ -7,8 +7,10 @@ use crate::picture::{self, Picture};
 use crate::shape::{fold, Shape};
 use crate::{print, print_short, read, Expr, Level, ParserExpr, ParserNode, ParserRule, Refusal, Rule, RuleType, Span};
 
-/// The numbers of a record.
-pub(crate) const RECORD: usize = 6;
+/// The numbers of a node record.
+pub(crate) const NODE_RECORD: usize = 6;
+/// The numbers of a rule record.
+pub(crate) const RULE_RECORD: usize = 6;
 
 /// A grammar: the tables that reading makes and printing takes.
 ///
@@ -126,7 +128,7 @@ impl Grammar {
     /// # Ok::<(), flascjuvan::Refusal>(())
     /// ```
     pub fn node_span(&self, index: usize) -> Option<Span> {
-        (index < self.nodes.len() / RECORD).then(|| self.span(index))
+        (index < self.nodes.len() / NODE_RECORD).then(|| self.span(index))
     }
 
     /// A picture of what belongs to what, with the bytes of the text that each rule's name and each node spans.
@@ -188,7 +190,7 @@ impl Grammar {
     }
 
     pub(crate) fn rule_rows(&self) -> impl Iterator<Item = RuleRow<'_>> {
-        self.rules.chunks_exact(RECORD).map(|record| RuleRow {
+        self.rules.chunks_exact(RULE_RECORD).map(|record| RuleRow {
             name: self.text((record[0], record[1])),
             ty: rule_type(record[2]),
             root: record[3] as usize,
@@ -197,7 +199,7 @@ impl Grammar {
     }
 
     fn record(&self, index: usize) -> &[u32] {
-        &self.nodes[RECORD * index..RECORD * (index + 1)]
+        &self.nodes[NODE_RECORD * index..NODE_RECORD * (index + 1)]
     }
 
     /// The bytes that a node spans.
@@ -321,7 +323,7 @@ fn push_text(store: &mut Vec<u8>, text: &str) -> Part {
 
 /// Appends a node, and gives its index.
 fn push_node(nodes: &mut Vec<u32>, shape: Shape<Part, u32>) -> u32 {
-    let index = narrow(nodes.len() / RECORD);
+    let index = narrow(nodes.len() / NODE_RECORD);
     let [kind, p, q, r] = packed(shape);
     nodes.extend_from_slice(&[kind, 0, 0, p, q, r]);
     index

@@ -89,7 +89,7 @@ pub use refusal::{Reason, Refusal};
 pub use same::{Difference, Found};
 pub use token::{Token, TokenKind};
 
-use grammar::RECORD;
+use grammar::{NODE_RECORD, RULE_RECORD};
 use refusal::judged;
 use token::WINDOW;
 
@@ -127,14 +127,14 @@ pub enum Level {
 /// ```
 pub fn read(text: impl AsRef<[u8]>, level: Level) -> Result<Grammar, Refusal> {
     let text = text.as_ref();
-    let mut nodes = vec![0; RECORD * text.len().min(MAX_NODES)];
-    let mut rules = vec![0; RECORD * text.len().min(MAX_RULES)];
+    let mut nodes = vec![0; NODE_RECORD * text.len().min(MAX_NODES)];
+    let mut rules = vec![0; RULE_RECORD * text.len().min(MAX_RULES)];
     let mut store = vec![0; text.len().min(MAX_TEXT)];
     let [number, place, node_count, rule_count, stored] =
         raw::read(text, level == Level::Tagged, &mut nodes, &mut rules, &mut store);
     judged(number, place)?;
-    nodes.truncate(RECORD * node_count as usize);
-    rules.truncate(RECORD * rule_count as usize);
+    nodes.truncate(NODE_RECORD * node_count as usize);
+    rules.truncate(RULE_RECORD * rule_count as usize);
     store.truncate(stored as usize);
     Ok(Grammar::of(nodes, rules, store))
 }
