@@ -19,7 +19,7 @@ use Rattle.structure.proofs.Sizes.{count-join, size-join, count-closed, size-cl
 use Rattle.structure.proofs.Fuel.{went}
 use Rattle.structure.proofs.Grammar.{expr-law, chain-law}
 use Rattle.build.specs.declared.Placed.{Placed}
-use Rattle.build.specs.Build.{Room, Laid, Built, chosenEnd, chosenOf, ChoiceRoom}
+use Rattle.build.specs.Build.{TreeRoom, Laid, Built, chosenEnd, chosenOf, ChoiceRoom}
 use Rattle.records.specs.Records.{written, most, Over}
 use Rattle.records.proofs.Patches.{spanned}
 use Rattle.build.proofs.Lays.{laid-long, two-laid}
@@ -160,11 +160,11 @@ pub record BuildInv (level : Level) (s : List ℕ) (o at used free : ℕ) (table
 -- whatever the buffers were before the first term
 abbrev pub LoopInv : Level → List ℕ → ℕ → ℕ → ℕ → ℕ → Placed → List ℕ → List ℕ → ℕ → ℕ → ℕ → ℕ → ℕ → ℕ → Bool → ℕ → List ℕ → List ℕ → Type 0
 LoopInv level s o at used free first table₀ store₀ i u f a b z chosen left tbl st =
-    (table store : List ℕ) → Room (Run level s (expr o at)) table store used free → Built (Run level s (term o at)) table store used free first table₀ store₀
+    (table store : List ℕ) → TreeRoom (Run level s (expr o at)) table store used free → Built (Run level s (term o at)) table store used free first table₀ store₀
     → BuildInv level s o at used free table store i u f a b z chosen left tbl st
 
-module _ (level : Level) (s : List ℕ) (o at used free : ℕ) (table store : List ℕ) (g : Room (Run level s (expr o at)) table store used free) where
-  pub first-room : Room (Run level s (term o at)) table store used free
+module _ (level : Level) (s : List ℕ) (o at used free : ℕ) (table store : List ℕ) (g : TreeRoom (Run level s (expr o at)) table store used free) where
+  pub first-room : TreeRoom (Run level s (term o at)) table store used free
   unfolding closed
   first-room =
       let (t, i, e₁, e₂) = next-got _ _ (sym (expr-law level s o at) ∙ g .read) in
@@ -259,7 +259,7 @@ module _ (level : Level) (s : List ℕ) (o at used free : ℕ) (table store : Li
             let h = g .few in
             (inside-is s i 11 (omega arith) n₂, omega arith, omega arith)
 
-        pub bar-room : Room (Run level s (term o (i + 1))) tbl′ st u′ f
+        pub bar-room : TreeRoom (Run level s (term o (i + 1))) tbl′ st u′ f
         bar-room =
             let (t, n, e₁, e₂) = next-got _ _ (sym bar-means ∙ g .read) in
             let q = went level s (chain o (some whole) t n) (g .tree) (g .end) e₂ in
@@ -328,7 +328,7 @@ module _ (level : Level) (s : List ℕ) (o at used free : ℕ) (table store : Li
           let w = chosen-more chosen u in
           (t, n, e₁, omega arith, omega arith)
 
-      pub seq-room : Room (Run level s (term o (i + 1))) tbl st u f
+      pub seq-room : TreeRoom (Run level s (term o (i + 1))) tbl st u f
       seq-room =
           let (t, n, e₁, h₁, h₂) = seq-shape in
           let x = same-long in

@@ -9,7 +9,7 @@ use lib.Dec.{ltb}
 use lib.ListN.{length}
 use lib.Seq.{sets}
 use borrow.Author.Tests.{lt-ltb, le-ltb}
-use Rattle.text.specs.Choice.{choose}
+use Rattle.text.specs.Booleans.{choose}
 use Rattle.text.specs.Splice.{Wrote}
 use Rattle.text.specs.Splice as Splice
 use Rattle.text.proofs.Splices.{wrote-length}
@@ -20,8 +20,8 @@ use Rattle.table.specs.Record.{nodeSize}
 use Rattle.structure.specs.declared.Level.{Level}
 use Rattle.structure.specs.declared.Level.the-variants as Level
 use Rattle.structure.specs.declared.Opening.the-variants.{From}
-use Rattle.structure.specs.Answers.{unread, openingOf, tagNodes, tagBytes, signs, Signed}
-use Rattle.structure.specs.Structure.{Parsed, got, next, before, term, signed, node, posts, Run}
+use Rattle.structure.specs.Answers.{unread, openingOf, tagNodes, tagBytes, predicates, Signed}
+use Rattle.structure.specs.Structure.{Parsed, got, next, prefixed, term, signed, node, posts, Run}
 use Rattle.structure.proofs.Steps.{choose-true, choose-false, next-got, next-good, next-assoc, next-fun, next-on, want-got}
 use Rattle.structure.proofs.Sizes.{Grown, grown-none, grown-starts, stored-placed}
 use Rattle.structure.proofs.Fuel.{went}
@@ -30,8 +30,8 @@ use Rattle.structure.proofs.Checks.{was-from, grown-signs}
 use Rattle.structure.proofs.Checks as Checks
 use Rattle.structure.proofs.Cycle.{falls-term}
 use Rattle.build.specs.declared.Placed.{Placed}
-use Rattle.build.specs.declared.Trailed.{Trailed}
-use Rattle.build.specs.Build.{Room, Built, SignsRoom, SignsPut, PostsRoom, PostsPut, Trails, labelled, tagText, pastTag, bracketed, Opened, headAt, tagCount, TagRoom, Tied}
+use Rattle.build.specs.declared.PutPostfixes.{PutPostfixes}
+use Rattle.build.specs.Build.{TreeRoom, Built, SignsRoom, SignsPut, PostsRoom, PostsPut, Trails, labelled, tagText, pastTag, bracketed, Opened, termStart, tagCount, TagRoom, Tied}
 use Rattle.records.specs.Records.{most}
 use Rattle.records.proofs.Patches.{spanned}
 use Rattle.build.proofs.Lays.{laid-long}
@@ -60,31 +60,31 @@ module _ (v : Tree Span) (a : ℕ) where
   start-bracket true = ap (λ (k : Span). k .start) (place-placed (spanned a (placeOf v .stop)) v)
   start-bracket false = refl
 
-stored-signs : (s : List ℕ) (at k : ℕ) (t : Tree Span) → stored (signs s at k t) ≡ stored t
-unfolding signs before stored
+stored-signs : (s : List ℕ) (at k : ℕ) (t : Tree Span) → stored (predicates s at k t) ≡ stored t
+unfolding predicates prefixed stored
 stored-signs s at zero t = refl
 stored-signs s at (suc k) t = stored-signs s (at + 1) k t
 
-start-signs : (s : List ℕ) (at k n : ℕ) (t : Tree Span) → n ≡ suc k → placeOf (signs s at n t) .start ≡ start s at
-unfolding signs before
-start-signs s at k n t e = ap (λ (j : ℕ). placeOf (signs s at j t) .start) e
+start-signs : (s : List ℕ) (at k n : ℕ) (t : Tree Span) → n ≡ suc k → placeOf (predicates s at n t) .start ≡ start s at
+unfolding predicates prefixed
+start-signs s at k n t e = ap (λ (j : ℕ). placeOf (predicates s at j t) .start) e
 
-no-signs : (s : List ℕ) (at n : ℕ) (t : Tree Span) → n ≡ 0 → signs s at n t ≡ t
-unfolding signs
-no-signs s at n t e = ap (λ (j : ℕ). signs s at j t) e
+no-signs : (s : List ℕ) (at n : ℕ) (t : Tree Span) → n ≡ 0 → predicates s at n t ≡ t
+unfolding predicates
+no-signs s at n t e = ap (λ (j : ℕ). predicates s at j t) e
 
 -- where the finished tree starts
 head-is : (s : List ℕ) (from first : ℕ) (v : Tree Span) (a : ℕ) → from ≤ first → a ≡ placeOf v .start
-    → headAt s from first a ≡ placeOf (signs s from (first - from) (bracketed s first v)) .start
+    → termStart s from first a ≡ placeOf (predicates s from (first - from) (bracketed s first v)) .start
 head-is s from first v a h e = go (decLt from first)
   where
-    go : Dec (from < first) → headAt s from first a ≡ placeOf (signs s from (first - from) (bracketed s first v)) .start
+    go : Dec (from < first) → termStart s from first a ≡ placeOf (predicates s from (first - from) (bracketed s first v)) .start
     go (yes l) = choose-true (ltb from first) _ _ (lt-ltb from first l) ∙ sym (start-signs s from (first - from - 1) (first - from) (bracketed s first v) (omega arith))
     go (no l) =
         choose-false (ltb from first) _ _ (le-ltb from first (omega arith)) ∙ ap (λ (k : ℕ). choose (is s first 6) (λ u. start s first) (λ u. k)) e
         ∙ sym (ap (λ (τ : Tree Span). placeOf τ .start) (no-signs s from (first - from) (bracketed s first v) (omega arith)) ∙ start-bracket v (start s first) (is s first 6))
 
-head-low : (s : List ℕ) (from first a : ℕ) → length s ≤ 65536 → a ≤ most → headAt s from first a ≤ most
+head-low : (s : List ℕ) (from first a : ℕ) → length s ≤ 65536 → a ≤ most → termStart s from first a ≤ most
 head-low s from first a h l = let l₁ = low s from in let l₂ = low s first in go (ltb from first) (is s first 6) (start s from) (start s first) (omega arith) (omega arith)
   where
     go : (b c : Bool) (x y : ℕ) → x ≤ most → y ≤ most → choose b (λ u. x) (λ u. choose c (λ u. y) (λ u. a)) ≤ most
@@ -108,7 +108,7 @@ opening-yes level s at f f₁ =
     let e : at + 2 ≡ at + 1 + 1 = omega arith in
     rw (f, f₁) (ap (λ (k : ℕ). From k (tagNodes level) (tagBytes level (length (label s at)))) e ∙ ap (From (at + 1 + 1) (tagNodes level)) (tag-length level (label s at)))
 
-module _ (level : Level) (s : List ℕ) (o at used free : ℕ) (table store : List ℕ) (g : Room (Run level s (term o at)) table store used free) where
+module _ (level : Level) (s : List ℕ) (o at used free : ℕ) (table store : List ℕ) (g : TreeRoom (Run level s (term o at)) table store used free) where
   opening-is : openingOf level s at ≡ From (pastTag s at) (tagCount level s at) (length (tagText level s at))
   opening-is = go (is s at 19) refl
     where
@@ -139,7 +139,7 @@ module _ (level : Level) (s : List ℕ) (o at used free : ℕ) (table store : Li
     node-falls = falls-term level s at (pastTag s at) (tagCount level s at) (length (tagText level s at)) first opened-term (subst (λ (k : ℕ). Signed s k first) e v)
 
     abbrev finished : Tree Span → Tree Span
-    finished x = signs s from (first - from) (bracketed s first x)
+    finished x = predicates s from (first - from) (bracketed s first x)
 
     grown-finished : (x : Tree Span) → (count (finished x) ≡ count x + (first - from)) × (size (finished x) ≡ size x)
     grown-finished x =
@@ -154,11 +154,11 @@ module _ (level : Level) (s : List ℕ) (o at used free : ℕ) (table store : Li
     signed-read : Run level s (signed o (pastTag s at)) ≡ next (Run level s (node o first)) (λ t n. next (Run level s (posts t n)) (λ x m. got (finished x) m))
     signed-read =
         ap (λ (k : ℕ). Run level s (signed o k)) (sym e) ∙ v .same level o
-        ∙ ap (λ (m : Parsed). next m (λ t n. got (signs s from (first - from) t) n)) (signed-law level s o first ∙ choose-false (is s first 8) _ _ (v .noPos) ∙ choose-false (is s first 9) _ _ (v .noNeg))
+        ∙ ap (λ (m : Parsed). next m (λ t n. got (predicates s from (first - from) t) n)) (signed-law level s o first ∙ choose-false (is s first 8) _ _ (v .noPos) ∙ choose-false (is s first 9) _ _ (v .noNeg))
         ∙ next-assoc (Run level s (node o first)) _ _
         ∙ next-fun (Run level s (node o first)) _ _ (λ t n. next-assoc (Run level s (posts t n)) _ _ ∙ next-fun (Run level s (posts t n)) _ _ (λ x m. next-on _ _ _))
 
-    pub node-room : Room (Run level s (node o first)) table store₁ used mid
+    pub node-room : TreeRoom (Run level s (node o first)) table store₁ used mid
     node-room =
         let (x, n, e₁, c, d) = signed-shape in
         let (t, i, k₁, k₂) = next-got _ _ (sym signed-read ∙ e₁) in
@@ -214,7 +214,7 @@ module _ (level : Level) (s : List ℕ) (o at used free : ℕ) (table store : Li
             stop = d .short .1;
           }
 
-      module _ (tail : Trailed) (tbl₁ : List ℕ) (p : PostsPut s (r .next) (r .used) (r .from) (r .to) tbl tail tbl₁) where
+      module _ (tail : PutPostfixes) (tbl₁ : List ℕ) (p : PostsPut s (r .next) (r .used) (r .from) (r .to) tbl tail tbl₁) where
         trails : Trails (d .tree) (trailed .0) (trailed .1) (r .used) (r .from) tbl tail tbl₁
         trails = p .same level (d .tree) (d .from-is) (d .to-is) (trailed .0) (trailed .1) (trailed .2)
 
@@ -240,7 +240,7 @@ module _ (level : Level) (s : List ℕ) (o at used free : ℕ) (table store : Li
               let l = q .long in
               record { from = v .from; room = omega arith; few = omega arith; to = p .stop; after = omega arith }
 
-          module _ (u : ℕ) (tbl₃ : List ℕ) (y : u ≡ tail .used + (first - from)) (z : SignsPut s from first (tail .to) (tail .used) tbl₂ tbl₃) (a : ℕ) (b : a ≡ headAt s from first (r .from))
+          module _ (u : ℕ) (tbl₃ : List ℕ) (y : u ≡ tail .used + (first - from)) (z : SignsPut s from first (tail .to) (tail .used) tbl₂ tbl₃) (a : ℕ) (b : a ≡ termStart s from first (r .from))
               (short : length s ≤ 65536) where
             abbrev rest : Placed
             rest = record { next = tail .next; used = u; free = r .free; from = a; to = tail .to }

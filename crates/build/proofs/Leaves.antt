@@ -19,17 +19,17 @@ use Rattle.table.specs.Tree.{Span, Atom, text, range, peekSlice, atomStored, le
 use Rattle.table.specs.Record.{nodeSize}
 use Rattle.table.specs.Flat.{recordOf}
 use Rattle.table.specs.Flat as Flat
-use Rattle.text.specs.Choice.{choose, and}
-use Rattle.token.specs.Table.{toks, start, end, is, part, word}
+use Rattle.text.specs.Booleans.{choose, and}
+use Rattle.token.specs.Table.{toks, start, end, is, between, word}
 use Rattle.token.specs.Tokens.{pushLiteral}
 use Rattle.token.proofs.Table.{low, spans, word-is, part-length}
 use Rattle.structure.specs.declared.Refusal.the-variants.{NotAllowed}
 use Rattle.structure.specs.Tokens.{across, same, spells, peek}
-use Rattle.structure.specs.Values.{isInteger, integer, opening, inside, string, character}
+use Rattle.structure.specs.Values.{isInteger, integer, opening, literalBytes, string, character}
 use Rattle.structure.specs.Structure.{Parsed, got, refused, sliceTo, slice, pushed, ranged, leafAt}
 use Rattle.structure.proofs.Steps.{choose-true, choose-false, split, inside-is, want-true, no-tree, want-got, opened-got, opened-false}
 use Rattle.build.specs.declared.Placed.{Placed}
-use Rattle.build.specs.Build.{Room, Built, wordLeaf, stringLeaf}
+use Rattle.build.specs.Build.{TreeRoom, Built, wordLeaf, stringLeaf}
 use Rattle.records.specs.Records.{written, most, Fits}
 use Rattle.records.proofs.Patches.{spanned}
 use Rattle.build.proofs.Lays.{leaf-laid}
@@ -42,7 +42,7 @@ pub record LeafRoom (table store : List ℕ) (used free n : ℕ) : Type 0 where
   pub low : free + n ≤ most
 
 module _ (table store : List ℕ) (used free : ℕ) where
-  pub leaf-room : {m : Parsed} (p : Span) (a : Atom) (n : ℕ) → m ≡ got (leaf p a) n → Room m table store used free → LeafRoom table store used free (length (atomStored a))
+  pub leaf-room : {m : Parsed} (p : Span) (a : Atom) (n : ℕ) → m ≡ got (leaf p a) n → TreeRoom m table store used free → LeafRoom table store used free (length (atomStored a))
   unfolding below stored
   leaf-room p a n e g =
       let z : leaf p a ≡ g .tree = cc (e, g .read) in
@@ -75,15 +75,15 @@ module _ (table store : List ℕ) (used free : ℕ) where
 
 -- ---- a word
 
-module _ (s table store : List ℕ) (at used free : ℕ) (short : length s ≤ 65536) (inside : at < length (toks s))
-    (g : Room (got (leaf (across s at at) (text Ident (word s at))) (at + 1)) table store used free) (a z : ℕ) (e₁ : a ≡ start s at) (e₂ : z ≡ end s at) where
-  word-bytes : length (part s a z) ≡ length (word s at)
+module _ (s table store : List ℕ) (at used free : ℕ) (short : length s ≤ 65536) (here : at < length (toks s))
+    (g : TreeRoom (got (leaf (across s at at) (text Ident (word s at))) (at + 1)) table store used free) (a z : ℕ) (e₁ : a ≡ start s at) (e₂ : z ≡ end s at) where
+  word-bytes : length (between s a z) ≡ length (word s at)
   word-bytes = ap length (word-is s at a z e₁ e₂)
 
   pub word-inside : (a ≤ z) × (z ≤ length s)
-  word-inside = let p = spans s at inside in (omega arith, omega arith)
+  word-inside = let p = spans s at here in (omega arith, omega arith)
 
-  pub word-room : Splice.Room store free (part s a z)
+  pub word-room : Splice.Room store free (between s a z)
   word-room =
       let w = leaf-room table store used free (across s at at) (text Ident (word s at)) (at + 1) refl g in
       let n = word-bytes in
@@ -101,7 +101,7 @@ module _ (s table store : List ℕ) (at used free : ℕ) (short : length s ≤ 6
   pub word-few : used < most
   word-few = leaf-room table store used free (across s at at) (text Ident (word s at)) (at + 1) refl g .few
 
-  pub word-built : (k : ℕ) (tbl st : List ℕ) → Wrote store free (part s a z) st k → tbl ≡ written table used (recordOf (spanned a z) (Tip (Text Ident free (z - a))))
+  pub word-built : (k : ℕ) (tbl st : List ℕ) → Wrote store free (between s a z) st k → tbl ≡ written table used (recordOf (spanned a z) (Tip (Text Ident free (z - a))))
       → Built (got (leaf (across s at at) (text Ident (word s at))) (at + 1)) table store used free (record { next = at + 1; used = used + 1; free = k; from = a; to = z }) tbl st
   word-built k tbl st w q =
       let p = word-inside in
@@ -114,33 +114,33 @@ module _ (s table store : List ℕ) (at used free : ℕ) (short : length s ≤ 6
 
 -- ---- a string, of any sort
 
-module _ (s table store : List ℕ) (at next used free : ℕ) (sort : Sort) (short : length s ≤ 65536) (long : start s at + opening s at < end s at) (good : badEscape (inside s at) ≡ Check.Good)
-    (g : Room (got (leaf (across s at at) (text sort (string s at))) next) table store used free) (a z k : ℕ) (e₁ : a ≡ start s at) (e₂ : z ≡ end s at) (e₃ : k ≡ opening s at) where
+module _ (s table store : List ℕ) (at next used free : ℕ) (sort : Sort) (short : length s ≤ 65536) (long : start s at + opening s at < end s at) (good : badEscape (literalBytes s at) ≡ Check.Good)
+    (g : TreeRoom (got (leaf (across s at at) (text sort (string s at))) next) table store used free) (a z k : ℕ) (e₁ : a ≡ start s at) (e₂ : z ≡ end s at) (e₃ : k ≡ opening s at) where
   pub string-inside : (1 ≤ z) × (z ≤ 65536) × (z - 1 ≤ length s) × (a ≤ 65536) × (a + k ≤ z - 1)
   string-inside = let p = low s at in (omega arith, omega arith, omega arith, omega arith, omega arith)
 
-  string-part : part s (a + k) (z - 1) ≡ inside s at
+  string-part : between s (a + k) (z - 1) ≡ literalBytes s at
   string-part =
       let p : a + k ≡ start s at + opening s at = omega arith in
-      ap (λ (j : ℕ). part s j (z - 1)) p ∙ ap (λ (j : ℕ). part s (start s at + opening s at) (j - 1)) e₂
+      ap (λ (j : ℕ). between s j (z - 1)) p ∙ ap (λ (j : ℕ). between s (start s at + opening s at) (j - 1)) e₂
 
-  string-is : unescaped (part s (a + k) (z - 1)) ≡ string s at
+  string-is : unescaped (between s (a + k) (z - 1)) ≡ string s at
   unfolding string
   string-is = ap unescaped string-part
 
-  pub string-good : badEscape (part s (a + k) (z - 1)) ≡ Check.Good
+  pub string-good : badEscape (between s (a + k) (z - 1)) ≡ Check.Good
   string-good = ap badEscape string-part ∙ good
 
   string-leaf : LeafRoom table store used free (length (string s at))
   string-leaf = leaf-room table store used free (across s at at) (text sort (string s at)) next refl g
 
-  pub string-room : Splice.Room store free (unescaped (part s (a + k) (z - 1)))
+  pub string-room : Splice.Room store free (unescaped (between s (a + k) (z - 1)))
   string-room =
       let f = string-leaf .fits in
       let n = ap length string-is in
       record { fits = omega arith }
 
-  module _ (end′ : ℕ) (st : List ℕ) (w : Wrote store free (unescaped (part s (a + k) (z - 1))) st end′) where
+  module _ (end′ : ℕ) (st : List ℕ) (w : Wrote store free (unescaped (between s (a + k) (z - 1))) st end′) where
     string-end : end′ ≡ free + length (string s at)
     string-end = let n = ap length string-is in let x = w .next in omega arith
 
@@ -168,7 +168,7 @@ module _ (s table store : List ℕ) (at next used free : ℕ) (sort : Sort) (sho
 
 -- ---- the same reading by another name
 
-pub room-same : {m m′ : Parsed} {table store : List ℕ} {used free : ℕ} → m ≡ m′ → Room m table store used free → Room m′ table store used free
+pub room-same : {m m′ : Parsed} {table store : List ℕ} {used free : ℕ} → m ≡ m′ → TreeRoom m table store used free → TreeRoom m′ table store used free
 room-same e g = record { tree = g .tree; end = g .end; read = sym e ∙ g .read; room = g .room; few = g .few; fits = g .fits; low = g .low }
 
 pub built-same : {m m′ : Parsed} {table store : List ℕ} {used free : ℕ} {r : Placed} {tbl st : List ℕ} → m ≡ m′
@@ -190,7 +190,7 @@ module _ (s table : List ℕ) (used free : ℕ) (short : length s ≤ 65536) (i 
   bare-low : (start s i ≤ most) × (end s j ≤ most)
   bare-low = let p = low s i in let q = low s j in (omega arith, omega arith)
 
-  pub bare-fits : (store : List ℕ) {m : Parsed} (x : Atom) (n p q r : ℕ) → m ≡ got (leaf (across s i j) x) n → Room m table store used free → p ≤ most → q ≤ most → r ≤ most
+  pub bare-fits : (store : List ℕ) {m : Parsed} (x : Atom) (n p q r : ℕ) → m ≡ got (leaf (across s i j) x) n → TreeRoom m table store used free → p ≤ most → q ≤ most → r ≤ most
       → Fits table used a z p q r
   bare-fits store x n p q r e g b₁ b₂ b₃ =
       let w = leaf-room table store used free (across s i j) x n e g in
@@ -229,7 +229,7 @@ spelled-word p s i e = both-true (is s i 18) (same p (word s i)) e
     both-true false b q = q
 
 module _ {table store : List ℕ} {used free : ℕ} (s : List ℕ) where
-  pub range-read : (at : ℕ) → Room (ranged s at) table store used free
+  pub range-read : (at : ℕ) → TreeRoom (ranged s at) table store used free
       → (is s (at + 1 + 1) 25 ≡ true) × (at + 1 + 1 < length (toks s)) × (ranged s at ≡ got (leaf (across s at (at + 1 + 1)) (range (character s at) (character s (at + 1 + 1)))) (at + 1 + 1 + 1))
   unfolding ranged
   range-read at g =
@@ -237,7 +237,7 @@ module _ {table store : List ℕ} {used free : ℕ} (s : List ℕ) where
       let (b, q, e₂) = want-got s (at + 1 + 1) 25 _ (omega arith) e₁ in
       (b, q, want-true refused s (at + 1) 22 _ a ∙ want-true refused s (at + 1 + 1) 25 _ b)
 
-  module _ (at from i : ℕ) (g : Room (sliceTo s at from i) table store used free) where
+  module _ (at from i : ℕ) (g : TreeRoom (sliceTo s at from i) table store used free) where
     pub to-read : isInteger s i ≡ true → (i + 1 < length (toks s)) × (sliceTo s at from i ≡ got (leaf (across s at (i + 1)) (peekSlice from (At (integer s i)))) (i + 1 + 1))
     unfolding sliceTo
     to-read v =
@@ -250,7 +250,7 @@ module _ {table store : List ℕ} {used free : ℕ} (s : List ℕ) where
         let (a, p, e₁) = want-got s i 5 _ (omega arith) (sym (choose-false (isInteger s i) _ _ v) ∙ g .read) in
         (p, choose-false (isInteger s i) _ _ v ∙ want-true refused s i 5 _ a)
 
-  module _ (at i : ℕ) (g : Room (slice s at i) table store used free) where
+  module _ (at i : ℕ) (g : TreeRoom (slice s at i) table store used free) where
     pub from-read : isInteger s i ≡ true → (i + 1 < length (toks s)) × (slice s at i ≡ sliceTo s at (integer s i) (i + 1 + 1))
     unfolding slice
     from-read v =
@@ -263,7 +263,7 @@ module _ {table store : List ℕ} {used free : ℕ} (s : List ℕ) where
         let (a, p, e₁) = want-got s i 22 _ (omega arith) (sym (choose-false (isInteger s i) _ _ v) ∙ g .read) in
         (p, choose-false (isInteger s i) _ _ v ∙ want-true refused s i 22 _ a)
 
-  module _ (o at : ℕ) (g : Room (leafAt o s at) table store used free) where
+  module _ (o at : ℕ) (g : TreeRoom (leafAt o s at) table store used free) where
     pub push-read : spells pushLiteral s at ≡ true
         → (is s (at + 1 + 1) 23 ≡ true) × (at + 1 + 1 < length (toks s)) × (leafAt o s at ≡ stringLeaf PushLiteral s (at + 1 + 1) (at + 1 + 1 + 1 + 1))
     unfolding leafAt pushed

@@ -17,15 +17,15 @@ use Rattle.table.specs.Tree.{Span, plain, Tree, one, below, count, stored, plac
 use Rattle.table.specs.Record.{nodeSize}
 use Rattle.table.specs.Flat.{recordOf, flat}
 use Rattle.structure.specs.declared.Level.{Level}
-use Rattle.structure.specs.Answers.{signOf, signs}
-use Rattle.structure.specs.Structure.{got, before, after, posts, Run, Postfix, post, notPost, noPost, postfixAt, postsBy}
+use Rattle.structure.specs.Answers.{signOf, predicates}
+use Rattle.structure.specs.Structure.{got, prefixed, postfixed, posts, Run, Postfix, post, notPost, noPost, postfixAt, postsBy}
 use Rattle.structure.proofs.Steps.{sees, misses, no-tree}
 use Rattle.structure.proofs.Fuel.{went, postfix-past}
 use Rattle.structure.proofs.Checks.{grown-signs}
 use Rattle.structure.proofs.Grammar.{posts-law}
-use Rattle.build.specs.declared.Suffix.{Suffix}
-use Rattle.build.specs.declared.Suffix.the-variants as Suffix
-use Rattle.build.specs.Build.{SignsRoom, SignsPut, PostsRoom, PostsPut, Sound, suffixOf, chosenEnd, chosenOf, ChoiceRoom}
+use Rattle.build.specs.declared.FoundPostfix.{FoundPostfix}
+use Rattle.build.specs.declared.FoundPostfix.the-variants as FoundPostfix
+use Rattle.build.specs.Build.{SignsRoom, SignsPut, PostsRoom, PostsPut, Accepted, suffixOf, chosenEnd, chosenOf, ChoiceRoom}
 use Rattle.records.specs.Records.{written, most, Over}
 use Rattle.records.proofs.Patches.{spanned, length-written}
 use Rattle.build.proofs.Lays.{one-laid}
@@ -44,8 +44,8 @@ sign-yes s i x e h = sym (rw (sees s i x 8 e h))
 pub sign-no : (s : List ℕ) (i x : ℕ) → x ≡ kind s i → (x ≡ 8 → ⊥) → NegPred ≡ signOf s i
 sign-no s i x e h = sym (rw (misses s i x 8 e h))
 
-pub stop-signs : (s : List ℕ) (at k : ℕ) (t : Tree Span) → placeOf (signs s at k t) .stop ≡ placeOf t .stop
-unfolding signs before
+pub stop-signs : (s : List ℕ) (at k : ℕ) (t : Tree Span) → placeOf (predicates s at k t) .stop ≡ placeOf t .stop
+unfolding predicates prefixed
 stop-signs s at zero t = refl
 stop-signs s at (suc k) t = stop-signs s (at + 1) k t
 
@@ -53,7 +53,7 @@ abbrev pub SignsInv : List ℕ → List ℕ → ℕ → ℕ → ℕ → ℕ → 
 SignsInv s table at last z used tbl i u = (at ≤ i) × (i ≤ last) × (u ≡ used + (last - i)) × SignsPut s i last z used table tbl
 
 pub signs-start : (s table : List ℕ) (at last z used : ℕ) → SignsRoom table at last z used → SignsInv s table at last z used table last used
-unfolding signs
+unfolding predicates
 signs-start s table at last z used g =
     let n : last - last ≡ 0 = omega arith in (
       g .from,
@@ -61,7 +61,7 @@ signs-start s table at last z used g =
       omega arith,
       record {
         long = refl;
-        same = λ o t f free e q h. h ∙ ap (λ (k : ℕ). written o f (flat f free (signs s last k t))) (sym n);
+        same = λ o t f free e q h. h ∙ ap (λ (k : ℕ). written o f (flat f free (predicates s last k t))) (sym n);
       },
     )
 
@@ -79,7 +79,7 @@ module _ (s table : List ℕ) (at last z used : ℕ) (short : length s ≤ 65536
 
   pub signs-more : (a : ℕ) (p : Unary) (tbl′ : List ℕ) → a ≡ start s (i - 1) → p ≡ signOf s (i - 1) → tbl′ ≡ written tbl u (recordOf (spanned a z) (One (Plain p) (u - 1)))
       → SignsInv s table at last z used tbl′ (i - 1) (u + 1)
-  unfolding signs before
+  unfolding predicates prefixed
   signs-more a p tbl′ e₁ e₂ q =
       let x = v .0 in
       let y = v .1 in
@@ -92,7 +92,7 @@ module _ (s table : List ℕ) (at last z used : ℕ) (short : length s ≤ 65536
         record {
           long = ap length q ∙ length-written tbl u (recordOf (spanned a z) (One (Plain p) (u - 1))) ∙ v .3 .long;
           same = λ o t f free e k b.
-              let t′ = signs s i (last - i) t in
+              let t′ = predicates s i (last - i) t in
               let c = grown-signs s i (last - i) t .counts in
               let d = stop-signs s i (last - i) t in
               let r : tbl′ ≡ written tbl u (recordOf (spanned (start s (i - 1)) (placeOf t′ .stop)) (One (Plain (signOf s (i - 1))) (u - 1))) =
@@ -100,8 +100,8 @@ module _ (s table : List ℕ) (at last z used : ℕ) (short : length s ≤ 65536
               ∙ ap (λ (j : ℕ). written tbl u (recordOf (spanned (start s (i - 1)) j) (One (Plain p) (u - 1)))) (sym k ∙ sym d)
               ∙ ap (λ (j : Unary). written tbl u (recordOf (spanned (start s (i - 1)) (placeOf t′ .stop)) (One (Plain j) (u - 1)))) e₂ in
               one-holds o tbl tbl′ t′ f free (spanned (start s (i - 1)) (placeOf t′ .stop)) (signOf s (i - 1)) u (u - 1) (v .3 .same o t f free e k b) (omega arith) (omega arith) r
-              ∙ ap (λ (j : ℕ). written o f (flat f free (one (record { start = start s (i - 1); stop = placeOf (signs s j (last - i) t) .stop }) (plain (signOf s (i - 1))) (signs s j (last - i) t)))) (sym m)
-              ∙ ap (λ (j : ℕ). written o f (flat f free (signs s (i - 1) j t))) n;
+              ∙ ap (λ (j : ℕ). written o f (flat f free (one (record { start = start s (i - 1); stop = placeOf (predicates s j (last - i) t) .stop }) (plain (signOf s (i - 1))) (predicates s j (last - i) t)))) (sym m)
+              ∙ ap (λ (j : ℕ). written o f (flat f free (predicates s (i - 1) j t))) n;
         },
       )
 
@@ -111,7 +111,7 @@ signs-done s table at last z used tbl i u v h =
     let x = v .0 in
     let w = v .2 in
     let e : i ≡ at = omega arith in
-    (omega arith, record { long = v .3 .long; same = λ o t f free p k b. v .3 .same o t f free p k b ∙ ap (λ (j : ℕ). written o f (flat f free (signs s j (last - j) t))) e })
+    (omega arith, record { long = v .3 .long; same = λ o t f free p k b. v .3 .same o t f free p k b ∙ ap (λ (j : ℕ). written o f (flat f free (predicates s j (last - j) t))) e })
 
 -- ---- a choice
 
@@ -156,13 +156,13 @@ posts-start s table at used from to b = record {
   same = λ level t e₁ e₂. record { tree = t; read = refl; used-is = refl; grows = omega arith; from-is = e₁; to-is = e₂; kept = refl; holds = λ o f free e q. q };
 }
 
-was-post : (p : Postfix) (r : Suffix) (v : Unary) (n : ℕ) → r ≡ suffixOf p → r ≡ Suffix.Post v n → p ≡ post v n
+was-post : (p : Postfix) (r : FoundPostfix) (v : Unary) (n : ℕ) → r ≡ suffixOf p → r ≡ FoundPostfix.Post v n → p ≡ post v n
 unfolding suffixOf
 was-post (post w m) r v n e q = cc
 was-post (notPost x) r v n e q = let z : _≡_ {A = ℕ} 0 1 = cc in absurd (omega arith)
 was-post noPost r v n e q = let z : _≡_ {A = ℕ} 0 1 = cc in absurd (omega arith)
 
-was-none : (p : Postfix) (r : Suffix) → Sound p → r ≡ suffixOf p → r ≡ Suffix.Nothing → p ≡ noPost
+was-none : (p : Postfix) (r : FoundPostfix) → Accepted p → r ≡ suffixOf p → r ≡ FoundPostfix.Nothing → p ≡ noPost
 unfolding suffixOf
 was-none (post w m) r v e q = let z : _≡_ {A = ℕ} 0 1 = cc in absurd (omega arith)
 was-none (notPost x) r v e q = absurd (v .good x refl)
@@ -173,32 +173,32 @@ module _ (s table : List ℕ) (at used from to : ℕ) (short : length s ≤ 6553
   now = v .same (g .level) (g .tree) (g .from-is) (g .to-is)
 
   -- no postfix is refused, since all is read
-  pub posts-sound : Sound (postfixAt s i)
+  pub posts-sound : Accepted (postfixAt s i)
   posts-sound = record {
-    good = λ x q. no-tree (sym (posts-law (g .level) s (now .tree) i ∙ ap (λ (b : Postfix). postsBy b (λ p m. Run (g .level) s (posts (after (end s (m - 1)) p (now .tree)) m)) (λ _. got (now .tree) i)) q)
+    good = λ x q. no-tree (sym (posts-law (g .level) s (now .tree) i ∙ ap (λ (b : Postfix). postsBy b (λ p m. Run (g .level) s (posts (postfixed (end s (m - 1)) p (now .tree)) m)) (λ _. got (now .tree) i)) q)
         ∙ sym (now .read) ∙ g .read);
   }
 
-  module _ (r : Suffix) (e : r ≡ suffixOf (postfixAt s i)) where
-    module _ (p : Unary) (n : ℕ) (q : r ≡ Suffix.Post p n) where
+  module _ (r : FoundPostfix) (e : r ≡ suffixOf (postfixAt s i)) where
+    module _ (p : Unary) (n : ℕ) (q : r ≡ FoundPostfix.Post p n) where
       is-post : postfixAt s i ≡ post p n
       is-post = was-post (postfixAt s i) r p n e q
 
       pub post-past : (i < n) × (n ≤ length (toks s))
       post-past = postfix-past s i p n is-post
 
-      post-read : (level : Level) (t : Tree Span) → Run level s (posts t i) ≡ Run level s (posts (after (end s (n - 1)) p t) n)
+      post-read : (level : Level) (t : Tree Span) → Run level s (posts t i) ≡ Run level s (posts (postfixed (end s (n - 1)) p t) n)
       post-read level t =
-          posts-law level s t i ∙ ap (λ (x : Postfix). postsBy x (λ w m. Run level s (posts (after (end s (m - 1)) w t) m)) (λ _. got t i)) is-post
+          posts-law level s t i ∙ ap (λ (x : Postfix). postsBy x (λ w m. Run level s (posts (postfixed (end s (m - 1)) w t) m)) (λ _. got t i)) is-post
 
-      count-after : (k : ℕ) (t : Tree Span) → count (after k p t) ≡ count t + 1
-      unfolding after below
+      count-after : (k : ℕ) (t : Tree Span) → count (postfixed k p t) ≡ count t + 1
+      unfolding postfixed below
       count-after k t = omega arith
 
       post-room : u + 1 + count (g .tree) ≤ used + count (g .out)
       post-room =
           let w = now in
-          let t = after (end s (n - 1)) p (w .tree) in
+          let t = postfixed (end s (n - 1)) p (w .tree) in
           let k = went (g .level) s (posts t n) (g .out) (g .end) (sym (w .read ∙ post-read (g .level) (w .tree)) ∙ g .read) in
           let c = count-after (end s (n - 1)) (w .tree) in
           let m = k .more in
@@ -219,7 +219,7 @@ module _ (s table : List ℕ) (at used from to : ℕ) (short : length s ≤ 6553
 
       pub posts-more : (z′ : ℕ) (tbl′ : List ℕ) → z′ ≡ end s (n - 1) → tbl′ ≡ written tbl u (recordOf (spanned from z′) (One (Plain p) (u - 1)))
           → PostsInv s table at used from to tbl′ n (u + 1) z′
-      unfolding after stored
+      unfolding postfixed stored
       posts-more z′ tbl′ k q₁ =
           let l = low s (n - 1) in
           record {
@@ -231,7 +231,7 @@ module _ (s table : List ℕ) (at used from to : ℕ) (short : length s ≤ 6553
                 let c = w .used-is in
                 let d = count-after (end s (n - 1)) x in
                 record {
-                  tree = after (end s (n - 1)) p x;
+                  tree = postfixed (end s (n - 1)) p x;
                   read = w .read ∙ post-read level x;
                   used-is = omega arith;
                   grows = (let b = w .grows in omega arith);
@@ -245,7 +245,7 @@ module _ (s table : List ℕ) (at used from to : ℕ) (short : length s ≤ 6553
                 };
           }
 
-    pub posts-done : r ≡ Suffix.Nothing → PostsPut s at used from to table (record { next = i; used = u; to = z }) tbl
+    pub posts-done : r ≡ FoundPostfix.Nothing → PostsPut s at used from to table (record { next = i; used = u; to = z }) tbl
     posts-done q =
         record {
           long = v .long;
@@ -253,7 +253,7 @@ module _ (s table : List ℕ) (at used from to : ℕ) (short : length s ≤ 6553
           same = λ level t e₁ e₂ x n k.
               let w = v .same level t e₁ e₂ in
               let y = w .tree in
-              let h : Run level s (posts y i) ≡ got y i = posts-law level s y i ∙ ap (λ (b : Postfix). postsBy b (λ p m. Run level s (posts (after (end s (m - 1)) p y) m)) (λ _. got y i)) (was-none (postfixAt s i) r posts-sound e q) in
+              let h : Run level s (posts y i) ≡ got y i = posts-law level s y i ∙ ap (λ (b : Postfix). postsBy b (λ p m. Run level s (posts (postfixed (end s (m - 1)) p y) m)) (λ _. got y i)) (was-none (postfixAt s i) r posts-sound e q) in
               let m : got y i ≡ got x n = sym h ∙ sym (w .read) ∙ k in
               let a : y ≡ x = cc m in
               let b : i ≡ n = cc m in

@@ -18,12 +18,12 @@ use Rattle.table.specs.Record.{nodeSize}
 use Rattle.table.specs.Flat.{recordOf, flat}
 use Rattle.structure.specs.declared.Level.{Level}
 use Rattle.structure.specs.Tokens.{spells}
-use Rattle.structure.specs.Structure.{got, refused, next, want, limit, before, expr, node, Run, leafAt}
+use Rattle.structure.specs.Structure.{got, refused, next, want, limit, prefixed, expr, node, Run, leafAt}
 use Rattle.structure.proofs.Steps.{choose-true, choose-false, inside-is, next-got, next-good, want-true, want-got, opened-got, opened-false}
 use Rattle.structure.proofs.Sizes.{stored-placed, grown-ends, grown-before}
 use Rattle.structure.proofs.Grammar.{node-law}
 use Rattle.build.specs.declared.Placed.{Placed}
-use Rattle.build.specs.Build.{Room, Built}
+use Rattle.build.specs.Build.{TreeRoom, Built}
 use Rattle.records.specs.Records.{written, most, Over, EndMoved}
 use Rattle.records.proofs.Patches.{spanned}
 use Rattle.build.proofs.Lays.{laid-long, one-laid}
@@ -33,7 +33,7 @@ place-placed p (leaf _ a) = refl
 place-placed p (one _ o t) = refl
 place-placed p (two _ j a b) = refl
 
-module _ (level : Level) (s : List ℕ) (o at used free : ℕ) (table store : List ℕ) (g : Room (Run level s (node o at)) table store used free) where
+module _ (level : Level) (s : List ℕ) (o at used free : ℕ) (table store : List ℕ) (g : TreeRoom (Run level s (node o at)) table store used free) where
   -- ---- `(` expression `)`
   module _ (v : is s at 6 ≡ true) where
     pub group-in : at < length (toks s)
@@ -48,7 +48,7 @@ module _ (level : Level) (s : List ℕ) (o at used free : ℕ) (table store : Li
     group-read : Run level s (node o at) ≡ next (Run level s (expr (o + 1) (at + 1))) (λ t n. want refused s n 7 (λ m. got (endsAt t (end s n)) m))
     group-read = node-law level s o at ∙ choose-true (is s at 6) _ _ v ∙ opened-false o s at _ group-open
 
-    pub group-room : Room (Run level s (expr (o + 1) (at + 1))) table store used free
+    pub group-room : TreeRoom (Run level s (expr (o + 1) (at + 1))) table store used free
     group-room =
         let (t, n, e₁, e₂) = next-got _ _ (sym group-read ∙ g .read) in
         let (a, p, e₃) = want-got s n 7 _ (omega arith) e₂ in
@@ -114,16 +114,16 @@ module _ (level : Level) (s : List ℕ) (o at used free : ℕ) (table store : Li
     pub push-in : (at + 1 < length (toks s)) × (o < 1024)
     push-in = (push-shape .1, leb-false limit o (push-shape .2))
 
-    push-read : Run level s (node o at) ≡ next (Run level s (expr (o + 1) (at + 1 + 1))) (λ t n. want refused s n 7 (λ m. got (before (start s at) (plain Push) t) m))
+    push-read : Run level s (node o at) ≡ next (Run level s (expr (o + 1) (at + 1 + 1))) (λ t n. want refused s n 7 (λ m. got (prefixed (start s at) (plain Push) t) m))
     push-read =
         node-law level s o at ∙ choose-false (is s at 6) _ _ v ∙ choose-true (spells push s at) _ _ v₁ ∙ want-true refused s (at + 1) 6 _ (push-shape .0)
         ∙ opened-false o s (at + 1) _ (push-shape .2)
 
-    pub push-room : Room (Run level s (expr (o + 1) (at + 1 + 1))) table store used free
+    pub push-room : TreeRoom (Run level s (expr (o + 1) (at + 1 + 1))) table store used free
     push-room =
         let (t, n, e₁, e₂) = next-got _ _ (sym push-read ∙ g .read) in
         let (a, p, e₃) = want-got s n 7 _ (omega arith) e₂ in
-        let y : before (start s at) (plain Push) t ≡ g .tree = cc e₃ in
+        let y : prefixed (start s at) (plain Push) t ≡ g .tree = cc e₃ in
         let c = ap (count {P = Span}) y in
         let d = ap (size {P = Span}) y in
         let w = grown-before (start s at) Push t in
@@ -138,7 +138,7 @@ module _ (level : Level) (s : List ℕ) (o at used free : ℕ) (table store : Li
     pub push-over : (r : Placed) (tbl st : List ℕ) → Built (Run level s (expr (o + 1) (at + 1 + 1))) table store used free r tbl st → (a : ℕ) → a ≤ most → Over tbl (r .used) a (r .to) × (r .used < most)
     push-over r tbl st d a b =
         let (i, p, e) = want-got s (r .next) 7 _ (omega arith) (sym (push-read ∙ next-good _ _ (d .read)) ∙ g .read) in
-        let y : before (start s at) (plain Push) (d .tree) ≡ g .tree = cc e in
+        let y : prefixed (start s at) (plain Push) (d .tree) ≡ g .tree = cc e in
         let c = ap (count {P = Span}) y in
         let w₁ = grown-before (start s at) Push (d .tree) .counts in
         let l = laid-long (d .tree) table store used free tbl st (d .laid) in
@@ -150,7 +150,7 @@ module _ (level : Level) (s : List ℕ) (o at used free : ℕ) (table store : Li
     pub push-built : (r : Placed) (tbl st : List ℕ) → Built (Run level s (expr (o + 1) (at + 1 + 1))) table store used free r tbl st → (a : ℕ) → a ≡ start s at → a ≤ most
         → (tbl′ : List ℕ) → tbl′ ≡ written tbl (r .used) (recordOf (spanned a (r .to)) (One (Plain Push) (r .used - 1)))
         → (r .next < length (toks s)) × Built (Run level s (node o at)) table store used free (record { next = r .next + 1; used = r .used + 1; free = r .free; from = a; to = r .to }) tbl′ st
-    unfolding before
+    unfolding prefixed
     push-built r tbl st d a e b tbl′ m =
         let t = d .tree in
         let (i, p, e₃) = want-got s (r .next) 7 _ (omega arith) (sym (push-read ∙ next-good _ _ (d .read)) ∙ g .read) in
@@ -161,7 +161,7 @@ module _ (level : Level) (s : List ℕ) (o at used free : ℕ) (table store : Li
         let x₂ = d .free-is in (
           p,
           record {
-            tree = before (start s at) (plain Push) t;
+            tree = prefixed (start s at) (plain Push) t;
             read = push-read ∙ next-good _ _ (d .read) ∙ want-true refused s (r .next) 7 _ i;
             used-is = omega arith;
             free-is = omega arith;

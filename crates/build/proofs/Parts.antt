@@ -9,17 +9,17 @@ use borrow.Author.Tests.{eqb-true, ne-eqb}
 use Rattle.token.specs.Lists.{tok}
 use Rattle.token.proofs.Bounds.{least}
 use Rattle.token.proofs.Lists.{inside-at}
-use Rattle.token.specs.Table.{toks, tokOf, kind, start, end, is, part, label}
+use Rattle.token.specs.Table.{toks, tokOf, kind, start, end, is, between, label}
 use Rattle.token.proofs.Table.{low}
 use Rattle.structure.specs.Values.{opening}
 use Rattle.structure.proofs.Steps.{inside-is}
 use Rattle.records.specs.Records.{most}
 
-pub label-is : (s : List ℕ) (i a z : ℕ) → a ≡ start s i + 1 → z ≡ end s i → part s a z ≡ label s i
+pub label-is : (s : List ℕ) (i a z : ℕ) → a ≡ start s i + 1 → z ≡ end s i → between s a z ≡ label s i
 unfolding label
 label-is s i a z e f =
     let q : z ≡ end s i - 0 = omega arith in
-    ap (λ (j : ℕ). part s j z) e ∙ ap (part s (start s i + 1)) q
+    ap (λ (j : ℕ). between s j z) e ∙ ap (between s (start s i + 1)) q
 
 -- ---- the quotes of a literal
 

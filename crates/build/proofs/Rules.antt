@@ -16,17 +16,17 @@ use Rattle.table.proofs.Flats.{length-flat}
 use Rattle.table.proofs.Rules.{length-rule, length-nodes, length-records}
 use Rattle.structure.specs.declared.Level.{Level}
 use Rattle.structure.specs.Tokens.{across, spells}
-use Rattle.structure.specs.Structure.{got, expr, Run, silent, markAt, pastMark, pastBar, Ruled, rules, unruled, withRule, Ruling, ruling, noRule, thenRules, ruleAt, rulesIn, docs, grammar}
+use Rattle.structure.specs.Structure.{got, expr, Run, silent, markAt, pastMark, pastBar, Ruled, rules, unruled, withRule, Ruling, ruling, noRule, thenRules, ruleFrom, rulesUpTo, docs, grammar}
 use Rattle.token.proofs.Lists.{few}
-use Rattle.token.specs.Table.{toks, kind, start, end, is, part, word}
+use Rattle.token.specs.Table.{toks, kind, start, end, is, between, word}
 use Rattle.token.proofs.Table.{low, word-is, part-length}
 use borrow.Author.Tests.{leb-false}
 use Rattle.structure.proofs.Steps.{split, sees, misses}
 use Rattle.structure.proofs.Cases.{rule-read}
 use Rattle.structure.proofs.Rules.{size-rule, rule-went, rules-end, rules-doc, rules-rule}
 use Rattle.build.specs.declared.Placed.{Placed}
-use Rattle.build.specs.declared.Past.{Past}
-use Rattle.build.specs.Build.{Room, Built}
+use Rattle.build.specs.declared.RuleEnd.{RuleEnd}
+use Rattle.build.specs.Build.{TreeRoom, Built}
 use Rattle.records.specs.Records.{written, ruleWritten, RuleFits}
 use Rattle.build.specs.Rules.{RuleRoom, RuleBuilt, RulesRoom, RulesBuilt}
 use Rattle.records.proofs.Patches.{length-written, length-rule-written, sets-on, written-on, rule-written-on}
@@ -48,30 +48,30 @@ made s at t = record { name = word s at; mark = markAt s (at + 1 + 1); tree = t;
 pub mark-near : (s : List ℕ) (i x : ℕ) → x ≡ pastMark s i → x ≤ i + 1
 mark-near s i x e = split (eqb (markAt s i) 0) _ _ (λ a f. omega arith) (λ a f. omega arith) (sym e)
 
-module _ (level : Level) (s nodes rows store : List ℕ) (at index used free : ℕ) (short : length s ≤ 65536) (g : RuleRoom (ruleAt level s at) nodes rows store index used free) where
+module _ (level : Level) (s nodes rows store : List ℕ) (at index used free : ℕ) (short : length s ≤ 65536) (g : RuleRoom (ruleFrom level s at) nodes rows store index used free) where
   pub rule-inside : (at + count (g .rule .tree) < g .end) × (g .end ≤ length (toks s)) × (length (toks s) ≤ 65536)
   rule-inside = let p = rule-went level s at (g .rule) (g .end) short (g .read) in let f = few s in (p .0, p .1, omega arith)
 
   module _ (a z : ℕ) (e₁ : a ≡ start s at) (e₂ : z ≡ end s at) where
-    name-bytes : length (part s a z) ≡ length (g .rule .name)
+    name-bytes : length (between s a z) ≡ length (g .rule .name)
     name-bytes = ap length (word-is s at a z e₁ e₂ ∙ sym (ap (λ (r : Rule Span). r .name) (rule-read level s at (g .read) .rule)))
 
     pub name-inside : (a ≤ z) × (z ≤ length s)
     name-inside = let p = low s at in (omega arith, omega arith)
 
-    pub name-room : Splice.Room store free (part s a z)
+    pub name-room : Splice.Room store free (between s a z)
     name-room =
         let n = name-bytes in
         let m = size-rule (g .rule) in
         let f = g .fits in
         record { fits = omega arith }
 
-    module _ (named : ℕ) (store₁ : List ℕ) (w : Wrote store free (part s a z) store₁ named) (mark : ℕ) (e₃ : mark ≡ markAt s (at + 1 + 1)) (brace : ℕ) (e₄ : brace ≡ pastMark s (at + 1 + 1))
+    module _ (named : ℕ) (store₁ : List ℕ) (w : Wrote store free (between s a z) store₁ named) (mark : ℕ) (e₃ : mark ≡ markAt s (at + 1 + 1)) (brace : ℕ) (e₄ : brace ≡ pastMark s (at + 1 + 1))
         (inner : ℕ) (e₅ : inner ≡ pastBar s (brace + 1)) where
       body-read : Run level s (expr 0 inner) ≡ got (rule-read level s at (g .read) .body) (rule-read level s at (g .read) .past)
       body-read = ap (λ (i : ℕ). Run level s (expr 0 i)) (e₅ ∙ ap (λ (i : ℕ). pastBar s (i + 1)) e₄) ∙ rule-read level s at (g .read) .read
 
-      pub body-room : Room (Run level s (expr 0 inner)) nodes store₁ used named
+      pub body-room : TreeRoom (Run level s (expr 0 inner)) nodes store₁ used named
       body-room =
           let q = rule-read level s at (g .read) .rule in
           let c = ap (λ (r : Rule Span). count (r .tree)) q in
@@ -82,7 +82,7 @@ module _ (level : Level) (s nodes rows store : List ℕ) (at index used free : �
           let f₂ = g .few in
           let f₃ = g .fits in
           let f₄ = g .low in
-          let l = ap length (w .now) ∙ length-sets store free (part s a z) in
+          let l = ap length (w .now) ∙ length-sets store free (between s a z) in
           let k = w .next in
           record {
             tree = rule-read level s at (g .read) .body;
@@ -123,7 +123,7 @@ module _ (level : Level) (s nodes rows store : List ℕ) (at index used free : �
             record { room = f₁; name = omega arith; long = omega arith; kept = omega arith; node = omega arith; from = omega arith; to = omega arith }
 
         pub rule-built : (rows₁ : List ℕ) → rows₁ ≡ ruleWritten rows index (free ∷ (z - a) ∷ mark ∷ (r .used - 1) ∷ a ∷ z ∷ [])
-            → RuleBuilt (ruleAt level s at) nodes rows store index used free (record { next = r .next + 1; used = r .used; free = r .free }) nodes₁ rows₁ store₂
+            → RuleBuilt (ruleFrom level s at) nodes rows store index used free (record { next = r .next + 1; used = r .used; free = r .free }) nodes₁ rows₁ store₂
         unfolding ruleRecord ruleStored
         rule-built rows₁ q =
             let x = word-is s at a z e₁ e₂ in
@@ -160,21 +160,21 @@ module _ (level : Level) (s : List ℕ) where
     pub rule : Rule Span
     pub next : ℕ
     pub later : List (Rule Span)
-    pub read : ruleAt level s i ≡ ruling rule next
-    pub rest : rulesIn level s k next ≡ rules later
+    pub read : ruleFrom level s i ≡ ruling rule next
+    pub rest : rulesUpTo level s k next ≡ rules later
     pub are : us ≡ rule ∷ later
 
-  pub next-rule : (k i : ℕ) (us : List (Rule Span)) → i < length (toks s) → is s i 27 ≡ false → rulesIn level s (suc k) i ≡ rules us → NextRule k i us
+  pub next-rule : (k i : ℕ) (us : List (Rule Span)) → i < length (toks s) → is s i 27 ≡ false → rulesUpTo level s (suc k) i ≡ rules us → NextRule k i us
   next-rule k i us h f e =
-      let (r, n, q, w) = then-rules (ruleAt level s i) _ (sym (rules-rule level s k i h f) ∙ e) in
-      let (vs, x, y) = with-rule r (rulesIn level s k n) w in
+      let (r, n, q, w) = then-rules (ruleFrom level s i) _ (sym (rules-rule level s k i h f) ∙ e) in
+      let (vs, x, y) = with-rule r (rulesUpTo level s k n) w in
       record { rule = r; next = n; later = vs; read = q; rest = x; are = y }
 
   -- what the turns keep: what is left to be written comes to the same as all
   pub record RulesInv (us : List (Rule Span)) (nodes₀ rows₀ store₀ : List ℕ) (i index used free : ℕ) (nodes rows store : List ℕ) : Type 0 where
     pub fuel : ℕ
     pub left : List (Rule Span)
-    pub rest : rulesIn level s fuel i ≡ rules left
+    pub rest : rulesUpTo level s fuel i ≡ rules left
     pub enough : length (toks s) ≤ i + fuel
     pub within : i ≤ length (toks s)
     pub few : index ≤ i
@@ -195,7 +195,7 @@ module _ (level : Level) (s : List ℕ) where
       record {
         fuel = length (toks s);
         left = us;
-        rest = ap (rulesIn level s (length (toks s))) e ∙ f;
+        rest = ap (rulesUpTo level s (length (toks s))) e ∙ f;
         enough = omega arith;
         within = omega arith;
         few = omega arith;
@@ -225,7 +225,7 @@ module _ (level : Level) (s : List ℕ) where
       pub rules-doc-more : x ≡ 27 → RulesInv us nodes₀ rows₀ store₀ (i + 1) index used free nodes rows store
       rules-doc-more q = go (v .fuel) (v .rest) (v .enough)
         where
-          go : (k : ℕ) → rulesIn level s k i ≡ rules (v .left) → length (toks s) ≤ i + k → RulesInv us nodes₀ rows₀ store₀ (i + 1) index used free nodes rows store
+          go : (k : ℕ) → rulesUpTo level s k i ≡ rules (v .left) → length (toks s) ≤ i + k → RulesInv us nodes₀ rows₀ store₀ (i + 1) index used free nodes rows store
           go zero f l = absurd (omega arith)
           go (suc k) f l = record {
             fuel = k;
@@ -247,11 +247,11 @@ module _ (level : Level) (s : List ℕ) where
         upcoming : (k : ℕ) × (length (toks s) ≤ i + suc k) × NextRule k i (v .left)
         upcoming = go (v .fuel) (v .rest) (v .enough)
           where
-            go : (k : ℕ) → rulesIn level s k i ≡ rules (v .left) → length (toks s) ≤ i + k → (k : ℕ) × (length (toks s) ≤ i + suc k) × NextRule k i (v .left)
+            go : (k : ℕ) → rulesUpTo level s k i ≡ rules (v .left) → length (toks s) ≤ i + k → (k : ℕ) × (length (toks s) ≤ i + suc k) × NextRule k i (v .left)
             go zero f l = absurd (omega arith)
             go (suc k) f l = (k, l, next-rule k i (v .left) h (misses s i x 27 e q) f)
 
-        pub rules-room : RulesRoom (grammar level s) us nodes₀ rows₀ store₀ → RuleRoom (ruleAt level s i) nodes rows store index used free
+        pub rules-room : RulesRoom (grammar level s) us nodes₀ rows₀ store₀ → RuleRoom (ruleFrom level s i) nodes rows store index used free
         unfolding counts rulesStored
         rules-room g =
             let (k, l, n) = upcoming in
@@ -278,7 +278,7 @@ module _ (level : Level) (s : List ℕ) where
               low = omega arith;
             }
 
-        module _ (short : length s ≤ 65536) (r : Past) (nodes₁ rows₁ store₁ : List ℕ) (d : RuleBuilt (ruleAt level s i) nodes rows store index used free r nodes₁ rows₁ store₁) where
+        module _ (short : length s ≤ 65536) (r : RuleEnd) (nodes₁ rows₁ store₁ : List ℕ) (d : RuleBuilt (ruleFrom level s i) nodes rows store index used free r nodes₁ rows₁ store₁) where
           pub rules-more : (i < r .next) × RulesInv us nodes₀ rows₀ store₀ (r .next) (index + 1) (r .used) (r .free) nodes₁ rows₁ store₁
           unfolding counts rulesStored nodesFrom recordsFrom
           rules-more =
@@ -301,7 +301,7 @@ module _ (level : Level) (s : List ℕ) where
                 record {
                   fuel = k;
                   left = n .later;
-                  rest = ap (rulesIn level s k) (sym o) ∙ n .rest;
+                  rest = ap (rulesUpTo level s k) (sym o) ∙ n .rest;
                   enough = omega arith;
                   within = omega arith;
                   few = omega (arith, v .few);

@@ -11,7 +11,7 @@ use borrow.Author.Tests.{lt-ltb, le-ltb}
 use Rattle.text.specs.Splice.{Wrote}
 use Rattle.text.specs.Splice as Splice
 use Rattle.text.proofs.Splices.{wrote-none}
-use Rattle.token.specs.Table.{toks, kind, start, end, is, part, label}
+use Rattle.token.specs.Table.{toks, kind, start, end, is, between, label}
 use Rattle.token.proofs.Table.{low, spans}
 use Rattle.table.specs.declared.Op.the-variants.{NodeTag}
 use Rattle.table.specs.declared.Node.the-variants.{One}
@@ -20,12 +20,12 @@ use Rattle.table.specs.Flat.{recordOf, flat}
 use Rattle.structure.specs.declared.Level.{Level}
 use Rattle.structure.specs.declared.Level.the-variants as Level
 use Rattle.structure.specs.Answers.{tagNodes}
-use Rattle.structure.specs.Structure.{Parsed, got, refused, next, before, inTag, term, signed, Run}
+use Rattle.structure.specs.Structure.{Parsed, got, refused, next, prefixed, inTag, term, signed, Run}
 use Rattle.structure.proofs.Steps.{choose-true, choose-false, sees, misses, inside-is, next-good, want-true, want-got}
 use Rattle.structure.proofs.Sizes.{count-one, size-one}
 use Rattle.structure.proofs.Grammar.{term-law}
 use Rattle.build.specs.declared.Placed.{Placed}
-use Rattle.build.specs.Build.{Room, Built, Opened, bracketed, labelled, tagText, pastTag, headAt, TagRoom, Tied, tagCount}
+use Rattle.build.specs.Build.{TreeRoom, Built, Opened, bracketed, labelled, tagText, pastTag, termStart, TagRoom, Tied, tagCount}
 use Rattle.records.specs.Records.{written, most, Over, StartMoved}
 use Rattle.build.proofs.Parts.{label-is, start-low}
 use Rattle.records.proofs.Patches.{spanned, length-written}
@@ -52,18 +52,18 @@ module _ (s store : List ℕ) (at free x : ℕ) (e : x ≡ kind s at) where
         (sym (rw f), rw (f, q) (wrote-none store free))
 
     module _ (a z : ℕ) (e₁ : a ≡ start s at) (e₂ : z ≡ end s at) where
-      tag-part : part s (a + 1) z ≡ label s at
+      tag-part : between s (a + 1) z ≡ label s at
       tag-part = label-is s at (a + 1) z (ap (λ (k : ℕ). k + 1) e₁) e₂
 
       pub tag-bytes : {level : Level} → level ≡ Level.Tagged → Splice.Room store free (tagText level s at)
-          → ((a + 1 ≤ z) × (z ≤ length s)) × Splice.Room store free (part s (a + 1) z)
+          → ((a + 1 ≤ z) × (z ≤ length s)) × Splice.Room store free (between s (a + 1) z)
       tag-bytes {level} q g =
           let f = is-tag in
           let p = tag-inside in
           let r : Splice.Room store free (label s at) = rw (f, q) at g in
           ((omega arith, omega arith), rw tag-part r)
 
-      pub tagged-tag : {level : Level} → level ≡ Level.Tagged → (n : ℕ) (st : List ℕ) → Wrote store free (part s (a + 1) z) st n
+      pub tagged-tag : {level : Level} → level ≡ Level.Tagged → (n : ℕ) (st : List ℕ) → Wrote store free (between s (a + 1) z) st n
           → (at + 1 + 1 ≡ pastTag s at) × Wrote store free (tagText level s at) st n
       tagged-tag {level} q n st w =
           let f = is-tag in
@@ -94,14 +94,14 @@ opened-no s table i used x e h =
 -- ---- where a term starts, its tag aside
 
 module _ (s : List ℕ) (from first a : ℕ) where
-  pub head-signs : (r : ℕ) → from < first → r ≡ start s from → r ≡ headAt s from first a
+  pub head-signs : (r : ℕ) → from < first → r ≡ start s from → r ≡ termStart s from first a
   head-signs r h e = e ∙ sym (choose-true (ltb from first) _ _ (lt-ltb from first h))
 
   module _ (h : first ≤ from) (x : ℕ) (e : x ≡ kind s first) where
-    pub head-bracket : (r : ℕ) → x ≡ 6 → r ≡ start s first → r ≡ headAt s from first a
+    pub head-bracket : (r : ℕ) → x ≡ 6 → r ≡ start s first → r ≡ termStart s from first a
     head-bracket r q k = k ∙ sym (choose-false (ltb from first) _ _ (le-ltb from first h) ∙ choose-true (is s first 6) _ _ (sees s first x 6 e q))
 
-    pub head-node : (x ≡ 6 → ⊥) → a ≡ headAt s from first a
+    pub head-node : (x ≡ 6 → ⊥) → a ≡ termStart s from first a
     head-node q = sym (choose-false (ltb from first) _ _ (le-ltb from first h) ∙ choose-false (is s first 6) _ _ (misses s first x 6 e q))
 
 -- ---- a tag's record
@@ -180,7 +180,7 @@ module _ (s : List ℕ) (at free mid : ℕ) (p : Placed) (table : List ℕ) (x :
 
       pub tie-tagged : {level : Level} → level ≡ Level.Tagged → (table′ : List ℕ) → table′ ≡ written table (p .used) (recordOf (spanned a (p .to)) (One (NodeTag free (mid - free)) (p .used - 1)))
           → Tied level s at free mid p table (record { next = p .next; used = p .used + 1; free = p .free; from = a; to = p .to }) table′
-      unfolding inTag before
+      unfolding inTag prefixed
       tie-tagged {level} v table′ q =
           let f = tagged-at in
           let b = label s at in
@@ -196,7 +196,7 @@ module _ (s : List ℕ) (at free mid : ℕ) (p : Placed) (table : List ℕ) (x :
                 let x₁ = d .used-is in
                 let x₂ = d .free-is in
                 record {
-                  tree = before (start s at) (nodeTag b) t;
+                  tree = prefixed (start s at) (nodeTag b) t;
                   read = tagged-read level deep (g .read) ∙ next-good _ _ (d .read) ∙ ap (λ (l : Level). got (inTag l (start s at) b t) (p .next)) v;
                   used-is = omega arith;
                   free-is = omega arith;

@@ -18,22 +18,22 @@ use Rattle.table.specs.declared.Node.the-variants.{Two}
 use Rattle.table.specs.declared.Sort.{Sort}
 use Rattle.table.specs.declared.Sort.the-variants.{Ident}
 use Rattle.structure.specs.Tokens.{across}
-use Rattle.structure.specs.Values.{inside, string}
+use Rattle.structure.specs.Values.{literalBytes, string}
 use Rattle.structure.specs.Structure.{Parsed, got, term, signed, posts, Run, Postfix, post, notPost, noPost}
-use Rattle.structure.specs.Answers.{signs, tagNodes}
+use Rattle.structure.specs.Answers.{predicates, tagNodes}
 use Rattle.structure.specs.declared.Refusal.{Refusal}
 use Rattle.structure.specs.declared.Level.{Level}
 use Rattle.structure.specs.declared.Level.the-variants as Level
-use Rattle.text.specs.Choice.{choose}
+use Rattle.text.specs.Booleans.{choose}
 use Rattle.text.specs.Splice.{Wrote}
 use Rattle.token.specs.Table.{start, is, label, word}
 use Rattle.build.specs.declared.Placed.{Placed}
-use Rattle.build.specs.declared.Trailed.{Trailed}
-use Rattle.build.specs.declared.Suffix.{Suffix}
-use Rattle.build.specs.declared.Suffix.the-variants as Suffix
+use Rattle.build.specs.declared.PutPostfixes.{PutPostfixes}
+use Rattle.build.specs.declared.FoundPostfix.{FoundPostfix}
+use Rattle.build.specs.declared.FoundPostfix.the-variants as FoundPostfix
 
 -- m is a tree, its records fit the table from the index `used` on, its texts the store from `free` on
-pub record Room (m : Parsed) (table store : List ℕ) (used free : ℕ) : Type 0 where
+pub record TreeRoom (m : Parsed) (table store : List ℕ) (used free : ℕ) : Type 0 where
   pub tree : Tree Span
   pub end : ℕ
   pub read : m ≡ got tree end
@@ -60,8 +60,8 @@ pub record Built (m : Parsed) (table store : List ℕ) (used free : ℕ) (r : Pl
 
 -- every string of a text means characters
 pub record Scalars (s : List ℕ) : Type 0 where
-  pub strings : (i : ℕ) → is s i 23 ≡ true → badEscape (inside s i) ≡ Check.Good
-  pub insens : (i : ℕ) → is s i 24 ≡ true → badEscape (inside s i) ≡ Check.Good
+  pub strings : (i : ℕ) → is s i 23 ≡ true → badEscape (literalBytes s i) ≡ Check.Good
+  pub insens : (i : ℕ) → is s i 24 ≡ true → badEscape (literalBytes s i) ≡ Check.Good
 
 -- a word's node, and the token after it
 abbrev pub wordLeaf : List ℕ → ℕ → Parsed
@@ -83,7 +83,7 @@ pub record SignsRoom (table : List ℕ) (at last z used : ℕ) : Type 0 where
 pub record SignsPut (s : List ℕ) (at last z used : ℕ) (table table′ : List ℕ) : Type 0 where
   pub long : length table′ ≡ length table
   pub same : (o : List ℕ) (t : Tree Span) (f free : ℕ) → used ≡ f + count t → placeOf t .stop ≡ z → table ≡ written o f (flat f free t)
-      → table′ ≡ written o f (flat f free (signs s at (last - at) t))
+      → table′ ≡ written o f (flat f free (predicates s at (last - at) t))
 
 -- a tree and the postfixes from an index on are read, and there is room for their records
 pub record PostsRoom (s table : List ℕ) (at used from to : ℕ) : Type 0 where
@@ -101,7 +101,7 @@ pub record PostsRoom (s table : List ℕ) (at used from to : ℕ) : Type 0 where
   pub stop : to ≤ most
 
 -- the records of postfixes that make the tree v of t
-pub record Trails (t v : Tree Span) (n used from : ℕ) (table : List ℕ) (r : Trailed) (table′ : List ℕ) : Type 0 where
+pub record Trails (t v : Tree Span) (n used from : ℕ) (table : List ℕ) (r : PutPostfixes) (table′ : List ℕ) : Type 0 where
   pub next-is : r .next ≡ n
   pub used-is : r .used + count t ≡ used + count v
   pub from-is : from ≡ placeOf v .start
@@ -110,7 +110,7 @@ pub record Trails (t v : Tree Span) (n used from : ℕ) (table : List ℕ) (r : 
   pub holds : (o : List ℕ) (f free : ℕ) → used ≡ f + count t → table ≡ written o f (flat f free t) → table′ ≡ written o f (flat f free v)
 
 -- the records of the postfixes from an index on were put over any tree with that span
-pub record PostsPut (s : List ℕ) (at used from to : ℕ) (table : List ℕ) (r : Trailed) (table′ : List ℕ) : Type 0 where
+pub record PostsPut (s : List ℕ) (at used from to : ℕ) (table : List ℕ) (r : PutPostfixes) (table′ : List ℕ) : Type 0 where
   pub long : length table′ ≡ length table
   pub stop : r .to ≤ most
   pub same : (level : Level) (t : Tree Span) → from ≡ placeOf t .start → to ≡ placeOf t .stop → (v : Tree Span) (n : ℕ)
@@ -156,8 +156,8 @@ pub record Opened (s : List ℕ) (i used : ℕ) (table table′ : List ℕ) : Ty
   pub same : (o : List ℕ) (t : Tree Span) (f at : ℕ) → used ≡ f + count t → table ≡ written o f (flat f at t) → table′ ≡ written o f (flat f at (bracketed s i t))
 
 -- where a term starts, its tag aside: with its predicates, its bracket, or its node
-abbrev pub headAt : List ℕ → ℕ → ℕ → ℕ → ℕ
-headAt s from first a = choose (ltb from first) (λ u. start s from) (λ u. choose (is s first 6) (λ u. start s first) (λ u. a))
+abbrev pub termStart : List ℕ → ℕ → ℕ → ℕ → ℕ
+termStart s from first a = choose (ltb from first) (λ u. start s from) (λ u. choose (is s first 6) (λ u. start s first) (λ u. a))
 
 -- how many records a term's tag has
 abbrev pub tagCount : Level → List ℕ → ℕ → ℕ
@@ -175,15 +175,15 @@ pub record TagRoom (level : Level) (s table : List ℕ) (at free mid : ℕ) (p :
 -- a term that was built but for its tag is built now, whatever the buffers were before
 pub record Tied (level : Level) (s : List ℕ) (at free mid : ℕ) (p : Placed) (table : List ℕ) (r : Placed) (table′ : List ℕ) : Type 0 where
   pub long : length table′ ≡ length table
-  pub same : (deep used : ℕ) (o store store₁ st : List ℕ) → Wrote store free (tagText level s at) store₁ mid → Room (Run level s (term deep at)) o store used free
+  pub same : (deep used : ℕ) (o store store₁ st : List ℕ) → Wrote store free (tagText level s at) store₁ mid → TreeRoom (Run level s (term deep at)) o store used free
       → Built (Run level s (signed deep (pastTag s at))) o store₁ used mid p table st → Built (Run level s (term deep at)) o store used free r table′ st
 
 -- a postfix that isn't refused
-pub record Sound (p : Postfix) : Type 0 where
+pub record Accepted (p : Postfix) : Type 0 where
   pub good : (r : Refusal) → p ≡ notPost r → ⊥
 
 -- a postfix as the code has it; it comes to no refused one
-unfoldable pub suffixOf : Postfix → Suffix
-suffixOf (post u n) = Suffix.Post u n
-suffixOf (notPost r) = Suffix.Nothing
-suffixOf noPost = Suffix.Nothing
+unfoldable pub suffixOf : Postfix → FoundPostfix
+suffixOf (post u n) = FoundPostfix.Post u n
+suffixOf (notPost r) = FoundPostfix.Nothing
+suffixOf noPost = FoundPostfix.Nothing

@@ -11,7 +11,7 @@ use Rattle.table.specs.Flat.{flat, ruleRecord, nodesOf, recordsOf}
 use Rattle.structure.specs.Structure.{Ruling, ruling, Ruled, grammar}
 use Rattle.structure.specs.Structure as Structure
 use Rattle.structure.specs.declared.Level.{Level}
-use Rattle.build.specs.declared.Past.{Past}
+use Rattle.build.specs.declared.RuleEnd.{RuleEnd}
 use Rattle.records.specs.Records.{written, ruleWritten, most}
 
 abbrev pub ruledOf : Ruled → List (Rule Span)
@@ -19,8 +19,8 @@ ruledOf (Structure.rules us) = us
 ruledOf (Structure.unruled r) = []
 
 -- the rules of a text that is read
-abbrev pub rulesOf : Level → List ℕ → List (Rule Span)
-rulesOf level s = ruledOf (grammar level s)
+abbrev pub rulesRead : Level → List ℕ → List (Rule Span)
+rulesRead level s = ruledOf (grammar level s)
 
 -- m is a rule: its record has room at an index, its nodes from the index `used` on, its texts from `free` on
 pub record RuleRoom (m : Ruling) (nodes rules store : List ℕ) (index used free : ℕ) : Type 0 where
@@ -34,7 +34,7 @@ pub record RuleRoom (m : Ruling) (nodes rules store : List ℕ) (index used free
   pub low : free + length (ruleStored rule) ≤ most
 
 -- the buffers have m's rule; r has the token, the node record and the store byte after it
-pub record RuleBuilt (m : Ruling) (nodes rules store : List ℕ) (index used free : ℕ) (r : Past) (nodes′ rules′ store′ : List ℕ) : Type 0 where
+pub record RuleBuilt (m : Ruling) (nodes rules store : List ℕ) (index used free : ℕ) (r : RuleEnd) (nodes′ rules′ store′ : List ℕ) : Type 0 where
   pub rule : Rule Span
   pub read : m ≡ ruling rule (r .next)
   pub used-is : r .used ≡ used + count (rule .tree)

@@ -1,7 +1,7 @@
 // Rules, expressions and terms over tokens, then what stands around a node, leaves, values and texts.
+pub mod around;
 pub mod build;
 pub mod leaves;
-pub mod loops;
 pub mod rules;
 pub mod store;
 pub mod terms;

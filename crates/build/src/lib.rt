@@ -16,13 +16,13 @@ pub struct Placed {
 }
 
 // A postfix and the token after it, or none.
-pub enum Suffix {
+pub enum FoundPostfix {
     Post(Unary, usize),
     Nothing,
 }
 
 // Where postfixes end: the token and the record after them, and the end of the node that they make.
-pub struct Trailed {
+pub struct PutPostfixes {
     pub next: usize,
     pub used: usize,
     pub to: usize,
@@ -35,7 +35,7 @@ pub struct Tag {
 }
 
 // Past a rule: the token, the node record and the store byte after it.
-pub struct Past {
+pub struct RuleEnd {
     pub next: usize,
     pub used: usize,
     pub free: usize,

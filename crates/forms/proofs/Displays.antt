@@ -5,7 +5,7 @@ use mathlib.Core.Bool.{true, false}
 use mathlib.Core.List.{List, [], _∷_, _++_, map, append-assoc, append-nil}
 use native.Mathlib.Omega.{arith}
 use lib.ListN.{length}
-use Rattle.text.specs.Choice.{choose}
+use Rattle.text.specs.Booleans.{choose}
 use Rattle.text.specs.declared.Sequence.the-variants.{Is}
 use Rattle.text.specs.Utf8.{charOf, scalar, encoded}
 use Rattle.text.proofs.Decodes.{decoded}

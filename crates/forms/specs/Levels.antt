@@ -1,7 +1,7 @@
 -- The brackets of the short text, said twice more: as a sentence that lists them, and by the levels of the grammar.
 use Prim.Native.Nat.{ℕ}
 use mathlib.Core.Bool.{Bool, true, false}
-use Rattle.text.specs.Choice.{and, or}
+use Rattle.text.specs.Booleans.{and, or}
 use Rattle.table.specs.declared.Join.the-variants.{Seq, Choice}
 use Rattle.forms.specs.declared.Place.{Place}
 use Rattle.forms.specs.declared.Place.the-variants.{Alone, Prefixed, Operand, LeftOf, RightOf}

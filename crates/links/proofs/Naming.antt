@@ -42,7 +42,7 @@ use Rattle.links.specs.declared.Mention.{Mention}
 use Rattle.links.specs.declared.Mention.the-variants.{Name, NoName}
 use Rattle.links.specs.declared.Act.{Act}
 use Rattle.links.specs.declared.Act.the-variants.{Call, Repeat, Unfit}
-use Rattle.links.specs.Program.{anyName, linked, unaryAct, actOf, linkBy, linkFor, mentionOf, mentionLink, linkAt, number, program, linkedAt, isFit, fitAt, isTo, knownAt, isBy, ownAt, Linked, Rooted, Inside, Leads, Sound}
+use Rattle.links.specs.Program.{anyName, linked, unaryAct, actOf, linkBy, linkFor, mentionOf, mentionLink, linkAt, number, program, linkedAt, isFit, fitAt, isTo, knownAt, isBy, ownAt, Linked, Rooted, Inside, Leads, Runnable}
 
 -- ---- the table with links is the program
 
@@ -132,7 +132,7 @@ module _ (ns rs st : List ℕ) (v : Valid ns rs st) where
     pub mention-inside : {x : Node} {m : Mention} → x ≡ nodeAt ns i → m ≡ mentionOf x → Inside st m
     mention-inside {x} {m} e q = subst (Inside st) (sym q) (mention-in x (sym e))
 
-  pub sound-links : (ls : List ℕ) → Linked ns rs st ls → Sound ns ls st
+  pub sound-links : (ls : List ℕ) → Linked ns rs st ls → Runnable ns ls st
   unfolding linkedAt linkAt
   sound-links ls h = record { few = v .few-nodes; leads = λ i l. leads-at i l (nodeAt ns i) (getD ls i 0) refl (h .links i l) }
 

@@ -169,6 +169,6 @@ Leads n s (Choice a b) = (a < n) × (b < n)
 Leads n s (Repeat c lo hi) = c < n
 Leads n s Unfit = Unit {0}
 
-pub record Sound (ns ls st : List ℕ) : Type 0 where
+pub record Runnable (ns ls st : List ℕ) : Type 0 where
   pub few : nodesIn ns ≤ maxNodes
   pub leads : (i : ℕ) → i < nodesIn ns → Leads (nodesIn ns) (length st) (linkedAt ns ls i)

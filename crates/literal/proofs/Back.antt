@@ -8,7 +8,7 @@ use native.Mathlib.Omega.{arith}
 use lib.ListN.{length, take}
 use lib.Seq.{take-at}
 use borrow.Author.Tests.{eq-eqb, ne-eqb}
-use Rattle.text.specs.Choice.{choose, nextIs}
+use Rattle.text.specs.Booleans.{choose, nextIs}
 use Rattle.text.specs.Scans.{spelled, sought, later}
 use Rattle.text.specs.Utf8.{scalar, encoded, charOf, seqLook, firstBad}
 use Rattle.text.specs.declared.Value.the-variants.{Number}

@@ -9,7 +9,7 @@ use native.Mathlib.Omega.{arith}
 use lib.Dec.{leb, ltb, eqb}
 use lib.ListN.{length, getD, take, drop}
 use borrow.Author.Tests.{ltb-true, lt-ltb, le-ltb, eqb-true, eq-eqb, ne-eqb}
-use Rattle.text.specs.Choice.{within, nextIs}
+use Rattle.text.specs.Booleans.{within, nextIs}
 use Rattle.text.specs.Scans.{spelled, sought, later}
 use Rattle.text.specs.Utf8.{scalar, encoded}
 use Rattle.text.specs.Digits.{hexOf}

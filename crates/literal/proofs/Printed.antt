@@ -7,7 +7,7 @@ use native.Mathlib.Omega.{arith}
 use lib.Dec.{eqb}
 use lib.ListN.{length, getD, drop, length-append}
 use borrow.Author.Tests.{ne-eqb}
-use Rattle.text.specs.Choice.{and}
+use Rattle.text.specs.Booleans.{and}
 use Rattle.text.specs.Scans.{spelled}
 use Rattle.text.specs.Splice.{Room, Wrote, spent}
 use Rattle.text.specs.Utf8.{charOf, encoded}

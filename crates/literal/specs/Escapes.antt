@@ -4,7 +4,7 @@ use mathlib.Core.Bool.{Bool, true, false}
 use mathlib.Core.List.{List, [], _∷_}
 use lib.Dec.{leb, ltb, eqb}
 use lib.ListN.{length, take, drop}
-use Rattle.text.specs.Choice.{choose, nextIs}
+use Rattle.text.specs.Booleans.{choose, nextIs}
 use Rattle.text.specs.Scans.{Piece, spelled, sought}
 use Rattle.text.specs.Splice.{fronted}
 use Rattle.text.specs.Utf8.{scalar, encoded, firstBad}

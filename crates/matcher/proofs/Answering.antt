@@ -20,7 +20,7 @@ use Rattle.replies.specs.declared.Answer.{Answer}
 use Rattle.replies.specs.declared.Answer.the-variants.{Matched, NoMatch, FalseTables, Unfit, NoRule, NotUtf8, Over}
 use Rattle.replies.specs.declared.Lines.{Lines}
 use Rattle.replies.specs.declared.Lines.the-variants as Lines
-use Rattle.links.specs.Program.{program, linkedAt, Linked, Sound}
+use Rattle.links.specs.Program.{program, linkedAt, Linked, Runnable}
 use Rattle.matcher.specs.Match.{visit}
 use Rattle.matcher.specs.Answers.{maxVisits, reply, lineBy, lineOf, answerBy, matchOf}
 use Rattle.links.specs.Ready.{readyOf}
@@ -75,7 +75,7 @@ module _ (ns rs st : List ℕ) (start : ℕ) {r : Ready} (e : r ≡ readyOf ns r
     valid : Valid ns rs st
     valid = ready-allows ns rs st start e q .valid
 
-    pub call-sound : Sound ns ls st
+    pub call-sound : Runnable ns ls st
     call-sound = sound-links ns rs st valid ls l
 
     pub call-root : {root : ℕ} → root ≡ rootAt rs start → root < nodesIn ns

@@ -16,30 +16,30 @@ use Rattle.links.specs.declared.Act.{Act}
 use Rattle.links.specs.declared.Act.the-variants.{Text, Range, Any, Call, PosPred, NegPred, Seq, Choice, Repeat, Unfit}
 use Rattle.matcher.specs.declared.Outcome.{Outcome}
 use Rattle.matcher.specs.declared.Outcome.the-variants.{Matched, Missed, Over}
-use Rattle.links.specs.Program.{linkedAt, Leads, Sound}
-use Rattle.matcher.specs.Match.{after, took, starts, one, anyCharacter, full, repeat, enter, visit}
+use Rattle.links.specs.Program.{linkedAt, Leads, Runnable}
+use Rattle.matcher.specs.Match.{outcomeBy, took, starts, one, anyCharacter, full, repeat, enter, visit}
 use Rattle.matcher.proofs.Leaves.{took-true, took-false}
 use Rattle.matcher.proofs.Visits.{visit-below, repeat-law, fewer}
 
 -- ---- where a sound program leads
 
-module _ (ns ls st : List ℕ) (i : ℕ) (s : Sound ns ls st) (h : i < nodesIn ns) {n : Act} (e : n ≡ linkedAt ns ls i) where
+module _ (ns ls st : List ℕ) (i : ℕ) (s : Runnable ns ls st) (h : i < nodesIn ns) {n : Act} (e : n ≡ linkedAt ns ls i) where
   pub leads-to : {x : Act} → n ≡ x → Leads (nodesIn ns) (length st) x
   leads-to q = subst (Leads (nodesIn ns) (length st)) (sym e ∙ q) (s .leads i h)
 
 -- ---- after a visit
 
-after-matched : {x m : Outcome} {e l : ℕ} (f : ℕ → ℕ → Outcome) (g : ℕ → Outcome) → x ≡ m → x ≡ Matched e l → after m f g ≡ f e l
-unfolding after
-after-matched f g p q = ap (λ z. after z f g) (sym p ∙ q)
+after-matched : {x m : Outcome} {e l : ℕ} (f : ℕ → ℕ → Outcome) (g : ℕ → Outcome) → x ≡ m → x ≡ Matched e l → outcomeBy m f g ≡ f e l
+unfolding outcomeBy
+after-matched f g p q = ap (λ z. outcomeBy z f g) (sym p ∙ q)
 
-after-missed : {x m : Outcome} {l : ℕ} (f : ℕ → ℕ → Outcome) (g : ℕ → Outcome) → x ≡ m → x ≡ Missed l → after m f g ≡ g l
-unfolding after
-after-missed f g p q = ap (λ z. after z f g) (sym p ∙ q)
+after-missed : {x m : Outcome} {l : ℕ} (f : ℕ → ℕ → Outcome) (g : ℕ → Outcome) → x ≡ m → x ≡ Missed l → outcomeBy m f g ≡ g l
+unfolding outcomeBy
+after-missed f g p q = ap (λ z. outcomeBy z f g) (sym p ∙ q)
 
-after-over : {x m : Outcome} (f : ℕ → ℕ → Outcome) (g : ℕ → Outcome) → x ≡ m → x ≡ Over → after m f g ≡ Over
-unfolding after
-after-over f g p q = ap (λ z. after z f g) (sym p ∙ q)
+after-over : {x m : Outcome} (f : ℕ → ℕ → Outcome) (g : ℕ → Outcome) → x ≡ m → x ≡ Over → outcomeBy m f g ≡ Over
+unfolding outcomeBy
+after-over f g p q = ap (λ z. outcomeBy z f g) (sym p ∙ q)
 
 -- ---- a visit
 
@@ -163,14 +163,14 @@ module _ {ns ls st line : List ℕ} {c lo : ℕ} {hi : Most} {start depth allowe
   abbrev all : Outcome
   all = repeat (visit (linkedAt ns ls) st line depth) c lo hi 0 start allowed
 
-  law : all ≡ choose (full hi n) (λ u. Matched at left) (λ u. after (visit (linkedAt ns ls) st line depth left c at) (λ e l. repeat (visit (linkedAt ns ls) st line depth) c lo hi (suc n) e l) (λ l. took (leb lo n) at l))
+  law : all ≡ choose (full hi n) (λ u. Matched at left) (λ u. outcomeBy (visit (linkedAt ns ls) st line depth left c at) (λ e l. repeat (visit (linkedAt ns ls) st line depth) c lo hi (suc n) e l) (λ l. took (leb lo n) at l))
   law = t .same ∙ repeat-law (visit (linkedAt ns ls) st line depth) (visit-below (linkedAt ns ls) st line depth) c lo hi n at left
 
   pub round-full : {b : Bool} → b ≡ full hi n → b ≡ true → Matched at left ≡ all
   round-full p q = sym (law ∙ (rw (sym p ∙ q)))
 
   module _ {b : Bool} {x : Outcome} (p : b ≡ full hi n) (q : b ≡ false) (h : x ≡ visit (linkedAt ns ls) st line depth left c at) where
-    next : all ≡ after (visit (linkedAt ns ls) st line depth left c at) (λ e l. repeat (visit (linkedAt ns ls) st line depth) c lo hi (suc n) e l) (λ l. took (leb lo n) at l)
+    next : all ≡ outcomeBy (visit (linkedAt ns ls) st line depth left c at) (λ e l. repeat (visit (linkedAt ns ls) st line depth) c lo hi (suc n) e l) (λ l. took (leb lo n) at l)
     next = law ∙ (rw (sym p ∙ q))
 
     pub round-more : {e m : ℕ} → x ≡ Matched e m → Round ns ls st line c lo hi start depth allowed e m (n + 1)

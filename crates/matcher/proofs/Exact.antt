@@ -17,7 +17,7 @@ use Rattle.table.specs.declared.Character.{Character}
 use Rattle.table.specs.declared.Character.the-variants.{Is, Broken}
 use Rattle.table.specs.Characters.{choose, within, charOf, character}
 use Rattle.table.specs.Record.{part}
-use Rattle.matcher.specs.Match.{after, took, starts, one, anyCharacter, full, repeat, enter, visit}
+use Rattle.matcher.specs.Match.{outcomeBy, took, starts, one, anyCharacter, full, repeat, enter, visit}
 use Rattle.matcher.specs.Runs.{Verdict, upTo, none, give, tested, testedOne, Task, node, inner, more, Runs, visited, text, range, any, call, pos, pos-not, neg, neg-not, seq, seq-not, choice, choice-not, repeated, unfit, filled, again, ended}
 use Rattle.matcher.proofs.Visits.{visit-below, repeat-law, fewer}
 
@@ -38,19 +38,19 @@ unfolding one
 one-give f (Is c n) at l = took-give (f c) (at + n) l
 one-give f Broken at l = refl
 
-after-upTo : (m : Outcome) (f : ℕ → ℕ → Outcome) (g : ℕ → Outcome) {e l : ℕ} → m ≡ Matched e l → after m f g ≡ f e l
-unfolding after
-after-upTo m f g q = ap (λ z. after z f g) q
+after-upTo : (m : Outcome) (f : ℕ → ℕ → Outcome) (g : ℕ → Outcome) {e l : ℕ} → m ≡ Matched e l → outcomeBy m f g ≡ f e l
+unfolding outcomeBy
+after-upTo m f g q = ap (λ z. outcomeBy z f g) q
 
-after-none : (m : Outcome) (f : ℕ → ℕ → Outcome) (g : ℕ → Outcome) {l : ℕ} → m ≡ Missed l → after m f g ≡ g l
-unfolding after
-after-none m f g q = ap (λ z. after z f g) q
+after-none : (m : Outcome) (f : ℕ → ℕ → Outcome) (g : ℕ → Outcome) {l : ℕ} → m ≡ Missed l → outcomeBy m f g ≡ g l
+unfolding outcomeBy
+after-none m f g q = ap (λ z. outcomeBy z f g) q
 
 module _ (prog : ℕ → Act) (st line : List ℕ) where
   abbrev vis : ℕ → ℕ → ℕ → ℕ → Outcome
   vis = visit prog st line
 
-  law : (d c lo : ℕ) (hi : Most) (n at k : ℕ) → repeat (vis d) c lo hi n at k ≡ choose (full hi n) (λ u. Matched at k) (λ u. after (vis d k c at) (λ e l. repeat (vis d) c lo hi (suc n) e l) (λ l. took (leb lo n) at l))
+  law : (d c lo : ℕ) (hi : Most) (n at k : ℕ) → repeat (vis d) c lo hi n at k ≡ choose (full hi n) (λ u. Matched at k) (λ u. outcomeBy (vis d k c at) (λ e l. repeat (vis d) c lo hi (suc n) e l) (λ l. took (leb lo n) at l))
   law d c lo hi n at k = repeat-law (vis d) (visit-below prog st line d) c lo hi n at k
 
   -- what the definition comes to is given with as many steps, and the rest is left
@@ -94,8 +94,8 @@ no-give : {P : Type 0} (v : Verdict) (l : ℕ) → Over ≡ give v l → P
 no-give (upTo e) l q = let z : _≡_ {A = ℕ} 0 1 = cc in absurd (omega arith)
 no-give none l q = let z : _≡_ {A = ℕ} 0 1 = cc in absurd (omega arith)
 
-after-inv : (m : Outcome) (f : ℕ → ℕ → Outcome) (g : ℕ → Outcome) (v : Verdict) (l : ℕ) {P : Type 0} → ((e j : ℕ) → m ≡ Matched e j → f e j ≡ give v l → P) → ((j : ℕ) → m ≡ Missed j → g j ≡ give v l → P) → after m f g ≡ give v l → P
-unfolding after
+after-inv : (m : Outcome) (f : ℕ → ℕ → Outcome) (g : ℕ → Outcome) (v : Verdict) (l : ℕ) {P : Type 0} → ((e j : ℕ) → m ≡ Matched e j → f e j ≡ give v l → P) → ((j : ℕ) → m ≡ Missed j → g j ≡ give v l → P) → outcomeBy m f g ≡ give v l → P
+unfolding outcomeBy
 after-inv (Matched e j) f g v l u w q = u e j refl q
 after-inv (Missed j) f g v l u w q = w j refl q
 after-inv Over f g v l u w q = no-give v l q

@@ -13,7 +13,7 @@ use Rattle.matcher.specs.declared.Outcome.the-variants.{Matched, Missed,
 use Rattle.table.specs.declared.Character.{Character}
 use Rattle.table.specs.declared.Character.the-variants.{Is, Broken}
 use Rattle.table.specs.Characters.{choose}
-use Rattle.matcher.specs.Match.{after, took, one, full, rounds, repeat, enter, visit}
+use Rattle.matcher.specs.Match.{outcomeBy, took, one, full, rounds, repeat, enter, visit}
 
 -- fewer than k steps are left
 abbrev pub Below : ℕ → Outcome → Type 0
@@ -26,8 +26,8 @@ below-up (Matched e l) k j h b = omega arith
 below-up (Missed l) k j h b = omega arith
 below-up Over k j h b = tt
 
-after-below : (k : ℕ) (m : Outcome) (f : ℕ → ℕ → Outcome) (g : ℕ → Outcome) → Below k m → ((e l : ℕ) → l < k → Below k (f e l)) → ((l : ℕ) → l < k → Below k (g l)) → Below k (after m f g)
-unfolding after
+after-below : (k : ℕ) (m : Outcome) (f : ℕ → ℕ → Outcome) (g : ℕ → Outcome) → Below k m → ((e l : ℕ) → l < k → Below k (f e l)) → ((l : ℕ) → l < k → Below k (g l)) → Below k (outcomeBy m f g)
+unfolding outcomeBy
 after-below k (Matched e l) f g h u v = u e l h
 after-below k (Missed l) f g h u v = v l h
 after-below k Over f g h u v = tt
@@ -50,8 +50,8 @@ pub choose-cong : {A : Type 0} (b : Bool) (x y x′ y′ : Unit {0} → A) → x
 choose-cong true x y x′ y′ f g = f
 choose-cong false x y x′ y′ f g = g
 
-pub after-cong : (m : Outcome) (f f′ : ℕ → ℕ → Outcome) (g : ℕ → Outcome) → ((e l : ℕ) → m ≡ Matched e l → f e l ≡ f′ e l) → after m f g ≡ after m f′ g
-unfolding after
+pub after-cong : (m : Outcome) (f f′ : ℕ → ℕ → Outcome) (g : ℕ → Outcome) → ((e l : ℕ) → m ≡ Matched e l → f e l ≡ f′ e l) → outcomeBy m f g ≡ outcomeBy m f′ g
+unfolding outcomeBy
 after-cong (Matched e l) f f′ g h = h e l refl
 after-cong (Missed l) f f′ g h = refl
 after-cong Over f f′ g h = refl
@@ -84,7 +84,7 @@ module _ (go : ℕ → ℕ → ℕ → Outcome) (spends : Spends go) where
         choose-cong (full hi n) _ _ _ _ refl
         (after-cong (go k c at) _ _ _ (λ e l q. let z : l < k = fewer (go k c at) k (spends k c at) q in rounds-fuel f g (suc n) e l (omega arith) (omega arith)))
 
-    pub repeat-law : (n at k : ℕ) → repeat go c lo hi n at k ≡ choose (full hi n) (λ u. Matched at k) (λ u. after (go k c at) (λ e l. repeat go c lo hi (suc n) e l) (λ l. took (leb lo n) at l))
+    pub repeat-law : (n at k : ℕ) → repeat go c lo hi n at k ≡ choose (full hi n) (λ u. Matched at k) (λ u. outcomeBy (go k c at) (λ e l. repeat go c lo hi (suc n) e l) (λ l. took (leb lo n) at l))
     unfolding repeat rounds
     repeat-law n at k =
         choose-cong (full hi n) _ _ _ _ refl

@@ -16,10 +16,10 @@ use Rattle.matcher.specs.declared.Outcome.{Outcome}
 use Rattle.matcher.specs.declared.Outcome.the-variants.{Matched, Missed, Over}
 
 -- go on after a match, with its end and the steps left, or after a miss, with the steps left
-unfoldable pub after : Outcome → (ℕ → ℕ → Outcome) → (ℕ → Outcome) → Outcome
-after (Matched e l) f g = f e l
-after (Missed l) f g = g l
-after Over f g = Over
+unfoldable pub outcomeBy : Outcome → (ℕ → ℕ → Outcome) → (ℕ → Outcome) → Outcome
+outcomeBy (Matched e l) f g = f e l
+outcomeBy (Missed l) f g = g l
+outcomeBy Over f g = Over
 
 -- a match up to a place, if the test passed
 unfoldable pub took : Bool → ℕ → ℕ → Outcome
@@ -60,7 +60,7 @@ unfoldable pub rounds : (ℕ → ℕ → ℕ → Outcome) → ℕ → ℕ → Mo
 rounds go c lo hi zero n at k = Over
 rounds go c lo hi (suc f) n at k =
     choose (full hi n) (λ u. Matched at k)
-    (λ u. after (go k c at) (λ e l. rounds go c lo hi f (suc n) e l) (λ l. took (leb lo n) at l))
+    (λ u. outcomeBy (go k c at) (λ e l. rounds go c lo hi f (suc n) e l) (λ l. took (leb lo n) at l))
 
 unfoldable pub repeat : (ℕ → ℕ → ℕ → Outcome) → ℕ → ℕ → Most → ℕ → ℕ → ℕ → Outcome
 repeat go c lo hi n at k = rounds go c lo hi (suc k) n at k
@@ -71,10 +71,10 @@ enter st line (Text f p n) go k at = took (starts f (part st p n) (drop at line)
 enter st line (Range a b) go k at = one (within a b) (character (charOf (drop at line))) at k
 enter st line Any go k at = one anyCharacter (character (charOf (drop at line))) at k
 enter st line (Call r) go k at = go k r at
-enter st line (PosPred c) go k at = after (go k c at) (λ e l. Matched at l) (λ l. Missed l)
-enter st line (NegPred c) go k at = after (go k c at) (λ e l. Missed l) (λ l. Matched at l)
-enter st line (Seq a b) go k at = after (go k a at) (λ e l. go l b e) (λ l. Missed l)
-enter st line (Choice a b) go k at = after (go k a at) (λ e l. Matched e l) (λ l. go l b at)
+enter st line (PosPred c) go k at = outcomeBy (go k c at) (λ e l. Matched at l) (λ l. Missed l)
+enter st line (NegPred c) go k at = outcomeBy (go k c at) (λ e l. Missed l) (λ l. Matched at l)
+enter st line (Seq a b) go k at = outcomeBy (go k a at) (λ e l. go l b e) (λ l. Missed l)
+enter st line (Choice a b) go k at = outcomeBy (go k a at) (λ e l. Matched e l) (λ l. go l b at)
 enter st line (Repeat c lo hi) go k at = repeat go c lo hi 0 at k
 enter st line Unfit go k at = Missed k
 

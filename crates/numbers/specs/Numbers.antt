@@ -4,7 +4,7 @@ use Prim.Native.Nat.{ℕ}
 use mathlib.Core.List.{List, [], _∷_}
 use lib.Dec.{eqb}
 use lib.ListN.{getD}
-use Rattle.text.specs.Choice.{choose}
+use Rattle.text.specs.Booleans.{choose}
 use Rattle.structure.specs.declared.Level.{Level}
 use Rattle.structure.specs.declared.Level.the-variants.{Tagged, Plain}
 use Rattle.reader.specs.Read as Read

@@ -5,7 +5,7 @@ use mathlib.Core.Bool.{Bool, true, false}
 use mathlib.Core.List.{List, _∷_}
 use native.Mathlib.Omega.{arith}
 use lib.Dec.{leb}
-use Rattle.text.specs.Choice.{and}
+use Rattle.text.specs.Booleans.{and}
 use Rattle.table.specs.declared.Join.{Join}
 use Rattle.table.specs.Tree.{Atom, Wrap, Tree, leaf, one, two, Rule}
 use Rattle.table.specs.Check.{isName, fineWrap, fine, fineRule, fineRules}

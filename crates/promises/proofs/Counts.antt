@@ -6,7 +6,7 @@ use mathlib.Core.List.{List, [], _∷_, _++_}
 use native.Mathlib.Omega.{arith}
 use lib.Dec.{leb, eqb, ltb}
 use borrow.Author.Tests.{leb-true}
-use Rattle.text.specs.Choice.{choose}
+use Rattle.text.specs.Booleans.{choose}
 use Rattle.token.specs.Table.{is}
 use Rattle.table.specs.declared.Unary.the-variants.{PosPred, NegPred, Opt, Rep, RepOnce, RepExact, RepMin, RepMax, RepMinMax, Push}
 use Rattle.table.specs.declared.Sort.the-variants.{Str, Insens, Ident, PushLiteral}
@@ -17,7 +17,7 @@ use Rattle.table.specs.declared.End.the-variants.{Open, At}
 use Rattle.table.specs.Tree.{Atom, text, range, peekSlice, Wrap, plain, nodeTag, Tree, leaf, one, two, Rule}
 use Rattle.table.specs.Check.{isName, fine, fineRule, fineRules}
 use Rattle.table.proofs.Branches.{and-true}
-use Rattle.promises.specs.Pieces.{Piece, gap, tok, lbrace, rbrace, space, signedKind, endPieces, enclosed, closes, atomPieces, before, after, separator, pieces, markPieces, rulePieces, rulesPieces, Stand}
+use Rattle.promises.specs.Pieces.{Piece, gap, tok, lbrace, rbrace, space, signedKind, endPieces, enclosed, closes, atomPieces, piecesBefore, piecesAfter, separator, pieces, markPieces, rulePieces, rulesPieces, Stand}
 use Rattle.promises.specs.Round.{one?, atomDepth, wrapDepth}
 use Rattle.forms.specs.declared.Style.the-variants.{Short}
 use Rattle.promises.specs.Styled.{markedRules}
@@ -68,7 +68,7 @@ count-atom (text PushLiteral b) = omega arith
 count-atom (range x y) = omega arith
 count-atom (peekSlice x e) = omega (arith, count-integer x, count-end e)
 
-count-wrap : (o : Wrap) → count (before o) + count (after o) ≡ wrapDepth o
+count-wrap : (o : Wrap) → count (piecesBefore o) + count (piecesAfter o) ≡ wrapDepth o
 unfolding count
 count-wrap (plain PosPred) = omega arith
 count-wrap (plain NegPred) = omega arith
@@ -92,9 +92,9 @@ unfolding pieces opens
 count-pieces (leaf b a) = omega (arith, count-enclosed b (atomPieces a), count-atom a)
 count-pieces (one b o t) = omega (
   arith,
-  count-enclosed b (before o ++ (pieces t ++ after o)),
-  count-append (before o) (pieces t ++ after o),
-  count-append (pieces t) (after o),
+  count-enclosed b (piecesBefore o ++ (pieces t ++ piecesAfter o)),
+  count-append (piecesBefore o) (pieces t ++ piecesAfter o),
+  count-append (pieces t) (piecesAfter o),
   count-pieces t,
   count-wrap o,
 )

@@ -9,7 +9,7 @@ use lib.Dec.{eqb}
 use lib.ListN.{length, drop, length-append, length-take, length-drop}
 use lib.Seq.{take-append-seam, drop-append-add}
 use borrow.Author.Tests.{eqb-true}
-use Rattle.text.specs.Choice.{choose, and, or}
+use Rattle.text.specs.Booleans.{choose, and, or}
 use Rattle.text.specs.Words.{push}
 use Rattle.token.specs.Table.{toks, kind, start, is}
 use Rattle.token.specs.Tokens.{pushLiteral}

@@ -7,7 +7,7 @@ use mathlib.Core.List.{List, [], _∷_, _++_}
 use native.Mathlib.Omega.{arith}
 use lib.Dec.{eqb}
 use borrow.Author.Tests.{lt-leb}
-use Rattle.text.specs.Choice.{choose, among}
+use Rattle.text.specs.Booleans.{choose, among}
 use Rattle.text.specs.Words.{begins, push}
 use Rattle.token.specs.Table.{kind, start, end, is, label}
 use Rattle.table.specs.declared.Join.{Join}
@@ -27,7 +27,7 @@ use Rattle.forms.specs.Printing.{unaryForm, wrapForm, under}
 use Rattle.structure.specs.declared.Level.{Level}
 use Rattle.structure.specs.declared.Level.the-variants.{Tagged, Plain}
 use Rattle.structure.specs.Tokens.{spells}
-use Rattle.structure.specs.Structure.{Parsed, got, refused, next, join, closed, before, after, inTag, Postfix, post, noPost, postfixAt, postsBy, expr, term, signed, node, chain, posts, Run}
+use Rattle.structure.specs.Structure.{Parsed, got, refused, next, join, closed, prefixed, postfixed, inTag, Postfix, post, noPost, postfixAt, postsBy, expr, term, signed, node, chain, posts, Run}
 use Rattle.structure.proofs.Steps.{choose-true, choose-false, next-good, want-true, opened-false}
 use Rattle.structure.proofs.Grammar.{expr-law, chain-law, term-law, signed-law, node-law, posts-law}
 use Rattle.structure.proofs.Cycle.{finished}
@@ -59,7 +59,7 @@ sight-two Tagged j a b = refl
 sight-two Plain j a b = refl
 
 sight-tag : (level : Level) (a : ℕ) (b c : List ℕ) (t : Tree Span) (u : Tree Nowhere) → b ≡ c → aside t ≡ sight level u → aside (inTag level a b t) ≡ sight level (one tt (nodeTag c) u)
-unfolding untagged inTag before aside
+unfolding untagged inTag prefixed aside
 sight-tag Tagged a b c t u e h = ap (λ (x : List ℕ). one tt (nodeTag x) (aside t)) e ∙ ap (one tt (nodeTag c)) h
 sight-tag Plain a b c t u e h = h
 
@@ -186,8 +186,8 @@ module _ (level : Level) (s : List ℕ) where
   unfolding finished
   unsigned o at n t a b e = signed-law level s o at ∙ choose-false (is s at 8) _ _ a ∙ choose-false (is s at 9) _ _ b ∙ next-good _ _ e
 
-  posts-by : (t : Tree Span) (n : ℕ) (p : Postfix) → postfixAt s n ≡ p → Run level s (posts t n) ≡ postsBy p (λ v m. Run level s (posts (after (end s (m - 1)) v t) m)) (λ u. got t n)
-  posts-by t n p e = posts-law level s t n ∙ ap (λ (q : Postfix). postsBy q (λ v m. Run level s (posts (after (end s (m - 1)) v t) m)) (λ u. got t n)) e
+  posts-by : (t : Tree Span) (n : ℕ) (p : Postfix) → postfixAt s n ≡ p → Run level s (posts t n) ≡ postsBy p (λ v m. Run level s (posts (postfixed (end s (m - 1)) v t) m)) (λ u. got t n)
+  posts-by t n p e = posts-law level s t n ∙ ap (λ (q : Postfix). postsBy q (λ v m. Run level s (posts (postfixed (end s (m - 1)) v t) m)) (λ u. got t n)) e
 
   finish-by : (at : ℕ) {m n : Parsed} → m ≡ n → next m (λ v m. got (finished s at v) m) ≡ next n (λ v m. got (finished s at v) m)
   finish-by at e = ap (λ (x : Parsed). next x (λ v m. got (finished s at v) m)) e
@@ -367,7 +367,7 @@ module _ (level : Level) (s : List ℕ) where
       post-high = let e = ap own f in omega arith
 
       node-post : NodeOf (pieces (one false (plain u) t)) (depth (one false (plain u) t)) (whole (one false (plain u) t))
-      unfolding pieces depth back after aside
+      unfolding pieces depth back postfixed aside
       node-post o at n h d l =
           let p = unbefore u f in
           let v = p .1 in
@@ -375,7 +375,7 @@ module _ (level : Level) (s : List ℕ) where
           let i = cut s (pieces t) (unaryAfter u) at n (stand-as s (enclosed-none _ ∙ ap (λ (z : List Piece). z ++ (pieces t ++ unaryAfter u)) (p .0)) at n h) in
           let r = g .node-of (omega arith) o at (i .0) (i .1) (omega arith) (posted-first s u f (i .0) n (i .2)) in
           record {
-            tree = after (end s (n - 1)) u (r .tree);
+            tree = postfixed (end s (n - 1)) u (r .tree);
             goes = r .goes ∙ finish-by at (posts-by (r .tree) (i .0) (post u n) (posted s u f c (i .0) n (i .2)));
             same = sight-one level u (aside (r .tree)) (whole t) (r .same);
             first = r .first;
@@ -387,28 +387,28 @@ module _ (level : Level) (s : List ℕ) where
     -- a predicate: its token is of the kind k
     module _ (u : Unary) (k : ℕ) (w : List ℕ) (e : stands (one false (plain u) t) ≡ 3) (x : pieces (one false (plain u) t) ≡ tok k w ∷ (pieces t ++ [])) (y : depth (one false (plain u) t) ≡ depth t)
         (b : (eqb k 19 ≡ false) × (eqb k 11 ≡ false))
-        (law : (o at : ℕ) → kind s at ≡ k → Run level s (signed o at) ≡ next (Run level s (signed o (at + 1))) (λ t n. got (before (start s at) (plain u) t) n)) where
+        (law : (o at : ℕ) → kind s at ≡ k → Run level s (signed o at) ≡ next (Run level s (signed o (at + 1))) (λ t n. got (prefixed (start s at) (plain u) t) n)) where
       good-pred : 3 ≤ stands t → Good (one false (plain u) t)
-      unfolding back before aside
+      unfolding back prefixed aside
       good-pred l = good-sign (one false (plain u) t) e
           (λ o at n h d i.
           let a = stand-as s x at n h in
           let r = g .sign-of l o (at + 1) n (alone (pieces t) (at + 1) n (a .2)) (omega arith) i in
           record {
-            tree = before (start s at) (plain u) (r .tree);
+            tree = prefixed (start s at) (plain u) (r .tree);
             goes = law o at (a .0) ∙ next-good _ _ (r .goes);
             same = sight-one level u (aside (r .tree)) (whole t) (r .same);
             first = begin-by s at k (a .0) (b .0) (b .1);
           })
 
     node-push : NodeOf (pieces (one false (plain Push) t)) (depth (one false (plain Push) t)) (whole (one false (plain Push) t))
-    unfolding pieces depth back begins before aside
+    unfolding pieces depth back begins prefixed aside
     node-push o at n h d l =
         let a = stand-as s (enclosed-none _) at n h in
         let i = cut s (pieces t) (closes ∷ []) (at + 1 + 1) n (a .2 .2) in
         let r = expr-by (pieces t) (depth t) (λ c. back Choice c t) (g .choice-of) (o + 1) (at + 1 + 1) (i .0) 7 (i .1) (omega arith) (i .2 .0) refl refl refl in
         record {
-          tree = before (start s at) (plain Push) (r .tree);
+          tree = prefixed (start s at) (plain Push) (r .tree);
           goes =
               unsigned o at n _ (no s at 18 8 (a .0) refl) (no s at 18 9 (a .0) refl)
               (node-law level s o at ∙ choose-false (is s at 6) _ _ (no s at 18 6 (a .0) refl) ∙ choose-true (spells push s at) _ _ (spells-by s at (a .0) push (a .1) push)
@@ -432,10 +432,10 @@ module _ (level : Level) (s : List ℕ) where
         })
         (λ h. absurd (omega arith)) (λ h. absurd (omega arith))
 
-  pos-law : (o at : ℕ) → kind s at ≡ 8 → Run level s (signed o at) ≡ next (Run level s (signed o (at + 1))) (λ t n. got (before (start s at) (plain PosPred) t) n)
+  pos-law : (o at : ℕ) → kind s at ≡ 8 → Run level s (signed o at) ≡ next (Run level s (signed o (at + 1))) (λ t n. got (prefixed (start s at) (plain PosPred) t) n)
   pos-law o at k = signed-law level s o at ∙ choose-true (is s at 8) _ _ (yes s at 8 k)
 
-  neg-law : (o at : ℕ) → kind s at ≡ 9 → Run level s (signed o at) ≡ next (Run level s (signed o (at + 1))) (λ t n. got (before (start s at) (plain NegPred) t) n)
+  neg-law : (o at : ℕ) → kind s at ≡ 9 → Run level s (signed o at) ≡ next (Run level s (signed o (at + 1))) (λ t n. got (prefixed (start s at) (plain NegPred) t) n)
   neg-law o at k = signed-law level s o at ∙ choose-false (is s at 8) _ _ (no s at 9 8 k refl) ∙ choose-true (is s at 9) _ _ (yes s at 9 k)
 
   good-unary : (u : Unary) (t : Tree Bool) → Good t → unaryCounts u ≡ true → least (under (unaryForm u)) ≤ stands t → Good (one false (plain u) t)

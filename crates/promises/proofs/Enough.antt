@@ -1,7 +1,7 @@
 -- Each style has brackets enough: at every place, for every form.
 use Prim.Native.Nat.{ℕ, _≤_}
 use native.Mathlib.Omega.{arith}
-use Rattle.text.specs.Choice.{choose}
+use Rattle.text.specs.Booleans.{choose}
 use Rattle.table.specs.declared.Join.the-variants.{Seq, Choice}
 use Rattle.forms.specs.declared.Place.{Place}
 use Rattle.forms.specs.declared.Place.the-variants.{Alone, Prefixed, Operand, LeftOf, RightOf}

@@ -20,7 +20,7 @@ use Rattle.text.specs.Scans.{sought}
 use Rattle.text.specs.Words.{begins, push}
 use Rattle.text.specs.Utf8.{encoded}
 use Rattle.literal.specs.Literals.{shown, showOf, shownBy}
-use Rattle.token.specs.Table.{toks, tokOf, kind, start, end, is, part, word}
+use Rattle.token.specs.Table.{toks, tokOf, kind, start, end, is, between, word}
 use Rattle.forms.specs.declared.Style.the-variants.{Full, Short}
 use Rattle.forms.specs.declared.Place.the-variants.{Alone}
 use Rattle.forms.specs.Printing.{brackets, enclosed, character, rangeText, sortText, tagText, printed}
@@ -99,7 +99,7 @@ pub record Pairs : Type 0 where
   pub push-literal-spelled : spells pushLiteral pushedLiteral 3 ≡ true
 
 pub pairs : Pairs
-unfolding without cut opensTo classOf begins sought run openerBlank blankBy allowed wordToken oneKind tokenBy Token.tokenOf tokenAt tokensIn tokensFrom tokensOf tokOf kind start end is part word spells
+unfolding without cut opensTo classOf begins sought run openerBlank blankBy allowed wordToken oneKind tokenBy Token.tokenOf tokenAt tokensIn tokensFrom tokensOf tokOf kind start end is between word spells
 pairs = record {
   outer = record {
     opens = refl;

@@ -5,7 +5,7 @@ use mathlib.Core.Bool.{Bool, true, false}
 use mathlib.Core.List.{List, [], _∷_}
 use mathlib.Core.Option.{Option, none, some}
 use native.Mathlib.Omega.{arith}
-use Rattle.text.specs.Choice.{choose}
+use Rattle.text.specs.Booleans.{choose}
 use Rattle.text.specs.Words.{push}
 use Rattle.token.specs.Table.{toks, start, end, is, word, label}
 use Rattle.token.specs.Tokens.{pushLiteral}
@@ -23,7 +23,7 @@ use Rattle.structure.specs.declared.Level.{Level}
 use Rattle.structure.specs.declared.Level.the-variants.{Tagged, Plain}
 use Rattle.structure.specs.Tokens.{across, spells}
 use Rattle.structure.specs.Values.{number, isInteger, integer, string, character}
-use Rattle.structure.specs.Structure.{Parsed, got, refused, next, want, join, closed, before, after, inTag, post, fromNumber, fromComma, postfixAt, sliceTo, slice, pushed, ranged, slices, leafAt, Call, expr, term, signed, node, chain, posts, body, place, weight, run, Run}
+use Rattle.structure.specs.Structure.{Parsed, got, refused, next, want, join, closed, prefixed, postfixed, inTag, post, fromNumber, fromComma, postfixAt, sliceTo, slice, pushed, ranged, slices, leafAt, Call, expr, term, signed, node, chain, posts, body, place, weight, run, Run}
 use Rattle.structure.proofs.Steps.{split, no-tree, next-got, want-got, want-post, opened-got, posts-by}
 use Rattle.structure.proofs.Fuel.{postfix-past, leaf-went}
 use Rattle.promises.specs.Round.{one?, atomDepth, unaryDepth}
@@ -185,24 +185,24 @@ module _ (level : Level) (s : List ℕ) where
   join-need (some c) l r = omega arith
 
   tag-need : (level : Level) (a : ℕ) (b : List ℕ) (t : Tree Span) → need (RightOf Seq) (inTag level a b t) ≤ need Prefixed t
-  unfolding inTag before marked opens brackets
+  unfolding inTag prefixed marked opens brackets
   tag-need Tagged a b t = omega arith
   tag-need Plain a b t = need-more (RightOf Seq) Prefixed t (omega arith)
 
-  pos-need : (a : ℕ) (t : Tree Span) → need Prefixed (before a (plain PosPred) t) ≡ need Prefixed t
-  unfolding before marked opens brackets
+  pos-need : (a : ℕ) (t : Tree Span) → need Prefixed (prefixed a (plain PosPred) t) ≡ need Prefixed t
+  unfolding prefixed marked opens brackets
   pos-need a t = omega arith
 
-  neg-need : (a : ℕ) (t : Tree Span) → need Prefixed (before a (plain NegPred) t) ≡ need Prefixed t
-  unfolding before marked opens brackets
+  neg-need : (a : ℕ) (t : Tree Span) → need Prefixed (prefixed a (plain NegPred) t) ≡ need Prefixed t
+  unfolding prefixed marked opens brackets
   neg-need a t = omega arith
 
-  push-need : (a : ℕ) (t : Tree Span) → need Operand (before a (plain Push) t) ≡ need Alone t + 1
-  unfolding before marked opens brackets
+  push-need : (a : ℕ) (t : Tree Span) → need Operand (prefixed a (plain Push) t) ≡ need Alone t + 1
+  unfolding prefixed marked opens brackets
   push-need a t = omega arith
 
-  after-need : (v : Unary) (t : Tree Span) → unaryForm v ≡ Form.Postfix → (z : ℕ) → need Operand (after z v t) ≡ need Operand t
-  unfolding after
+  after-need : (v : Unary) (t : Tree Span) → unaryForm v ≡ Form.Postfix → (z : ℕ) → need Operand (postfixed z v t) ≡ need Operand t
+  unfolding postfixed
   after-need v t f z = need-post _ v t f
 
   ends-need : (w : Place) (t : Tree Span) (z : ℕ) → need w (endsAt t z) ≡ need w t
@@ -224,11 +224,11 @@ module _ (level : Level) (s : List ℕ) where
         omega (arith, ih (term o (at + 1)) u i e₁, ih (chain o (cs u) (ls u) i) t n e₂, x u, opens-step s at)
 
     -- a predicate
-    signed-least : (o at : ℕ) (v : Unary) (t : Tree Span) (n : ℕ) → ((a : ℕ) (x : Tree Span) → need Prefixed (before a (plain v) x) ≡ need Prefixed x)
-        → next (go (signed o (at + 1))) (λ x m. got (before (start s at) (plain v) x) m) ≡ got t n → Least (signed o at) t n
+    signed-least : (o at : ℕ) (v : Unary) (t : Tree Span) (n : ℕ) → ((a : ℕ) (x : Tree Span) → need Prefixed (prefixed a (plain v) x) ≡ need Prefixed x)
+        → next (go (signed o (at + 1))) (λ x m. got (prefixed (start s at) (plain v) x) m) ≡ got t n → Least (signed o at) t n
     signed-least o at v t n g e =
         let (u, i, e₁, e₂) = next-got _ _ e in
-        let a : before (start s at) (plain v) u ≡ t = cc in
+        let a : prefixed (start s at) (plain v) u ≡ t = cc in
         let b : i ≡ n = cc in
         omega (arith, ih (signed o (at + 1)) u i e₁, ap (need {P = Span} Prefixed) a, ap (opensTo s) b, g (start s at) u, opens-step s at)
 
@@ -291,13 +291,13 @@ module _ (level : Level) (s : List ℕ) where
         (λ v e₀.
         let (v₁, m, e₁) = want-got s (at + 1) 6 _ (omega arith) e₀ in
         let (h, e₂) = opened-got o s (at + 1) _ e₁ in
-        bracket-least o at (at + 1 + 1) (λ x m. before (start s at) (plain Push) x) t n (omega (arith, opens-step s at, opens-here s (at + 1) v₁)) (λ x m. omega (arith, push-need (start s at) x)) e₂)
+        bracket-least o at (at + 1 + 1) (λ x m. prefixed (start s at) (plain Push) x) t n (omega (arith, opens-step s at, opens-here s (at + 1) v₁)) (λ x m. omega (arith, push-need (start s at) x)) e₂)
         (λ v e₀. omega (arith, leaf-least s at o e₀))) e
     body-least (posts u at) t n e =
         posts-by (postfixAt s at) _ _
         (λ v m e₀ e₁.
         let h = postfix-past s at v m e₀ in
-        omega (arith, ih (posts (after (end s (m - 1)) v u) m) t n e₁, after-need v u (postfix-form s at v m e₀) (end s (m - 1)), opens-more s at m (omega arith)))
+        omega (arith, ih (posts (postfixed (end s (m - 1)) v u) m) t n e₁, after-need v u (postfix-form s at v m e₀) (end s (m - 1)), opens-more s at m (omega arith)))
         (λ v e₀.
         let a : u ≡ t = cc in
         let b : at ≡ n = cc in

@@ -1,5 +1,5 @@
 -- What a computed example opens: the definitions of each layer, named once. To unfold one of these is to unfold all that it names.
-use Rattle.text.specs.Choice as Choice
+use Rattle.text.specs.Booleans as Choice
 use Rattle.text.specs.Classes as Classes
 use Rattle.text.specs.Digits as Digits
 use Rattle.text.specs.Scans as Scans
@@ -45,7 +45,7 @@ unfolding Escapes.digitsOf Escapes.simpleOf Escapes.pairOf Escapes.bracedOf Esca
 literal-opened = tt
 
 unfoldable pub token-opened : Unit {0}
-unfolding Blanks.run Blanks.markOf Blanks.closeOf Blanks.lineBlank Blanks.slashBlank Blanks.returnBlank Blanks.openerBlank Blanks.blankBy Lister.nextOf Lister.lister Lists.tokensIn Lists.tokensFrom Lists.tokensOf Lists.filledOf TokenTokens.allowed TokenTokens.wordToken TokenTokens.tagToken TokenTokens.numberToken TokenTokens.minusToken TokenTokens.dotsToken TokenTokens.insideLook TokenTokens.stringOf TokenTokens.insensToken TokenTokens.quoted TokenTokens.charToken TokenTokens.docToken TokenTokens.openerToken TokenTokens.oneKind TokenTokens.tokenBy TokenTokens.tokenOf TokenTokens.tokenAt Table.tokOf Table.kind Table.start Table.end Table.is Table.part Table.word Table.label
+unfolding Blanks.run Blanks.markOf Blanks.closeOf Blanks.lineBlank Blanks.slashBlank Blanks.returnBlank Blanks.openerBlank Blanks.blankBy Lister.nextOf Lister.lister Lists.tokensIn Lists.tokensFrom Lists.tokensOf Lists.filledOf TokenTokens.allowed TokenTokens.wordToken TokenTokens.tagToken TokenTokens.numberToken TokenTokens.minusToken TokenTokens.dotsToken TokenTokens.insideLook TokenTokens.stringOf TokenTokens.insensToken TokenTokens.quoted TokenTokens.charToken TokenTokens.docToken TokenTokens.openerToken TokenTokens.oneKind TokenTokens.tokenBy TokenTokens.tokenOf TokenTokens.tokenAt Table.tokOf Table.kind Table.start Table.end Table.is Table.between Table.word Table.label
 token-opened = tt
 
 unfoldable pub table-opened : Unit {0}
@@ -61,7 +61,7 @@ unfolding PrinterAnswers.tableText PrinterAnswers.roomOf PrinterAnswers.printOf 
 printer-opened = tt
 
 unfoldable pub structure-opened : Unit {0}
-unfolding StructureAnswers.unread StructureAnswers.summary StructureAnswers.wanted StructureAnswers.openingOf StructureAnswers.signs StructureAnswers.bracketOf StructureAnswers.tailOf StructureAnswers.tailed StructureAnswers.ruleSummary StructureAnswers.summaries Structure.next Structure.want Structure.opened Structure.join Structure.closed Structure.before Structure.after Structure.inTag Structure.fromNumber Structure.fromComma Structure.postfixAt Structure.sliceTo Structure.slice Structure.pushed Structure.ranged Structure.leafAt Structure.body Structure.run Structure.Run Structure.markAt Structure.ruleOf Structure.thenRules Structure.ruleAt Structure.rulesIn Structure.docsIn Structure.grammar StructureTokens.spells Values.number Values.integer Values.string Values.character Values.faultAt Values.faultsFrom Values.faults
+unfolding StructureAnswers.unread StructureAnswers.summary StructureAnswers.wanted StructureAnswers.openingOf StructureAnswers.predicates StructureAnswers.bracketOf StructureAnswers.tailOf StructureAnswers.tailed StructureAnswers.ruleSummary StructureAnswers.summaries Structure.next Structure.want Structure.opened Structure.join Structure.closed Structure.prefixed Structure.postfixed Structure.inTag Structure.fromNumber Structure.fromComma Structure.postfixAt Structure.sliceTo Structure.slice Structure.pushed Structure.ranged Structure.leafAt Structure.body Structure.run Structure.Run Structure.markAt Structure.ruleOf Structure.thenRules Structure.ruleFrom Structure.rulesUpTo Structure.docsIn Structure.grammar StructureTokens.spells Values.number Values.integer Values.string Values.character Values.faultAt Values.faultsFrom Values.faults
 structure-opened = tt
 
 unfoldable pub records-opened : Unit {0}
@@ -81,7 +81,7 @@ unfolding Program.actOf Program.linkFor Program.mentionOf Program.linkAt Program
 links-opened = tt
 
 unfoldable pub matcher-opened : Unit {0}
-unfolding Match.after Match.took Match.lower Match.starts Match.one Match.full Match.rounds Match.repeat Match.enter Match.visit Ready.readyNames Ready.readyOf MatcherAnswers.reply MatcherAnswers.lineOf MatcherAnswers.matchOf Replies.numbered Lines.lines Lines.past Lines.rows Lines.ranOver Lines.linesOf Lines.recorded Lines.recordsOf
+unfolding Match.outcomeBy Match.took Match.lower Match.starts Match.one Match.full Match.rounds Match.repeat Match.enter Match.visit Ready.readyNames Ready.readyOf MatcherAnswers.reply MatcherAnswers.lineOf MatcherAnswers.matchOf Replies.numbered Lines.lines Lines.past Lines.rows Lines.ranOver Lines.linesOf Lines.recorded Lines.recordsOf
 matcher-opened = tt
 
 -- reading and printing

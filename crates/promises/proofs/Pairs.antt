@@ -4,7 +4,7 @@ use mathlib.Core.Path.{_≡_, refl, sym, ap, _∙_}
 use mathlib.Core.Bool.{Bool, true, false, not}
 use mathlib.Core.List.{List, [], _∷_, _++_, append-assoc, append-nil}
 use lib.Dec.{eqb, ltb}
-use Rattle.text.specs.Choice.{choose, and, or}
+use Rattle.text.specs.Booleans.{choose, and, or}
 use Rattle.text.specs.Words.{begins, push}
 use Rattle.token.specs.Tokens.{pushLiteral}
 use Rattle.table.specs.declared.Unary.the-variants.{PosPred, NegPred, Opt, Rep, RepOnce, RepExact, RepMin, RepMax, RepMinMax, Push}
@@ -15,7 +15,7 @@ use Rattle.table.specs.declared.End.{End}
 use Rattle.table.specs.declared.End.the-variants.{Open, At}
 use Rattle.table.specs.Tree.{Atom, text, range, peekSlice, Wrap, plain, nodeTag, Tree, leaf, one, two, Rule}
 use Rattle.structure.specs.Tokens.{same, peek}
-use Rattle.promises.specs.Pieces.{Piece, gap, tok, lbrace, rbrace, space, equals, dots, signedKind, integer, endPieces, opens, closes, enclosed, atomPieces, before, after, separator, pieces, markPieces, rulePieces, rulesPieces}
+use Rattle.promises.specs.Pieces.{Piece, gap, tok, lbrace, rbrace, space, equals, dots, signedKind, integer, endPieces, opens, closes, enclosed, atomPieces, piecesBefore, piecesAfter, separator, pieces, markPieces, rulePieces, rulesPieces}
 use Rattle.promises.proofs.Bared.{Bared, at-leaf, at-one, at-two, in-one, in-left, in-right, BaredRules, in-first, in-rest}
 
 -- ---- pieces without a pair
@@ -96,7 +96,7 @@ inWrap (plain (RepMinMax n m)) d = d
 inWrap (plain Push) d = suc d
 inWrap (nodeTag b) d = d
 
-even-before : (o : Wrap) (d : ℕ) (q : List Piece) → unclosed d (before o ++ q) ≡ before o ++ unclosed (inWrap o d) q
+even-before : (o : Wrap) (d : ℕ) (q : List Piece) → unclosed d (piecesBefore o ++ q) ≡ piecesBefore o ++ unclosed (inWrap o d) q
 unfolding unclosed
 even-before (plain PosPred) d q = refl
 even-before (plain NegPred) d q = refl
@@ -110,7 +110,7 @@ even-before (plain (RepMinMax n m)) d q = refl
 even-before (plain Push) d q = refl
 even-before (nodeTag b) d q = refl
 
-even-after : (o : Wrap) (d : ℕ) (q : List Piece) → unclosed (inWrap o d) (after o ++ q) ≡ after o ++ unclosed d q
+even-after : (o : Wrap) (d : ℕ) (q : List Piece) → unclosed (inWrap o d) (piecesAfter o ++ q) ≡ piecesAfter o ++ unclosed d q
 unfolding unclosed
 even-after (plain PosPred) d q = refl
 even-after (plain NegPred) d q = refl
@@ -133,11 +133,11 @@ even-separator Choice d q = refl
 three : (a b c q : List Piece) → (a ++ (b ++ c)) ++ q ≡ a ++ (b ++ (c ++ q))
 three a b c q = append-assoc a (b ++ c) q ∙ ap (λ (z : List Piece). a ++ z) (append-assoc b c q)
 
-even-one : (o : Wrap) (x : List Piece) → Even x → Even (before o ++ (x ++ after o))
+even-one : (o : Wrap) (x : List Piece) → Even x → Even (piecesBefore o ++ (x ++ piecesAfter o))
 unfolding Even
 even-one o x h d q =
-    ap (unclosed d) (three (before o) x (after o) q) ∙ even-before o d _
-    ∙ ap (λ (z : List Piece). before o ++ z) (h (inWrap o d) _ ∙ ap (λ (z : List Piece). x ++ z) (even-after o d q)) ∙ sym (three (before o) x (after o) _)
+    ap (unclosed d) (three (piecesBefore o) x (piecesAfter o) q) ∙ even-before o d _
+    ∙ ap (λ (z : List Piece). piecesBefore o ++ z) (h (inWrap o d) _ ∙ ap (λ (z : List Piece). x ++ z) (even-after o d q)) ∙ sym (three (piecesBefore o) x (piecesAfter o) _)
 
 even-two : (j : Join) (x y : List Piece) → Even x → Even y → Even (x ++ (separator j ++ y))
 unfolding Even
@@ -163,7 +163,7 @@ even-enclosed false x h d q = ap (unclosed d) (bare-is x q) ∙ h d q ∙ sym (b
 even : (m : Tree Bool) → Even (pieces m)
 unfolding pieces
 even (leaf b a) = even-enclosed b (atomPieces a) (even-atom a)
-even (one b o t) = even-enclosed b (before o ++ (pieces t ++ after o)) (even-one o (pieces t) (even t))
+even (one b o t) = even-enclosed b (piecesBefore o ++ (pieces t ++ piecesAfter o)) (even-one o (pieces t) (even t))
 even (two b j x y) = even-enclosed b (pieces x ++ (separator j ++ pieces y)) (even-two j (pieces x) (pieces y) (even x) (even y))
 
 -- ---- the k-th pair is in these pieces, which are then others, of which B holds; or behind them
@@ -209,7 +209,7 @@ got-atom (range x y) k = miss k false (λ q. refl)
 got-atom (peekSlice x e) k =
     miss k false (λ q. ap (λ (z : List Piece). tok 18 peek ∷ tok 4 (91 ∷ []) ∷ z) (pass-integer x _ k false _ ∙ ap (λ (z : List Piece). integer x ∷ dots ∷ z) (pass-end e k q)))
 
-pass-before : (o : Wrap) (k : ℕ) (q : List Piece) → unpaired k false (before o ++ q) ≡ before o ++ unpaired k false q
+pass-before : (o : Wrap) (k : ℕ) (q : List Piece) → unpaired k false (piecesBefore o ++ q) ≡ piecesBefore o ++ unpaired k false q
 unfolding unpaired begins
 pass-before (plain PosPred) k q = refl
 pass-before (plain NegPred) k q = refl
@@ -223,7 +223,7 @@ pass-before (plain (RepMinMax n m)) k q = refl
 pass-before (plain Push) k q = refl
 pass-before (nodeTag b) k q = refl
 
-pass-after : (o : Wrap) (w : Bool) → (v : Bool) × ((k : ℕ) (q : List Piece) → unpaired k w (after o ++ q) ≡ after o ++ unpaired k v q)
+pass-after : (o : Wrap) (w : Bool) → (v : Bool) × ((k : ℕ) (q : List Piece) → unpaired k w (piecesAfter o ++ q) ≡ piecesAfter o ++ unpaired k v q)
 unfolding unpaired
 pass-after (plain PosPred) w = (w, λ k q. refl)
 pass-after (plain NegPred) w = (w, λ k q. refl)
@@ -259,21 +259,21 @@ Less m y = (n : Tree Bool) × Bared m n × (pieces n ≡ y)
 
 -- and of its node unpaired the node's own brackets
 LessOne : Wrap → Tree Bool → List Piece → Type 0
-LessOne o t y = (u : Tree Bool) × Bared t u × (before o ++ (pieces u ++ after o) ≡ y)
+LessOne o t y = (u : Tree Bool) × Bared t u × (piecesBefore o ++ (pieces u ++ piecesAfter o) ≡ y)
 
 LessTwo : Join → Tree Bool → Tree Bool → List Piece → Type 0
 LessTwo j x y z = (u : Tree Bool) × (v : Tree Bool) × ((b : Bool) → Bared (two b j x y) (two b j u v)) × (pieces u ++ (separator j ++ pieces v) ≡ z)
 
-got-one : (o : Wrap) (t : Tree Bool) (k : ℕ) → Got (Less t) k (pieces t) → Got (LessOne o t) k (before o ++ (pieces t ++ after o))
+got-one : (o : Wrap) (t : Tree Bool) (k : ℕ) → Got (Less t) k (pieces t) → Got (LessOne o t) k (piecesBefore o ++ (pieces t ++ piecesAfter o))
 unfolding Less LessOne
 got-one o t k (hit y (n, r, e) h) =
-    hit (before o ++ (y ++ after o)) (n, r, ap (λ (z : List Piece). before o ++ (z ++ after o)) e)
-    (λ q. ap (unpaired k false) (three (before o) (pieces t) (after o) q) ∙ pass-before o k _ ∙ ap (λ (z : List Piece). before o ++ z) (h (after o ++ q)) ∙ sym (three (before o) y (after o) q))
+    hit (piecesBefore o ++ (y ++ piecesAfter o)) (n, r, ap (λ (z : List Piece). piecesBefore o ++ (z ++ piecesAfter o)) e)
+    (λ q. ap (unpaired k false) (three (piecesBefore o) (pieces t) (piecesAfter o) q) ∙ pass-before o k _ ∙ ap (λ (z : List Piece). piecesBefore o ++ z) (h (piecesAfter o ++ q)) ∙ sym (three (piecesBefore o) y (piecesAfter o) q))
 got-one o t k (miss e w h) =
     let (v, p) = pass-after o w in
     miss e v
-    (λ q. ap (unpaired k false) (three (before o) (pieces t) (after o) q) ∙ pass-before o k _
-    ∙ ap (λ (z : List Piece). before o ++ z) (h (after o ++ q) ∙ ap (λ (z : List Piece). pieces t ++ z) (p e q)) ∙ sym (three (before o) (pieces t) (after o) _))
+    (λ q. ap (unpaired k false) (three (piecesBefore o) (pieces t) (piecesAfter o) q) ∙ pass-before o k _
+    ∙ ap (λ (z : List Piece). piecesBefore o ++ z) (h (piecesAfter o ++ q) ∙ ap (λ (z : List Piece). pieces t ++ z) (p e q)) ∙ sym (three (piecesBefore o) (pieces t) (piecesAfter o) _))
 
 module _ (j : Join) (x y : Tree Bool) (k : ℕ) where
   got-right : (e : ℕ) (w : Bool) → ((q : List Piece) → unpaired k false (pieces x ++ q) ≡ pieces x ++ unpaired e w q) → Got (Less y) e (pieces y)
@@ -300,9 +300,9 @@ found : (m : Tree Bool) (k : ℕ) → Got (Less m) k (pieces m)
 unfolding pieces Less LessOne LessTwo
 found (leaf false a) k = got-bare {B = λ y. ⊥} (atomPieces a) k (λ y b. absurd b) (got-atom a k)
 found (leaf true a) k = got-closed {B = λ y. ⊥} (atomPieces a) k (even-atom a) (leaf false a, at-leaf, refl) (λ y b. absurd b) (λ e. got-atom a e)
-found (one false o t) k = got-bare {B = LessOne o t} (before o ++ (pieces t ++ after o)) k (λ y (u, r, e). (one false o u, in-one r, ap (enclosed false) e)) (got-one o t k (found t k))
+found (one false o t) k = got-bare {B = LessOne o t} (piecesBefore o ++ (pieces t ++ piecesAfter o)) k (λ y (u, r, e). (one false o u, in-one r, ap (enclosed false) e)) (got-one o t k (found t k))
 found (one true o t) k =
-    got-closed {B = LessOne o t} (before o ++ (pieces t ++ after o)) k (even-one o (pieces t) (even t)) (one false o t, at-one, refl)
+    got-closed {B = LessOne o t} (piecesBefore o ++ (pieces t ++ piecesAfter o)) k (even-one o (pieces t) (even t)) (one false o t, at-one, refl)
     (λ y (u, r, e). (one true o u, in-one r, ap (enclosed true) e)) (λ e. got-one o t e (found t e))
 found (two false j x y) k =
     got-bare {B = LessTwo j x y} (pieces x ++ (separator j ++ pieces y)) k (λ z (u, v, r, e). (two false j u v, r false, ap (enclosed false) e))

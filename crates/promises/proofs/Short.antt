@@ -14,7 +14,7 @@ use Rattle.forms.specs.declared.Style.the-variants.{Full, Short}
 use Rattle.printer.specs.Answers.{tableText}
 use Rattle.structure.specs.declared.Level.{Level}
 use Rattle.structure.specs.declared.Level.the-variants.{Tagged, Plain}
-use Rattle.build.specs.Rules.{rulesOf}
+use Rattle.build.specs.Rules.{rulesRead}
 use Rattle.promises.specs.Pieces.{spelled, rulesPieces}
 use Rattle.promises.specs.Pairs.{Pair, cut}
 use Rattle.promises.specs.Styled.{markedRules}
@@ -79,24 +79,24 @@ module _ (ns rs st : List ℕ) (p : Printable Short ns rs st) where
   short-opens = ap opensIn (sym short-pieces) ∙ opens-marked marks marks-fine marks-counted ∙ needs-marked ones
 
   -- every text that is read as these rules, at either level, has at least as many
-  pub short-fewest : (level : Level) (x : List ℕ) → map asideRule (rulesOf level x) ≡ ones → opensIn (tableText Short ns rs st) ≤ opensIn x
+  pub short-fewest : (level : Level) (x : List ℕ) → map asideRule (rulesRead level x) ≡ ones → opensIn (tableText Short ns rs st) ≤ opensIn x
   short-fewest level x e = omega (arith, short-opens, fewest level x ones e)
 
   -- with one mark fewer other rules are read
-  needed : (level : Level) (ms : List (Rule Bool)) → BaredRules marks ms → map asideRule (rulesOf level (spelled (rulesPieces ms))) ≡ ones → ⊥
+  needed : (level : Level) (ms : List (Rule Bool)) → BaredRules marks ms → map asideRule (rulesRead level (spelled (rulesPieces ms))) ≡ ones → ⊥
   needed level ms b e =
       let g = bared-rules b in
       let k = opens-marked ms (g .0 ∙ marks-fine) (g .1 ∙ marks-counted) in
       omega (arith, fewest level (spelled (rulesPieces ms)) ones e, bared-fewer b, needs-marked ones)
 
   -- no pair of brackets but those of PUSH and PUSH_LITERAL can be taken away and the same rules still be read
-  pub pair-needed : (level : Level) (i j : ℕ) → Pair (tableText Short ns rs st) i j → map asideRule (rulesOf level (cut (tableText Short ns rs st) i j)) ≡ ones → ⊥
+  pub pair-needed : (level : Level) (i j : ℕ) → Pair (tableText Short ns rs st) i j → map asideRule (rulesRead level (cut (tableText Short ns rs st) i j)) ≡ ones → ⊥
   pair-needed level i j q e =
       let (k, f) = pair-cut (tableText Short ns rs st) (rulesPieces marks) (sym short-pieces) (held-rules marks marks-fine marks-counted 0) i j q in
       let z : unpaired k false (rulesPieces marks) ≡ rulesPieces marks → ⊥ =
       λ h. omega (arith, cut-shorter (tableText Short ns rs st) i j q, ap length (sym f ∙ ap spelled h ∙ short-pieces)) in
       let (ms, b, g) = every-pair marks k z in
-      needed level ms b (ap (λ (x : List ℕ). map asideRule (rulesOf level x)) (ap spelled (sym g) ∙ f) ∙ e)
+      needed level ms b (ap (λ (x : List ℕ). map asideRule (rulesRead level x)) (ap spelled (sym g) ∙ f) ∙ e)
 
 -- ---- demand 3 as it was, of the full text
 

@@ -7,7 +7,7 @@ use mathlib.Core.List.{List, [], _∷_, map}
 use native.Mathlib.Omega.{arith}
 use lib.Dec.{leb}
 use Rattle.structure.specs.declared.Level.{Level}
-use Rattle.text.specs.Choice.{and, or}
+use Rattle.text.specs.Booleans.{and, or}
 use Rattle.table.specs.declared.Join.{Join}
 use Rattle.table.specs.declared.Join.the-variants.{Seq, Choice}
 use Rattle.table.specs.Tree.{Atom, Wrap, Tree, leaf, one, two, Rule, Nowhere, aside, ruleBy, asideRule}

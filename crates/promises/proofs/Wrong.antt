@@ -25,7 +25,7 @@ use Rattle.text.proofs.Tests.{choose-by}
 use Rattle.token.specs.Lists.{tokensOf}
 use Rattle.reader.specs.declared.Reading.the-variants as Reading
 use Rattle.reader.specs.Read.{numbered, readOf, listedOf, judgedOf, roomBy, roomFor, faulty, ruledBy, checkedBy}
-use Rattle.build.specs.Rules.{rulesOf, ruledOf}
+use Rattle.build.specs.Rules.{rulesRead, ruledOf}
 use Rattle.promises.specs.Twelve.{ascii, treesOf}
 use Rattle.promises.proofs.Opened.{opened}
 
@@ -52,7 +52,7 @@ printedIn style ns rs st o = printIn style ns rs st o (printOf style ns rs st (l
 
 -- the same of the rules of a text
 abbrev reprinted : Style → List ℕ → List ℕ → List ℕ
-reprinted style s o = printedIn style (nodesOf (rulesOf Tagged s)) (recordsOf (rulesOf Tagged s)) (rulesStored (rulesOf Tagged s)) o
+reprinted style s o = printedIn style (nodesOf (rulesRead Tagged s)) (recordsOf (rulesRead Tagged s)) (rulesStored (rulesRead Tagged s)) o
 
 -- ten bytes of output
 abbrev zeros : List ℕ
@@ -71,13 +71,13 @@ repeated (t ∷ ts) = t ∷ map (λ (u : Tree Nowhere). t) ts
 record Facts : Type 0 where
   short-read : numbered (readOf Tagged short 4096 1024 65536) .number ≡ 0
   long-read : numbered (readOf Tagged long 4096 1024 65536) .number ≡ 0
-  short-nodes : nodesOf (rulesOf Tagged short) ≡ 4 ∷ 3 ∷ 4 ∷ 1 ∷ 1 ∷ 0 ∷ []
-  long-nodes : nodesOf (rulesOf Tagged long) ≡ 4 ∷ 3 ∷ 4 ∷ 1 ∷ 1 ∷ 0 ∷ 11 ∷ 3 ∷ 5 ∷ 0 ∷ 0 ∷ 0 ∷ []
+  short-nodes : nodesOf (rulesRead Tagged short) ≡ 4 ∷ 3 ∷ 4 ∷ 1 ∷ 1 ∷ 0 ∷ []
+  long-nodes : nodesOf (rulesRead Tagged long) ≡ 4 ∷ 3 ∷ 4 ∷ 1 ∷ 1 ∷ 0 ∷ 11 ∷ 3 ∷ 5 ∷ 0 ∷ 0 ∷ 0 ∷ []
   both-read : numbered (readOf Tagged both 4096 1024 65536) .number ≡ 0
   both-trees : map (count {P = Nowhere}) (treesOf Tagged both) ≡ 1 ∷ 2 ∷ []
   both-repeated : getD (map (count {P = Nowhere}) (repeated (treesOf Tagged both))) 1 0 ≡ 1
-  short-prints : printIn Full (nodesOf (rulesOf Tagged short)) (recordsOf (rulesOf Tagged short)) (rulesStored (rulesOf Tagged short)) zeros
-      (printOf Full (nodesOf (rulesOf Tagged short)) (recordsOf (rulesOf Tagged short)) (rulesStored (rulesOf Tagged short)) 10) ≡ ascii "r = { a }\n"
+  short-prints : printIn Full (nodesOf (rulesRead Tagged short)) (recordsOf (rulesRead Tagged short)) (rulesStored (rulesRead Tagged short)) zeros
+      (printOf Full (nodesOf (rulesRead Tagged short)) (recordsOf (rulesRead Tagged short)) (rulesStored (rulesRead Tagged short)) 10) ≡ ascii "r = { a }\n"
   label-full : getD (reprinted Full labelled twenty) 6 0 ≡ 40
   label-short : getD (reprinted Short labelled twenty) 6 0 ≡ 35
   right-short : reprinted Short right twenty ≡ ascii "r = { a ~ (b ~ c) }\n"
@@ -106,7 +106,7 @@ refuses-all f meets never = never short (ap (λ (r : Reading). numbered r .numbe
 
 -- ---- a reader that gives one fixed tree
 
-pub fixed-tree : (ns : List ℕ) → ((s : List ℕ) → numbered (readOf Tagged s 4096 1024 65536) .number ≡ 0 → nodesOf (rulesOf Tagged s) ≡ ns) → ⊥
+pub fixed-tree : (ns : List ℕ) → ((s : List ℕ) → numbered (readOf Tagged s 4096 1024 65536) .number ≡ 0 → nodesOf (rulesRead Tagged s) ≡ ns) → ⊥
 fixed-tree ns same =
     let e = sym (facts .short-nodes) ∙ same short (facts .short-read) ∙ sym (same long (facts .long-read)) ∙ facts .long-nodes in
     let n : _≡_ {A = ℕ} 6 12 = ap length e in
@@ -125,7 +125,7 @@ repeats-first same =
 
 pub writes-nothing : ((ns rs st o : List ℕ) → printIn Full ns rs st o (printOf Full ns rs st (length o)) ≡ o) → ⊥
 writes-nothing same =
-    let us = rulesOf Tagged short in
+    let us = rulesRead Tagged short in
     let e = sym (facts .short-prints) ∙ same (nodesOf us) (recordsOf us) (rulesStored us) zeros in
     let n : _≡_ {A = ℕ} 114 0 = ap (λ (xs : List ℕ). getD xs 0 0) e in
     absurd (omega arith)
@@ -134,7 +134,7 @@ writes-nothing same =
 
 pub short-as-full : ((ns rs st o : List ℕ) → printedIn Short ns rs st o ≡ printedIn Full ns rs st o) → ⊥
 short-as-full same =
-    let us = rulesOf Tagged labelled in
+    let us = rulesRead Tagged labelled in
     let e = ap (λ (xs : List ℕ). getD xs 6 0) (same (nodesOf us) (recordsOf us) (rulesStored us) twenty) in
     let n : _≡_ {A = ℕ} 35 40 = sym (facts .label-short) ∙ e ∙ facts .label-full in
     absurd (omega arith)
@@ -143,7 +143,7 @@ short-as-full same =
 
 pub never-brackets : ((ns rs st o : List ℕ) (i : ℕ) → getD (printedIn Short ns rs st o) i 0 ≡ 40 → ⊥) → ⊥
 never-brackets none =
-    let us = rulesOf Tagged right in
+    let us = rulesRead Tagged right in
     none (nodesOf us) (recordsOf us) (rulesStored us) twenty 10 (ap (λ (xs : List ℕ). getD xs 10 0) (facts .right-short))
 
 -- ---- a made-up number of used records: the counts are those of the defined rules
@@ -179,10 +179,10 @@ module _ (level : Level) (s : List ℕ) (n r b x y z : ℕ) where
   by-check Check.Good f never g e = e
   by-check (Check.Bad p) f never g e = absurd (never p e)
 
-  pub made-up : readOf level s n r b ≡ Reading.Read x y z → Counts (rulesOf level s)
+  pub made-up : readOf level s n r b ≡ Reading.Read x y z → Counts (rulesRead level s)
   unfolding readOf listedOf judgedOf
   made-up =
-      choose-by (λ (k : Reading). k ≡ Reading.Read x y z → Counts (rulesOf level s)) (leb (length s) 65536) _ _
+      choose-by (λ (k : Reading). k ≡ Reading.Read x y z → Counts (rulesRead level s)) (leb (length s) 65536) _ _
       (λ _ e.
       by-rules (grammar level s)
       (by-check (tokensOf s .fault) Reading.NoToken (λ p h. let k : _≡_ {A = ℕ} 0 1 = cc in absurd (omega arith)) _

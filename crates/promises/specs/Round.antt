@@ -5,7 +5,7 @@ use mathlib.Core.Bool.{Bool, true, false, not}
 use mathlib.Core.List.{List, [], _∷_, map}
 use lib.Dec.{leb, eqb}
 use lib.ListN.{length, getD}
-use Rattle.text.specs.Choice.{and, or}
+use Rattle.text.specs.Booleans.{and, or}
 use Rattle.table.specs.declared.Unary.{Unary}
 use Rattle.table.specs.declared.Unary.the-variants.{PosPred, NegPred, Opt, Rep, RepOnce, RepExact, RepMin, RepMax, RepMinMax, Push}
 use Rattle.table.specs.declared.Sort.{Sort}
@@ -194,7 +194,7 @@ pub record Printable (style : Style) (ns rs st : List ℕ) : Type 0 where
 -- a text is read as these rules, spans aside, given room for them and no more; the limits leave room, and so does a
 -- store as long as the text
 pub record ReadAs (level : Level) (s : List ℕ) (us : List (Rule Nowhere)) : Type 0 where
-  pub rules : map asideRule (Built.rulesOf level s) ≡ us
+  pub rules : map asideRule (Built.rulesRead level s) ≡ us
   pub answer : (n r b : ℕ) → counts us ≤ n → length us ≤ r → length (rulesStored us) ≤ b → readOf level s n r b ≡ Reading.Read (counts us) (length us) (length (rulesStored us))
   pub few-nodes : counts us ≤ maxNodes
   pub few-rules : length us ≤ maxRules

@@ -12,7 +12,7 @@ use types.Run.{OneOf}
 use lib.ListN.{length, take, length-append, length-take}
 use lib.Seq.{take-all}
 use borrow.Author.Tests.{le-leb, lt-leb, leb-true, ltb-true, eqb-true}
-use Rattle.text.specs.Choice.{choose, and, or}
+use Rattle.text.specs.Booleans.{choose, and, or}
 use Rattle.text.specs.Splice.{fronted}
 use Rattle.text.specs.Utf8.{firstBad}
 use Rattle.text.specs.declared.Check.{Check}
@@ -34,7 +34,7 @@ use Rattle.structure.specs.declared.Refusal.{Refusal}
 use Rattle.structure.specs.declared.Refusal.the-variants as Refusal
 use Rattle.structure.specs.declared.Counted.{Counted}
 use Rattle.structure.specs.declared.Counted.the-variants as Counted
-use Rattle.structure.specs.Values.{inside, literalFault, faultAt, orFault, faultsFrom, faults}
+use Rattle.structure.specs.Values.{literalBytes, literalFault, faultAt, orFault, faultsFrom, faults}
 use Rattle.structure.specs.Structure.{Ruled, rules, unruled, grammar, docs}
 use Rattle.structure.specs.Structure as Structure
 use Rattle.structure.specs.Answers.{summaries}
@@ -45,12 +45,12 @@ use Rattle.structure.proofs.Steps.{choose-true, choose-false, split, inside-is,
 use Rattle.structure.proofs.Rules.{rule-went, rules-end}
 use Rattle.reader.specs.declared.Reading.{Reading}
 use Rattle.reader.specs.declared.Reading.the-variants as Reading
-use Rattle.reader.specs.declared.Tried.{Tried}
-use Rattle.reader.specs.declared.Tried.the-variants as Tried
+use Rattle.reader.specs.declared.Attempt.{Attempt}
+use Rattle.reader.specs.declared.Attempt.the-variants as Attempt
 use Rattle.reader.proofs.Reading.{the-type}
-use Rattle.reader.specs.Read.{roomForNodes, roomForRules, roomBy, faulty, checkedBy, unreadable, ruledBy, judgedOf, listedOf, triedOf, readOf, leftIn, Numbered, numbered, reported, Leaves, TriedLeaves}
+use Rattle.reader.specs.Read.{roomForNodes, roomForRules, roomBy, faulty, checkedBy, unreadable, ruledBy, judgedOf, listedOf, attemptOf, readOf, leftIn, Numbered, numbered, reported, Leaves, AttemptLeaves}
 use Rattle.build.specs.Build.{Scalars}
-use Rattle.build.specs.Rules.{RulesRoom, RulesBuilt, ruledOf, rulesOf}
+use Rattle.build.specs.Rules.{RulesRoom, RulesBuilt, ruledOf, rulesRead}
 use Rattle.build.proofs.Rules.{next-rule, no-rules}
 
 -- ---- room
@@ -139,13 +139,13 @@ module _ (level : Level) (s : List ℕ) where
       (eq-or-lt-of-le h)
 
   strings-good : (i : ℕ) (k : ℕ) → faultAt level s k i ≡ Fault.Sound → is s i 18 ≡ false → is s i 20 ≡ false → is s i 21 ≡ false → or (is s i 23) (or (is s i 24) (is s i 25)) ≡ true
-      → badEscape (inside s i) ≡ Check.Good
+      → badEscape (literalBytes s i) ≡ Check.Good
   unfolding faultAt
   strings-good i k e a b c d =
-      literal-good s i (badEscape (inside s i))
+      literal-good s i (badEscape (literalBytes s i))
       (sym (choose-false (is s i 18) _ _ a ∙ choose-false (is s i 20) _ _ b ∙ choose-false (is s i 21) _ _ c ∙ choose-true (or (is s i 23) (or (is s i 24) (is s i 25))) _ _ d) ∙ e)
 
-  sound-literal : faults level s ≡ Fault.Sound → (i x : ℕ) → 22 < x → is s i x ≡ true → or (is s i 23) (or (is s i 24) (is s i 25)) ≡ true → badEscape (inside s i) ≡ Check.Good
+  sound-literal : faults level s ≡ Fault.Sound → (i x : ℕ) → 22 < x → is s i x ≡ true → or (is s i 23) (or (is s i 24) (is s i 25)) ≡ true → badEscape (literalBytes s i) ≡ Check.Good
   unfolding faults is
   sound-literal e i x h q d =
       let l = inside-is s i x (omega arith) q in
@@ -163,8 +163,8 @@ module _ (level : Level) (s : List ℕ) where
 
   -- ---- the texts of rules aren't large
 
-  small-in : length s ≤ 65536 → (k i : ℕ) (us : List (Rule Span)) → Structure.rulesIn level s k i ≡ rules us → length (rulesStored us) ≤ Sizes.most * (counts us + length us)
-  unfolding Structure.rulesIn counts rulesStored
+  small-in : length s ≤ 65536 → (k i : ℕ) (us : List (Rule Span)) → Structure.rulesUpTo level s k i ≡ rules us → length (rulesStored us) ≤ Sizes.most * (counts us + length us)
+  unfolding Structure.rulesUpTo counts rulesStored
   small-in h zero i us e =
       let z : us ≡ [] = cc in
       let a = ap (λ (x : List (Rule Span)). length (rulesStored x)) z in
@@ -211,16 +211,16 @@ ruled-read (unruled r) f e = unreadable-read r e
 
 module _ (level : Level) (s ns rs st : List ℕ) where
   pub build-ready : length s ≤ 65536 → {x y z : ℕ} → judgedOf level s (roomForNodes ns) (roomForRules rs) (length st) ≡ Reading.Read x y z
-      → Scalars s × RulesRoom (grammar level s) (rulesOf level s) ns rs st
+      → Scalars s × RulesRoom (grammar level s) (rulesRead level s) ns rs st
   unfolding judgedOf
   build-ready h e =
       let (m, e₁) = ruled-read (grammar level s) _ e in
       let (f, e₂) = faulty-read (faults level s) _ e₁ in
-      let (a, b, c) = has-room (length (rulesOf level s)) (counts (rulesOf level s)) (length (rulesStored (rulesOf level s))) (roomForNodes ns) (roomForRules rs) (length st) e₂ in
-      let d = small level s h (rulesOf level s) m in
+      let (a, b, c) = has-room (length (rulesRead level s)) (counts (rulesRead level s)) (length (rulesStored (rulesRead level s))) (roomForNodes ns) (roomForRules rs) (length st) e₂ in
+      let d = small level s h (rulesRead level s) m in
       (sound-scalars level s f, record { read = m; rows = omega arith; room = omega arith; few = omega arith; fits = c; low = omega arith })
 
-  pub read-left : (x y z : ℕ) (ns′ rs′ st′ : List ℕ) → RulesBuilt (rulesOf level s) ns rs st ns′ rs′ st′ → Leaves level s (Reading.Read x y z) ns rs st ns′ rs′ st′
+  pub read-left : (x y z : ℕ) (ns′ rs′ st′ : List ℕ) → RulesBuilt (rulesRead level s) ns rs st ns′ rs′ st′ → Leaves level s (Reading.Read x y z) ns rs st ns′ rs′ st′
   unfolding leftIn
   read-left x y z ns′ rs′ st′ b = record { nodes = b .nodes-is; rules = b .rules-is; store = b .store-is }
 
@@ -269,52 +269,52 @@ module _ (level : Level) (s ns rs st : List ℕ) (x : Reading) (n r : ℕ) (e : 
   build-kept h = (judged-is, kept level s ns rs st x (positive 1 later refl h))
 
   module _ {a b c : ℕ} (w : x ≡ Reading.Read a b c) where
-    pub build-room : length s ≤ 65536 → Scalars s × RulesRoom (grammar level s) (rulesOf level s) ns rs st
+    pub build-room : length s ≤ 65536 → Scalars s × RulesRoom (grammar level s) (rulesRead level s) ns rs st
     build-room h = build-ready level s ns rs st h (sym judged-is ∙ w)
 
-    pub build-read : (ns′ rs′ st′ : List ℕ) → RulesBuilt (rulesOf level s) ns rs st ns′ rs′ st′
+    pub build-read : (ns′ rs′ st′ : List ℕ) → RulesBuilt (rulesRead level s) ns rs st ns′ rs′ st′
         → (x ≡ judgedOf level s (roomForNodes ns) (roomForRules rs) (length st)) × Leaves level s x ns rs st ns′ rs′ st′
     build-read ns′ rs′ st′ d = (judged-is, rw w (read-left level s ns rs st a b c ns′ rs′ st′ d))
 
 -- ---- tokens in the table
 
 module _ (m : ℕ) (level : Level) (s : List ℕ) (n r b : ℕ) where
-  tried-fits : length (toks s) ≤ m → triedOf m level s n r b ≡ Tried.Done (listedOf level s n r b)
-  unfolding triedOf
+  tried-fits : length (toks s) ≤ m → attemptOf m level s n r b ≡ Attempt.Done (listedOf level s n r b)
+  unfolding attemptOf
   tried-fits h = rw (le-leb (length (toks s)) m h)
 
-  tried-over : m < length (toks s) → triedOf m level s n r b ≡ Tried.Full
-  unfolding triedOf
+  tried-over : m < length (toks s) → attemptOf m level s n r b ≡ Attempt.Full
+  unfolding attemptOf
   tried-over h = rw (lt-leb (length (toks s)) m h)
 
   -- what was done is what the text gets
-  tried-done : {t : Tried} {x : Reading} → t ≡ triedOf m level s n r b → t ≡ Tried.Done x → x ≡ listedOf level s n r b
+  tried-done : {t : Attempt} {x : Reading} → t ≡ attemptOf m level s n r b → t ≡ Attempt.Done x → x ≡ listedOf level s n r b
   tried-done {t} {x} e q =
       ⊎-elim
       (λ h.
-      let w : Tried.Full ≡ Tried.Done x = sym (tried-over h) ∙ sym e ∙ q in
+      let w : Attempt.Full ≡ Attempt.Done x = sym (tried-over h) ∙ sym e ∙ q in
       let z : _≡_ {A = ℕ} 0 1 = cc in
       absurd (omega arith))
       (λ h.
-      let w : Tried.Done x ≡ Tried.Done (listedOf level s n r b) = sym q ∙ e ∙ tried-fits h in
+      let w : Attempt.Done x ≡ Attempt.Done (listedOf level s n r b) = sym q ∙ e ∙ tried-fits h in
       cc)
       (lt-or-ge m (length (toks s)))
 
   -- as many tokens as bytes are enough
-  pub tried-all : {t : Tried} → length s ≤ m → t ≡ triedOf m level s n r b → t ≡ Tried.Full → ⊥
+  pub tried-all : {t : Attempt} → length s ≤ m → t ≡ attemptOf m level s n r b → t ≡ Attempt.Full → ⊥
   tried-all {t} h e q =
       let l = few s in
-      let w : Tried.Full ≡ Tried.Done (listedOf level s n r b) = sym q ∙ e ∙ tried-fits (omega arith) in
+      let w : Attempt.Full ≡ Attempt.Done (listedOf level s n r b) = sym q ∙ e ∙ tried-fits (omega arith) in
       let z : _≡_ {A = ℕ} 0 1 = cc in
       omega arith
 
 -- one size of table did
-pub listed-done : (m : ℕ) (level : Level) (s ns rs st ns₁ rs₁ st₁ : List ℕ) {t : Tried} {x : Reading} → t ≡ triedOf m level s (roomForNodes ns) (roomForRules rs) (length st)
-    → TriedLeaves level s t ns rs st ns₁ rs₁ st₁ → t ≡ Tried.Done x → (x ≡ listedOf level s (roomForNodes ns) (roomForRules rs) (length st)) × Leaves level s x ns rs st ns₁ rs₁ st₁
+pub listed-done : (m : ℕ) (level : Level) (s ns rs st ns₁ rs₁ st₁ : List ℕ) {t : Attempt} {x : Reading} → t ≡ attemptOf m level s (roomForNodes ns) (roomForRules rs) (length st)
+    → AttemptLeaves level s t ns rs st ns₁ rs₁ st₁ → t ≡ Attempt.Done x → (x ≡ listedOf level s (roomForNodes ns) (roomForRules rs) (length st)) × Leaves level s x ns rs st ns₁ rs₁ st₁
 listed-done m level s ns rs st ns₁ rs₁ st₁ e w q = (tried-done m level s (roomForNodes ns) (roomForRules rs) (length st) e q, rw q at w)
 
 -- or was full, and another followed
-pub listed-again : (level : Level) (s ns rs st ns₁ rs₁ st₁ ns₂ rs₂ st₂ : List ℕ) {t : Tried} {x : Reading} → TriedLeaves level s t ns rs st ns₁ rs₁ st₁ → t ≡ Tried.Full
+pub listed-again : (level : Level) (s ns rs st ns₁ rs₁ st₁ ns₂ rs₂ st₂ : List ℕ) {t : Attempt} {x : Reading} → AttemptLeaves level s t ns rs st ns₁ rs₁ st₁ → t ≡ Attempt.Full
     → x ≡ listedOf level s (roomForNodes ns₁) (roomForRules rs₁) (length st₁) → Leaves level s x ns₁ rs₁ st₁ ns₂ rs₂ st₂
     → (x ≡ listedOf level s (roomForNodes ns) (roomForRules rs) (length st)) × Leaves level s x ns rs st ns₂ rs₂ st₂
 listed-again level s ns rs st ns₁ rs₁ st₁ ns₂ rs₂ st₂ w q e l =
@@ -322,26 +322,26 @@ listed-again level s ns rs st ns₁ rs₁ st₁ ns₂ rs₂ st₂ w q e l =
     (rw (v .0, v .1, v .2) at e, rw (v .0, v .1, v .2) at l)
 
 module _ (s o₀ : List ℕ) (f : Filled) (e : f ≡ filledOf (roomOf o₀) s) where
-  pub work-full : (level : Level) (ns rs st : List ℕ) (n r b : ℕ) → f ≡ Filled.Full → (Tried.Full ≡ triedOf (roomOf o₀) level s n r b) × TriedLeaves level s Tried.Full ns rs st ns rs st
-  work-full level ns rs st n r b q = (sym (tried-over (roomOf o₀) level s n r b (filled-over (roomOf o₀) s (sym e ∙ q))), (refl, refl, refl))
+  pub list-and-read-full : (level : Level) (ns rs st : List ℕ) (n r b : ℕ) → f ≡ Filled.Full → (Attempt.Full ≡ attemptOf (roomOf o₀) level s n r b) × AttemptLeaves level s Attempt.Full ns rs st ns rs st
+  list-and-read-full level ns rs st n r b q = (sym (tried-over (roomOf o₀) level s n r b (filled-over (roomOf o₀) s (sym e ∙ q))), (refl, refl, refl))
 
-  pub work-stopped : (level : Level) (ns rs st : List ℕ) (n r b p : ℕ) → f ≡ Filled.NoToken p
-      → (Tried.Done (Reading.NoToken p) ≡ triedOf (roomOf o₀) level s n r b) × TriedLeaves level s (Tried.Done (Reading.NoToken p)) ns rs st ns rs st
+  pub list-and-read-stopped : (level : Level) (ns rs st : List ℕ) (n r b p : ℕ) → f ≡ Filled.NoToken p
+      → (Attempt.Done (Reading.NoToken p) ≡ attemptOf (roomOf o₀) level s n r b) × AttemptLeaves level s (Attempt.Done (Reading.NoToken p)) ns rs st ns rs st
   unfolding listedOf
-  work-stopped level ns rs st n r b p q =
+  list-and-read-stopped level ns rs st n r b p q =
       let w = filled-none (roomOf o₀) s p (sym e ∙ q) in
       let z : Reading.NoToken p ≡ listedOf level s n r b = sym (ap (λ (x : Check). checkedBy x Reading.NoToken (λ u. judgedOf level s n r b)) (w .1)) in
-      (ap Tried.Done z ∙ sym (tried-fits (roomOf o₀) level s n r b (w .0)), kept level s ns rs st (Reading.NoToken p) (omega arith))
+      (ap Attempt.Done z ∙ sym (tried-fits (roomOf o₀) level s n r b (w .0)), kept level s ns rs st (Reading.NoToken p) (omega arith))
 
   module _ (n : ℕ) (q : f ≡ Filled.All n) where
     all : (length (toks s) ≤ roomOf o₀) × (n ≡ length (toks s)) × (tokensOf s .fault ≡ Check.Good)
     all = filled-all (roomOf o₀) s n (sym e ∙ q)
 
-    pub work-filled : (level : Level) (x : Reading) (k r b : ℕ) → x ≡ judgedOf level s k r b → Tried.Done x ≡ triedOf (roomOf o₀) level s k r b
+    pub list-and-read-filled : (level : Level) (x : Reading) (k r b : ℕ) → x ≡ judgedOf level s k r b → Attempt.Done x ≡ attemptOf (roomOf o₀) level s k r b
     unfolding listedOf
-    work-filled level x k r b h =
+    list-and-read-filled level x k r b h =
         let z : x ≡ listedOf level s k r b = h ∙ sym (ap (λ (y : Check). checkedBy y Reading.NoToken (λ u. judgedOf level s k r b)) (all .2)) in
-        ap Tried.Done z ∙ sym (tried-fits (roomOf o₀) level s k r b (all .0))
+        ap Attempt.Done z ∙ sym (tried-fits (roomOf o₀) level s k r b (all .0))
 
     -- the product that is the used part's length is a small number
     pub few-numbers : length s ≤ 65536 → n * tokenSize ≤ 196608
@@ -384,9 +384,9 @@ pub read-unique : {level : Level} {s ns rs st a b c x y z : List ℕ} {r q : Rea
 read-unique {level} {s} {ns} {rs} {st} v w =
     let e = v .answer ∙ sym (w .answer) in (
       e,
-      v .left .nodes ∙ ap (λ (k : Reading). leftIn k (nodesOf (rulesOf level s)) ns) e ∙ sym (w .left .nodes),
-      v .left .rules ∙ ap (λ (k : Reading). leftIn k (recordsOf (rulesOf level s)) rs) e ∙ sym (w .left .rules),
-      v .left .store ∙ ap (λ (k : Reading). leftIn k (rulesStored (rulesOf level s)) st) e ∙ sym (w .left .store),
+      v .left .nodes ∙ ap (λ (k : Reading). leftIn k (nodesOf (rulesRead level s)) ns) e ∙ sym (w .left .nodes),
+      v .left .rules ∙ ap (λ (k : Reading). leftIn k (recordsOf (rulesRead level s)) rs) e ∙ sym (w .left .rules),
+      v .left .store ∙ ap (λ (k : Reading). leftIn k (rulesStored (rulesRead level s)) st) e ∙ sym (w .left .store),
     )
 
 module _ (level : Level) (s ns rs st : List ℕ) where

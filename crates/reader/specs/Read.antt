@@ -4,7 +4,7 @@ use mathlib.Core.Path.{_≡_}
 use mathlib.Core.List.{List}
 use lib.Dec.{leb}
 use lib.ListN.{length}
-use Rattle.text.specs.Choice.{choose}
+use Rattle.text.specs.Booleans.{choose}
 use Rattle.text.specs.Splice.{fronted}
 use Rattle.text.specs.Utf8.{firstBad}
 use Rattle.text.specs.declared.Check.{Check}
@@ -19,13 +19,13 @@ use Rattle.structure.specs.declared.Fault.{Fault}
 use Rattle.structure.specs.declared.Fault.the-variants as Fault
 use Rattle.reader.specs.declared.Reading.{Reading}
 use Rattle.reader.specs.declared.Reading.the-variants as Reading
-use Rattle.reader.specs.declared.Tried.{Tried}
-use Rattle.reader.specs.declared.Tried.the-variants as Tried
+use Rattle.reader.specs.declared.Attempt.{Attempt}
+use Rattle.reader.specs.declared.Attempt.the-variants as Attempt
 use Rattle.structure.specs.declared.Refusal.{Refusal}
 use Rattle.structure.specs.declared.Refusal.the-variants as Refusal
 use Rattle.structure.specs.Values.{faults}
 use Rattle.structure.specs.Structure.{Ruled, rules, unruled, grammar}
-use Rattle.build.specs.Rules.{rulesOf}
+use Rattle.build.specs.Rules.{rulesRead}
 
 -- room is the lower of what is lent and the limit; lent records are whole ones
 abbrev pub roomForNodes : List ℕ → ℕ
@@ -74,8 +74,8 @@ unfoldable pub listedOf : Level → List ℕ → ℕ → ℕ → ℕ → Reading
 listedOf level s n r b = checkedBy (tokensOf s .fault) Reading.NoToken (λ u. judgedOf level s n r b)
 
 -- by a table of m tokens: it has to hold all before the first 3
-unfoldable pub triedOf : ℕ → Level → List ℕ → ℕ → ℕ → ℕ → Tried
-triedOf m level s n r b = choose (leb (length (tokensOf s .list)) m) (λ u. Tried.Done (listedOf level s n r b)) (λ u. Tried.Full)
+unfoldable pub attemptOf : ℕ → Level → List ℕ → ℕ → ℕ → ℕ → Attempt
+attemptOf m level s n r b = choose (leb (length (tokensOf s .list)) m) (λ u. Attempt.Done (listedOf level s n r b)) (λ u. Attempt.Full)
 
 -- 1 and 2 before those; each phase covers the whole text first
 unfoldable pub readOf : Level → List ℕ → ℕ → ℕ → ℕ → Reading
@@ -132,11 +132,11 @@ reported level s n r b = numbered (readOf level s n r b)
 
 -- the three buffers afterwards, by the answer
 pub record Leaves (level : Level) (s : List ℕ) (r : Reading) (ns rs st ns′ rs′ st′ : List ℕ) : Type 0 where
-  pub nodes : ns′ ≡ leftIn r (nodesOf (rulesOf level s)) ns
-  pub rules : rs′ ≡ leftIn r (recordsOf (rulesOf level s)) rs
-  pub store : st′ ≡ leftIn r (rulesStored (rulesOf level s)) st
+  pub nodes : ns′ ≡ leftIn r (nodesOf (rulesRead level s)) ns
+  pub rules : rs′ ≡ leftIn r (recordsOf (rulesRead level s)) rs
+  pub store : st′ ≡ leftIn r (rulesStored (rulesRead level s)) st
 
 -- a full table leaves all as it was
-abbrev pub TriedLeaves : Level → List ℕ → Tried → List ℕ → List ℕ → List ℕ → List ℕ → List ℕ → List ℕ → Type 0
-TriedLeaves level s (Tried.Done r) ns rs st ns′ rs′ st′ = Leaves level s r ns rs st ns′ rs′ st′
-TriedLeaves level s Tried.Full ns rs st ns′ rs′ st′ = (ns′ ≡ ns) × (rs′ ≡ rs) × (st′ ≡ st)
+abbrev pub AttemptLeaves : Level → List ℕ → Attempt → List ℕ → List ℕ → List ℕ → List ℕ → List ℕ → List ℕ → Type 0
+AttemptLeaves level s (Attempt.Done r) ns rs st ns′ rs′ st′ = Leaves level s r ns rs st ns′ rs′ st′
+AttemptLeaves level s Attempt.Full ns rs st ns′ rs′ st′ = (ns′ ≡ ns) × (rs′ ≡ rs) × (st′ ≡ st)

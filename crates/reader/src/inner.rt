@@ -1,3 +1,3 @@
 // What a text gets, phase by phase, and the room for its tokens.
-pub mod answers;
-pub mod sizes;
+pub mod listings;
+pub mod phases;

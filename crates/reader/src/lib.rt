@@ -11,7 +11,7 @@ ghost use lib.ListN.{length};
 ghost use Rattle.table.specs.Tree.{rulesStored};
 ghost use Rattle.table.specs.Flat.{nodesOf, recordsOf};
 ghost use Rattle.reader.specs.Read.{roomForNodes, roomForRules, readOf, numbered, reported, leftIn};
-ghost use Rattle.build.specs.Rules.{rulesOf};
+ghost use Rattle.build.specs.Rules.{rulesRead};
 
 // The nodes, rules and store bytes used, or why nothing was read, and where.
 pub enum Reading {
@@ -32,7 +32,7 @@ pub enum Reading {
 }
 
 // What a text got whose tokens were listed in a table; or there are more tokens than it holds.
-pub enum Tried {
+pub enum Attempt {
     Done(Reading),
     Full,
 }
@@ -47,9 +47,9 @@ pub fn read(
 ) -> Reading
     ensures answer { λ r. ⌜ r ≡ readOf level (now (text .entry)) (roomForNodes (now (nodes .entry))) (roomForRules (now (rules .entry))) (length (now (store .entry))) ⌝ }
     ensures report { λ r. ⌜ numbered r ≡ reported level (now (text .entry)) (roomForNodes (now (nodes .entry))) (roomForRules (now (rules .entry))) (length (now (store .entry))) ⌝ }
-    ensures nodes { λ r. ⌜ now (nodes .exit) ≡ leftIn r (nodesOf (rulesOf level (now (text .entry)))) (now (nodes .entry)) ⌝ }
-    ensures rules { λ r. ⌜ now (rules .exit) ≡ leftIn r (recordsOf (rulesOf level (now (text .entry)))) (now (rules .entry)) ⌝ }
-    ensures store { λ r. ⌜ now (store .exit) ≡ leftIn r (rulesStored (rulesOf level (now (text .entry)))) (now (store .entry)) ⌝ }
+    ensures nodes { λ r. ⌜ now (nodes .exit) ≡ leftIn r (nodesOf (rulesRead level (now (text .entry)))) (now (nodes .entry)) ⌝ }
+    ensures rules { λ r. ⌜ now (rules .exit) ≡ leftIn r (recordsOf (rulesRead level (now (text .entry)))) (now (rules .entry)) ⌝ }
+    ensures store { λ r. ⌜ now (store .exit) ≡ leftIn r (rulesStored (rulesRead level (now (text .entry)))) (now (store .entry)) ⌝ }
 {
     if 65536 < text.len() {
         return Reading::TooLong;
@@ -60,7 +60,7 @@ pub fn read(
     }
     let t = text::inner::classes::classes();
     if text.len() <= 2048 {
-        return inner::sizes::read_listed(&t, text, level, nodes, rules, store, 1536);
+        return inner::listings::read_listed(&t, text, level, nodes, rules, store, 1536);
     }
-    inner::sizes::read_listed(&t, text, level, nodes, rules, store, 12288)
+    inner::listings::read_listed(&t, text, level, nodes, rules, store, 12288)
 }

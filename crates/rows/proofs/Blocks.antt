@@ -8,7 +8,7 @@ use lib.Dec.{eqb}
 use lib.ListN.{length, take, drop, getD, replicate, length-replicate, length-take}
 use lib.Seq.{split-at, take-suc, drop-cons, drop-length}
 use borrow.Author.Tests.{eq-eqb, ne-eqb, eqb-true, le-leb, lt-leb}
-use Rattle.text.specs.Choice.{choose}
+use Rattle.text.specs.Booleans.{choose}
 use Rattle.text.specs.Splice.{Wrote, fronted}
 use Rattle.text.proofs.Splices.{wrote-front}
 use Rattle.table.specs.Record.{rootAt}

@@ -10,7 +10,7 @@ use lib.Dec.{eqb}
 use lib.ListN.{length, drop, getD, length-append}
 use lib.Seq.{drop-drop, getD-drop}
 use borrow.Author.Tests.{eq-eqb, ne-eqb}
-use Rattle.text.specs.Choice.{choose}
+use Rattle.text.specs.Booleans.{choose}
 use Rattle.text.specs.Digits.{decimal}
 use Rattle.text.specs.Splice.{Room, Wrote, spent}
 use Rattle.text.proofs.Tests.{lt-or-ge}

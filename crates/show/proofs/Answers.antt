@@ -15,7 +15,7 @@ use Rattle.structure.specs.declared.Level.the-variants.{Tagged}
 use Rattle.reader.specs.declared.Reading.{Reading}
 use Rattle.reader.specs.Read as Read
 use Rattle.reader.specs.Read.{roomForNodes, roomForRules, readOf, leftIn, Leaves}
-use Rattle.build.specs.Rules.{rulesOf}
+use Rattle.build.specs.Rules.{rulesRead}
 use Rattle.printer.specs.declared.Printed.{Printed}
 use Rattle.printer.specs.declared.Printed.the-variants as Printed
 use Rattle.forms.specs.declared.Style.{Style}
@@ -34,7 +34,7 @@ Refuses style ns s o o′ =
 
 -- the printer's answer for the rules of a text
 unfoldable printerOf : Style → List ℕ → ℕ → Printed
-printerOf style s m = Printer.printOf style (nodesOf (rulesOf Tagged s)) (recordsOf (rulesOf Tagged s)) (rulesStored (rulesOf Tagged s)) m
+printerOf style s m = Printer.printOf style (nodesOf (rulesRead Tagged s)) (recordsOf (rulesRead Tagged s)) (rulesStored (rulesRead Tagged s)) m
 
 -- the printer writes where its number is 0, and only there
 in-done : (style : Style) (ns rs st o : List ℕ) (x : Printed) → Printer.numbered x .number ≡ 0 → Printer.printIn style ns rs st o x ≡ fronted (Printer.tableText style ns rs st) o
@@ -69,9 +69,9 @@ pub record Tables (s ns rs st rd : List ℕ) : Type 0 where
   pub good : reading s .number ≡ 0
   pub few-nodes : getD rd 2 0 ≤ 2048
   pub few-rules : getD rd 3 0 ≤ 1024
-  pub nodes : (6 * getD rd 2 0 ≤ length ns) × (take (6 * getD rd 2 0) ns ≡ nodesOf (rulesOf Tagged s))
-  pub rules : (6 * getD rd 3 0 ≤ length rs) × (take (6 * getD rd 3 0) rs ≡ recordsOf (rulesOf Tagged s))
-  pub store : (getD rd 4 0 ≤ length st) × (take (getD rd 4 0) st ≡ rulesStored (rulesOf Tagged s))
+  pub nodes : (6 * getD rd 2 0 ≤ length ns) × (take (6 * getD rd 2 0) ns ≡ nodesOf (rulesRead Tagged s))
+  pub rules : (6 * getD rd 3 0 ≤ length rs) × (take (6 * getD rd 3 0) rs ≡ recordsOf (rulesRead Tagged s))
+  pub store : (getD rd 4 0 ≤ length st) × (take (getD rd 4 0) st ≡ rulesStored (rulesRead Tagged s))
 
 module _ (s ns rs st ns′ rs′ st′ rd : List ℕ) (h₁ : length ns ≡ 12288) (h₂ : length rs ≡ 6144) (h₃ : length st ≡ 65536)
     (e : rd ≡ readNumbers (Read.reported (levelOf 1) s (roomForNodes ns) (roomForRules rs) (length st))) where
@@ -100,7 +100,7 @@ module _ (s ns rs st ns′ rs′ st′ rd : List ℕ) (h₁ : length ns ≡ 1228
     pub read-tables : Tables s ns′ rs′ st′ rd
     unfolding levelOf reading
     read-tables =
-        let us = rulesOf Tagged s in
+        let us = rulesRead Tagged s in
         let a = ap (λ (xs : List ℕ). getD xs 2 0) numbers ∙ told .nodes-are in
         let b = ap (λ (xs : List ℕ). getD xs 3 0) numbers ∙ told .rules-are in
         let c = ap (λ (xs : List ℕ). getD xs 4 0) numbers ∙ told .store-is in
@@ -136,11 +136,11 @@ module _ (style : Style) (s ns rs st rd : List ℕ) (t : Tables s ns rs st rd) (
     (f : pr ≡ printNumbers (Printer.reported style (take (6 * getD rd 2 0) ns) (take (6 * getD rd 3 0) rs) (take (getD rd 4 0) st) (length o)))
     (g : o′ ≡ Printer.printIn style (take (6 * getD rd 2 0) ns) (take (6 * getD rd 3 0) rs) (take (getD rd 4 0) st) o
     (Printer.printOf style (take (6 * getD rd 2 0) ns) (take (6 * getD rd 3 0) rs) (take (getD rd 4 0) st) (length o))) where
-  figures : pr ≡ printNumbers (printing style (rulesOf Tagged s) (length o))
+  figures : pr ≡ printNumbers (printing style (rulesRead Tagged s) (length o))
   unfolding printing
   figures = f ∙ rw (t .nodes .1, t .rules .1, t .store .1)
 
-  number-printed : getD pr 0 0 ≡ printing style (rulesOf Tagged s) (length o) .number
+  number-printed : getD pr 0 0 ≡ printing style (rulesRead Tagged s) (length o) .number
   number-printed = ap (λ (xs : List ℕ). getD xs 0 0) figures
 
   -- what the printer answered has that number
@@ -148,18 +148,18 @@ module _ (style : Style) (s ns rs st rd : List ℕ) (t : Tables s ns rs st rd) (
   unfolding printing printerOf
   printer-is = ap (λ (x : Printer.Numbered). x .number) (print-reported _ _ _ _ (length o)) ∙ sym number-printed
 
-  out-is : o′ ≡ Printer.printIn style (nodesOf (rulesOf Tagged s)) (recordsOf (rulesOf Tagged s)) (rulesStored (rulesOf Tagged s)) o (printerOf style s (length o))
+  out-is : o′ ≡ Printer.printIn style (nodesOf (rulesRead Tagged s)) (recordsOf (rulesRead Tagged s)) (rulesStored (rulesRead Tagged s)) o (printerOf style s (length o))
   unfolding printerOf
   out-is = g ∙ rw (t .nodes .1, t .rules .1, t .store .1)
 
-  answer-is : answerOf style s (length o) ≡ printed (printing style (rulesOf Tagged s) (length o))
+  answer-is : answerOf style s (length o) ≡ printed (printing style (rulesRead Tagged s) (length o))
   unfolding answerOf
   answer-is = rw (eq-eqb (reading s .number) 0 (t .good))
 
   pub print-refused : (getD pr 0 0 ≡ 0 → ⊥) → Refuses style pr s o o′
   unfolding printed answerIn
   print-refused y =
-      let q = ne-eqb (printing style (rulesOf Tagged s) (length o) .number) 0 (λ k. y (number-printed ∙ k)) in (
+      let q = ne-eqb (printing style (rulesRead Tagged s) (length o) .number) 0 (λ k. y (number-printed ∙ k)) in (
         ap (λ (xs : List ℕ). Answer.Refused (getD xs 0 0) (getD xs 1 0)) figures ∙ sym (answer-is ∙ rw q),
         out-is ∙ in-refused _ _ _ _ o (printerOf style s (length o)) (λ k. y (sym printer-is ∙ k)),
       )
@@ -167,7 +167,7 @@ module _ (style : Style) (s ns rs st rd : List ℕ) (t : Tables s ns rs st rd) (
   pub print-done : getD pr 0 0 ≡ 0 → (Answer.Printed (getD pr 2 0) ≡ answerOf style s (length o)) × (o′ ≡ answerIn style s o (Answer.Printed (getD pr 2 0)))
   unfolding printed answerIn textOf
   print-done y =
-      let q = eq-eqb (printing style (rulesOf Tagged s) (length o) .number) 0 (sym number-printed ∙ y) in (
+      let q = eq-eqb (printing style (rulesRead Tagged s) (length o) .number) 0 (sym number-printed ∙ y) in (
         ap (λ (xs : List ℕ). Answer.Printed (getD xs 2 0)) figures ∙ sym (answer-is ∙ rw q),
         out-is ∙ in-done _ _ _ _ o (printerOf style s (length o)) (printer-is ∙ y),
       )

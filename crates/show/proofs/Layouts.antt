@@ -14,7 +14,7 @@ use Rattle.structure.specs.declared.Level.the-variants.{Tagged}
 use Rattle.structure.proofs.Steps.{split}
 use Rattle.reader.specs.Read as Read
 use Rattle.reader.specs.Read.{roomForNodes, roomForRules, readOf, leftIn, Leaves}
-use Rattle.build.specs.Rules.{rulesOf}
+use Rattle.build.specs.Rules.{rulesRead}
 use Rattle.replies.specs.declared.Answer.the-variants as Answer
 use Rattle.replies.specs.declared.Found.{Found}
 use Rattle.replies.specs.declared.Found.the-variants as Found
@@ -34,12 +34,12 @@ Front k o x = (k ≤ length o) × (take k o ≡ x)
 pub record Held (s ns rs st ns′ rs′ st′ rd : List ℕ) : Type 0 where
   pub few-nodes : getD rd 2 0 ≤ roomForNodes ns
   pub few-rules : getD rd 3 0 ≤ roomForRules rs
-  pub size-nodes : 6 * getD rd 2 0 ≡ length (nodesOf (rulesOf Tagged s))
-  pub size-rules : 6 * getD rd 3 0 ≡ length (recordsOf (rulesOf Tagged s))
-  pub size-store : getD rd 4 0 ≡ length (rulesStored (rulesOf Tagged s))
-  pub nodes : Front (6 * getD rd 2 0) ns′ (nodesOf (rulesOf Tagged s))
-  pub rules : Front (6 * getD rd 3 0) rs′ (recordsOf (rulesOf Tagged s))
-  pub store : Front (getD rd 4 0) st′ (rulesStored (rulesOf Tagged s))
+  pub size-nodes : 6 * getD rd 2 0 ≡ length (nodesOf (rulesRead Tagged s))
+  pub size-rules : 6 * getD rd 3 0 ≡ length (recordsOf (rulesRead Tagged s))
+  pub size-store : getD rd 4 0 ≡ length (rulesStored (rulesRead Tagged s))
+  pub nodes : Front (6 * getD rd 2 0) ns′ (nodesOf (rulesRead Tagged s))
+  pub rules : Front (6 * getD rd 3 0) rs′ (recordsOf (rulesRead Tagged s))
+  pub store : Front (getD rd 4 0) st′ (rulesStored (rulesRead Tagged s))
 
 module _ (s ns rs st ns′ rs′ st′ rd : List ℕ)
     (e : rd ≡ readNumbers (Read.reported (levelOf 1) s (roomForNodes ns) (roomForRules rs) (length st))) where
@@ -72,7 +72,7 @@ module _ (s ns rs st ns′ rs′ st′ rd : List ℕ)
 
       pub layout-held : Held s ns rs st ns′ rs′ st′ rd
       layout-held =
-          let us = rulesOf Tagged s in
+          let us = rulesRead Tagged s in
           let a = ap (λ (xs : List ℕ). getD xs 2 0) numbers ∙ told .nodes-are in
           let b = ap (λ (xs : List ℕ). getD xs 3 0) numbers ∙ told .rules-are in
           let c = ap (λ (xs : List ℕ). getD xs 4 0) numbers ∙ told .store-is in
@@ -92,10 +92,10 @@ module _ (s ns rs st ns′ rs′ st′ rd : List ℕ)
           }
 
       module _ (name : List ℕ) {x : Found} (f : x ≡ foundOf (take (6 * getD rd 2 0) ns′) (take (6 * getD rd 3 0) rs′) (take (getD rd 4 0) st′) name) where
-        found-is : {y : Found} → x ≡ y → layoutOf s name (roomForNodes ns) (roomForRules rs) (length st) ≡ layoutBy (rulesOf Tagged s) y
+        found-is : {y : Found} → x ≡ y → layoutOf s name (roomForNodes ns) (roomForRules rs) (length st) ≡ layoutBy (rulesRead Tagged s) y
         unfolding layoutOf
         found-is q =
-            let g : foundOf (nodesOf (rulesOf Tagged s)) (recordsOf (rulesOf Tagged s)) (rulesStored (rulesOf Tagged s)) name ≡ x =
+            let g : foundOf (nodesOf (rulesRead Tagged s)) (recordsOf (rulesRead Tagged s)) (rulesStored (rulesRead Tagged s)) name ≡ x =
             sym (f ∙ rw (layout-held .nodes .1, layout-held .rules .1, layout-held .store .1)) in
             rw (eq-eqb (Read.reported Tagged s (roomForNodes ns) (roomForRules rs) (length st) .number) 0 (sym number-is ∙ z), g, q)
 
@@ -130,7 +130,7 @@ module _ {a b c k : ℕ} where
       split (eqb (Read.reported Tagged s (roomForNodes ns) (roomForRules rs) (length st) .number) 0) _ _
       (λ h w.
       let t = counted Tagged s (roomForNodes ns) (roomForRules rs) (length st) (eqb-true _ 0 h) in
-      let us = rulesOf Tagged s in
+      let us = rulesRead Tagged s in
       let z = sizes-by us _ w in
       let n = t .nodes-fit in
       let r = t .rules-fit in

@@ -6,7 +6,7 @@ use native.Mathlib.Omega.{arith}
 use lib.Dec.{leb}
 use lib.ListN.{length}
 use borrow.Author.Tests.{leb-true}
-use Rattle.text.specs.Choice.{choose}
+use Rattle.text.specs.Booleans.{choose}
 use Rattle.text.specs.Utf8.{firstBad}
 use Rattle.text.specs.declared.Check.{Check}
 use Rattle.text.specs.declared.Check.the-variants as Check
@@ -23,7 +23,7 @@ use Rattle.structure.proofs.Steps.{split}
 use Rattle.reader.specs.declared.Reading.{Reading}
 use Rattle.reader.specs.declared.Reading.the-variants as Reading
 use Rattle.reader.specs.Read.{roomBy, faulty, checkedBy, unreadable, ruledBy, judgedOf, listedOf, readOf, numbered, reported}
-use Rattle.build.specs.Rules.{ruledOf, rulesOf}
+use Rattle.build.specs.Rules.{ruledOf, rulesRead}
 
 -- the number 0 is a reading's
 zero-read : (x : Reading) → numbered x .number ≡ 0 → (a : ℕ) × (b : ℕ) × (c : ℕ) × (x ≡ Reading.Read a b c)
@@ -77,24 +77,24 @@ module _ {x y w : ℕ} where
   tokens-read Check.Good g e = e
 
   read-is : (level : Level) (s : List ℕ) (n r b : ℕ) → readOf level s n r b ≡ Reading.Read x y w
-      → ((x ≡ counts (rulesOf level s)) × (counts (rulesOf level s) ≤ n)) × ((y ≡ length (rulesOf level s)) × (length (rulesOf level s) ≤ r))
-      × ((w ≡ length (rulesStored (rulesOf level s))) × (length (rulesStored (rulesOf level s)) ≤ b))
+      → ((x ≡ counts (rulesRead level s)) × (counts (rulesRead level s) ≤ n)) × ((y ≡ length (rulesRead level s)) × (length (rulesRead level s) ≤ r))
+      × ((w ≡ length (rulesStored (rulesRead level s))) × (length (rulesStored (rulesRead level s)) ≤ b))
   unfolding readOf listedOf judgedOf
   read-is level s n r b =
       split (leb (length s) 65536) _ _
-      (λ h q. room-read (length (rulesOf level s)) (counts (rulesOf level s)) (length (rulesStored (rulesOf level s))) n r b
+      (λ h q. room-read (length (rulesRead level s)) (counts (rulesRead level s)) (length (rulesStored (rulesRead level s))) n r b
       (faulty-read (faults level s) _ (ruled-read (grammar level s) _ (tokens-read (tokensOf s .fault) _ (utf8-read (firstBad s) _ q)))))
       (λ h q. let z : _≡_ {A = ℕ} 0 1 = cc in absurd (omega arith))
 
 -- what a reading with the number 0 reports
 pub record Counted (level : Level) (s : List ℕ) (n r b : ℕ) : Type 0 where
-  pub read : readOf level s n r b ≡ Reading.Read (counts (rulesOf level s)) (length (rulesOf level s)) (length (rulesStored (rulesOf level s)))
-  pub nodes-are : reported level s n r b .nodes ≡ counts (rulesOf level s)
-  pub rules-are : reported level s n r b .rules ≡ length (rulesOf level s)
-  pub store-is : reported level s n r b .store ≡ length (rulesStored (rulesOf level s))
-  pub nodes-fit : counts (rulesOf level s) ≤ n
-  pub rules-fit : length (rulesOf level s) ≤ r
-  pub store-fits : length (rulesStored (rulesOf level s)) ≤ b
+  pub read : readOf level s n r b ≡ Reading.Read (counts (rulesRead level s)) (length (rulesRead level s)) (length (rulesStored (rulesRead level s)))
+  pub nodes-are : reported level s n r b .nodes ≡ counts (rulesRead level s)
+  pub rules-are : reported level s n r b .rules ≡ length (rulesRead level s)
+  pub store-is : reported level s n r b .store ≡ length (rulesStored (rulesRead level s))
+  pub nodes-fit : counts (rulesRead level s) ≤ n
+  pub rules-fit : length (rulesRead level s) ≤ r
+  pub store-fits : length (rulesStored (rulesRead level s)) ≤ b
 
 pub counted : (level : Level) (s : List ℕ) (n r b : ℕ) → reported level s n r b .number ≡ 0 → Counted level s n r b
 unfolding reported numbered

@@ -7,7 +7,7 @@ use native.Mathlib.Omega.{arith}
 use lib.Dec.{leb, eqb}
 use lib.ListN.{length}
 use borrow.Author.Tests.{leb-true}
-use Rattle.text.specs.Choice.{choose}
+use Rattle.text.specs.Booleans.{choose}
 use Rattle.text.specs.declared.Put.{Put}
 use Rattle.text.specs.declared.Put.the-variants as Put
 use Rattle.table.specs.Tree.{Span, Rule, rulesStored}
@@ -16,7 +16,7 @@ use Rattle.table.specs.declared.TableCheck.the-variants as Table
 use Rattle.table.specs.Flat.{nodesOf, recordsOf}
 use Rattle.table.specs.Check.{tables}
 use Rattle.structure.specs.declared.Level.the-variants.{Tagged}
-use Rattle.build.specs.Rules.{rulesOf}
+use Rattle.build.specs.Rules.{rulesRead}
 use Rattle.forms.specs.declared.Style.{Style}
 use Rattle.printer.specs.Answers as Printer
 use Rattle.show.specs.declared.Answer.{Answer}
@@ -86,7 +86,7 @@ by-either false x y m h g = g
 pub desk-fits : (style : Style) (s : List ℕ) (m : ℕ) → Fits (deskOf style s m) m
 unfolding deskOf answerOf printed shownBy
 desk-fits style s m =
-    let us = rulesOf Tagged s in
+    let us = rulesRead Tagged s in
     by-either (eqb (reading s .number) 0) _ _ m
     (by-either (eqb (printing style us m .number) 0) _ _ m (used-fits style us m) (refusal-fits _ _ m)) (refusal-fits _ _ m)
 

@@ -3,7 +3,7 @@ use Prim.Native.Nat.{ℕ}
 use mathlib.Core.List.{List}
 use lib.Dec.{eqb}
 use lib.ListN.{length}
-use Rattle.text.specs.Choice.{choose}
+use Rattle.text.specs.Booleans.{choose}
 use Rattle.text.specs.Splice.{fronted}
 use Rattle.table.specs.Tree.{Span, Rule, rulesStored}
 use Rattle.table.specs.Flat.{nodesOf, recordsOf}
@@ -38,11 +38,11 @@ printed p = choose (eqb (p .number) 0) (λ u. Answer.Printed (p .used)) (λ u. A
 -- the refusal of the reading; else what the printing of its rules gives
 unfoldable pub answerOf : Style → List ℕ → ℕ → Answer
 answerOf style s m =
-    choose (eqb (reading s .number) 0) (λ u. printed (printing style (Built.rulesOf Tagged s) m)) (λ u. Answer.Refused (reading s .number) (reading s .place))
+    choose (eqb (reading s .number) 0) (λ u. printed (printing style (Built.rulesRead Tagged s) m)) (λ u. Answer.Refused (reading s .number) (reading s .place))
 
 -- what the printing leaves in the output: a refused text leaves it alone
 unfoldable pub answerIn : Style → List ℕ → List ℕ → Answer → List ℕ
-answerIn style s o (Answer.Printed n) = fronted (textOf style (Built.rulesOf Tagged s)) o
+answerIn style s o (Answer.Printed n) = fronted (textOf style (Built.rulesRead Tagged s)) o
 answerIn style s o (Answer.Refused n p) = o
 
 -- what is answered for an output of m bytes: the text's bytes, or those of the refusal's line
@@ -55,7 +55,7 @@ deskOf style s m = shownBy (answerOf style s m) m
 
 -- what it leaves in the output: the text, or the refusal's line, at its front
 unfoldable pub leftBy : Style → List ℕ → List ℕ → Answer → List ℕ
-leftBy style s o (Answer.Printed n) = fronted (textOf style (Built.rulesOf Tagged s)) o
+leftBy style s o (Answer.Printed n) = fronted (textOf style (Built.rulesRead Tagged s)) o
 leftBy style s o (Answer.Refused n p) = refusalIn n p o (refusalPut n p (length o))
 
 unfoldable pub deskIn : Style → List ℕ → List ℕ → List ℕ

@@ -3,7 +3,7 @@ use Prim.Native.Nat.{ℕ}
 use mathlib.Core.List.{List}
 use lib.Dec.{eqb}
 use lib.ListN.{length}
-use Rattle.text.specs.Choice.{choose}
+use Rattle.text.specs.Booleans.{choose}
 use Rattle.table.specs.Tree.{Span, Rule, rulesStored}
 use Rattle.table.specs.Flat.{nodesOf, recordsOf}
 use Rattle.structure.specs.declared.Level.the-variants.{Tagged}
@@ -31,6 +31,6 @@ layoutBy us Found.NoRule = NoRule
 unfoldable pub layoutOf : List ℕ → List ℕ → ℕ → ℕ → ℕ → Layout
 layoutOf s name n r b =
     choose (eqb (Read.reported Tagged s n r b .number) 0)
-    (λ u. layoutBy (Built.rulesOf Tagged s)
-    (foundOf (nodesOf (Built.rulesOf Tagged s)) (recordsOf (Built.rulesOf Tagged s)) (rulesStored (Built.rulesOf Tagged s)) name))
+    (λ u. layoutBy (Built.rulesRead Tagged s)
+    (foundOf (nodesOf (Built.rulesRead Tagged s)) (recordsOf (Built.rulesRead Tagged s)) (rulesStored (Built.rulesRead Tagged s)) name))
     (λ u. Refused (Read.reported Tagged s n r b .number) (Read.reported Tagged s n r b .place))

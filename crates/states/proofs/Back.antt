@@ -5,7 +5,7 @@ use mathlib.Core.Bool.{Bool, true, false}
 use lib.Dec.{leb, eqb}
 use lib.ListN.{getD}
 use borrow.Author.Tests.{eqb-true}
-use Rattle.text.specs.Choice.{or}
+use Rattle.text.specs.Booleans.{or}
 use Rattle.states.specs.declared.Lit.{Lit}
 use Rattle.states.specs.declared.Lit.the-variants.{Text, One}
 use Rattle.states.specs.declared.Tail.{Tail}

@@ -4,7 +4,7 @@ use mathlib.Core.Path.{refl}
 use mathlib.Core.List.{List, [], _∷_}
 use lib.Dec.{ltb, eqb}
 use lib.ListN.{drop}
-use Rattle.text.specs.Choice.{or, all}
+use Rattle.text.specs.Booleans.{or, all}
 use Rattle.text.proofs.Tests.{choose-by}
 use Rattle.token.specs.Tokens.{pushLiteral}
 use Rattle.states.specs.declared.Lit.{Lit}

@@ -7,7 +7,7 @@ use native.Mathlib.Omega.{arith}
 use lib.Dec.{ltb, eqb}
 use lib.ListN.{drop}
 use borrow.Author.Tests.{eqb-true, eqb-false, ltb-true, ltb-false}
-use Rattle.text.specs.Choice.{choose, within}
+use Rattle.text.specs.Booleans.{choose, within}
 use Rattle.text.specs.Classes.{classOf}
 use Rattle.text.specs.Utf8.{charOf}
 use Rattle.text.specs.declared.Sequence.{Sequence}

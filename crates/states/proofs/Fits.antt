@@ -8,7 +8,7 @@ use native.Mathlib.Omega.{arith}
 use lib.Dec.{leb, ltb, eqb}
 use lib.ListN.{length, getD}
 use borrow.Author.Tests.{ltb-true, leb-true, leb-false, eqb-true, lt-ltb, le-leb, eq-eqb}
-use Rattle.text.specs.Choice.{choose, and, or}
+use Rattle.text.specs.Booleans.{choose, and, or}
 use Rattle.text.specs.Classes.{classOf}
 use Rattle.text.specs.Words.{startsWord, inWord}
 use Rattle.text.proofs.Tests.{choose-by, within-is, within-yes}

@@ -8,7 +8,7 @@ use native.Mathlib.Omega.{arith}
 use lib.Dec.{leb, ltb, eqb}
 use lib.ListN.{length}
 use borrow.Author.Tests.{ltb-true, ltb-false, leb-true, lt-ltb, le-leb, ne-eqb}
-use Rattle.text.specs.Choice.{choose, among}
+use Rattle.text.specs.Booleans.{choose, among}
 use Rattle.text.specs.declared.Check.the-variants.{Good, Bad}
 use Rattle.text.proofs.Tests.{choose-by}
 use Rattle.token.specs.Lists.{Tok}

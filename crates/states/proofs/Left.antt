@@ -4,12 +4,12 @@ use mathlib.Core.Bool.{Bool, true}
 use mathlib.Core.List.{List, [], _∷_}
 use lib.Dec.{leb, ltb, eqb}
 use lib.ListN.{drop}
-use Rattle.text.specs.Choice.{choose, and, or, within, nextIs}
+use Rattle.text.specs.Booleans.{choose, and, or, within, nextIs}
 use Rattle.text.specs.Words.{begins, push}
 use Rattle.literal.specs.Escapes.{digitsOf, afterOf}
 use Rattle.literal.specs.declared.Escape.{Escape}
 use Rattle.literal.specs.declared.Escape.the-variants.{Means, Plain}
-use Rattle.token.specs.Blanks.{first, words, digits, zeros, line, closeOf}
+use Rattle.token.specs.Blanks.{first, words, digitRun, zeros, line, closeOf}
 use Rattle.token.specs.Tokens.{pushLiteral, stringOf}
 use Rattle.token.specs.Lists.{tok, Tokens, onto}
 use Rattle.token.specs.declared.Close.{Close}
@@ -33,7 +33,7 @@ abbrev pub pushed : ℕ → List ℕ → Token
 pushed n rest = choose (pushOk n rest) (λ u. Found 18 0 (n + words rest)) (λ u. NoToken 0)
 
 abbrev pub negated : ℕ → List ℕ → Token
-negated n rest = choose (ltb (zeros rest) (digits rest)) (λ u. Found 21 0 (n + digits rest)) (λ u. NoToken 0)
+negated n rest = choose (ltb (zeros rest) (digitRun rest)) (λ u. Found 21 0 (n + digitRun rest)) (λ u. NoToken 0)
 
 abbrev pub strL : ℕ → ℕ → ℕ → List ℕ → Tokens
 strL k a n rest = ended a n rest (stringOf k n rest)
@@ -96,14 +96,14 @@ abbrev pub leftBy : State → ℕ → ℕ → List ℕ → Tokens
 leftBy Start a n rest = from a rest
 leftBy Word a n rest = ended a n rest (Found 18 0 (n + words rest))
 leftBy Push a n rest = ended a n rest (pushed n rest)
-leftBy Num a n rest = ended a n rest (Found 20 0 (n + digits rest))
+leftBy Num a n rest = ended a n rest (Found 20 0 (n + digitRun rest))
 leftBy Hash a n rest = from a (35 ∷ rest)
 leftBy Tag a n rest = ended a n rest (Found 19 0 (n + words rest))
 leftBy Dot a n rest = from a (46 ∷ rest)
 leftBy Caret a n rest = from a (94 ∷ rest)
 leftBy Minus a n rest = from a (45 ∷ rest)
 leftBy Zeros a n rest = ended a n rest (negated n rest)
-leftBy Negative a n rest = ended a n rest (Found 21 0 (n + digits rest))
+leftBy Negative a n rest = ended a n rest (Found 21 0 (n + digitRun rest))
 leftBy (Str k) a n rest = strL k a n rest
 leftBy (Esc k b) a n rest = escBy k b a n rest (afterOf rest)
 leftBy (X0 k b) a n rest = x0L k b a n rest

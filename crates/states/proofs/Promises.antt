@@ -8,7 +8,7 @@ use native.Mathlib.Omega.{arith}
 use lib.Dec.{eqb}
 use lib.ListN.{length}
 use borrow.Author.Tests.{eqb-true}
-use Rattle.text.specs.Choice.{or, among}
+use Rattle.text.specs.Booleans.{or, among}
 use Rattle.text.specs.Utf8.{firstBad}
 use Rattle.text.specs.declared.Check.the-variants.{Good, Bad}
 use Rattle.token.specs.Lists.{Tok, tok, tokensOf}

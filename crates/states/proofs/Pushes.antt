@@ -9,7 +9,7 @@ use lib.Dec.{ltb, eqb}
 use lib.ListN.{length, drop, getD, drop-of-length-le}
 use lib.Seq.{drop-cons}
 use borrow.Author.Tests.{eqb-true, eqb-false, ne-eqb, eq-eqb, ltb-true, ltb-false, lt-ltb, not-true}
-use Rattle.text.specs.Choice.{and, or, all}
+use Rattle.text.specs.Booleans.{and, or, all}
 use Rattle.text.specs.Classes.{classOf}
 use Rattle.text.specs.Words.{inWord, begins, push}
 use Rattle.text.proofs.Tests.{choose-by, lt-or-ge}

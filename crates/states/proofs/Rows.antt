@@ -7,7 +7,7 @@ use native.Mathlib.Nat.{zero-add, add-zero}
 use native.Mathlib.Omega.{arith}
 use lib.Dec.{leb, eqb}
 use borrow.Author.Tests.{eqb-true}
-use Rattle.text.specs.Choice.{choose, nextIs}
+use Rattle.text.specs.Booleans.{choose, nextIs}
 use Rattle.text.specs.Classes.{classOf}
 use Rattle.text.specs.declared.Look.the-variants.{Past}
 use Rattle.text.proofs.Tests.{choose-by}

@@ -5,7 +5,7 @@ use mathlib.Core.Bool.{Bool, true, false}
 use native.Mathlib.Omega.{arith}
 use lib.Dec.{eqb, ltb, leb}
 use borrow.Author.Tests.{eqb-true, leb-true, ltb-true}
-use Rattle.text.specs.Choice.{or}
+use Rattle.text.specs.Booleans.{or}
 use Rattle.states.specs.declared.Lit.{Lit}
 use Rattle.states.specs.declared.Tail.{Tail}
 use Rattle.states.specs.declared.Tail.the-variants.{T1, T2, T3, TE0, TED, TF0, TF4}

@@ -9,7 +9,7 @@ use lib.Dec.{leb, ltb, eqb}
 use lib.ListN.{drop}
 use lib.Seq.{drop-drop}
 use borrow.Author.Tests.{eqb-true, ltb-true, lt-ltb, le-leb}
-use Rattle.text.specs.Choice.{choose, and, nextIs}
+use Rattle.text.specs.Booleans.{choose, and, nextIs}
 use Rattle.text.specs.Classes.{classOf}
 use Rattle.text.specs.Scans.{later, sought}
 use Rattle.text.specs.Digits.{hexOf}

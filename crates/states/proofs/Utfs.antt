@@ -8,7 +8,7 @@ use native.Mathlib.Omega.{arith}
 use lib.Dec.{ltb, eqb}
 use lib.ListN.{length, drop}
 use borrow.Author.Tests.{eqb-true, eqb-false, ltb-true, ltb-false}
-use Rattle.text.specs.Choice.{choose, within}
+use Rattle.text.specs.Booleans.{choose, within}
 use Rattle.text.specs.Scans.{later, soughtBy, sought}
 use Rattle.text.specs.Utf8.{lookBy, seqLook, firstBad}
 use Rattle.text.specs.declared.Check.{Check}

@@ -7,11 +7,11 @@ use native.Mathlib.Nat.{add-zero}
 use native.Mathlib.Omega.{arith}
 use lib.Dec.{ltb, eqb}
 use borrow.Author.Tests.{eqb-true, ltb-true, ltb-false, lt-ltb, le-ltb}
-use Rattle.text.specs.Choice.{choose}
+use Rattle.text.specs.Booleans.{choose}
 use Rattle.text.specs.Classes.{classOf}
 use Rattle.text.specs.Words.{startsWord, inWord, begins}
 use Rattle.text.proofs.Tests.{choose-by}
-use Rattle.token.specs.Blanks.{run, first, inDigits, isZero, words, digits, zeros, openerBlank, blankBy}
+use Rattle.token.specs.Blanks.{run, first, inDigits, isZero, words, digitRun, zeros, openerBlank, blankBy}
 use Rattle.token.specs.Tokens.{allowed, wordToken, tagToken, numberToken, minusToken, dotsToken, stringOf, insensToken, openerToken, oneKind, tokenBy}
 use Rattle.token.specs.Lists.{tok, onto}
 use Rattle.token.specs.declared.Token.the-variants.{Found, NoToken}
@@ -43,9 +43,9 @@ push-open : (a : ℕ) (rest : List ℕ) → from a (80 ∷ rest) ≡ ended a 1 r
 unfolding blankBy tokenBy classOf
 push-open a rest = from-first a 80 rest (pushed 1 rest) refl (push-letters rest) ∙ ended-next a 0 80 rest (pushed 1 rest) (push-beyond 0 1 (words rest) (pushOk 1 rest) (omega arith))
 
-num-open : (a x : ℕ) (rest : List ℕ) → classOf x ≡ 3 → from a (x ∷ rest) ≡ ended a 1 rest (Found 20 0 (1 + digits rest))
+num-open : (a x : ℕ) (rest : List ℕ) → classOf x ≡ 3 → from a (x ∷ rest) ≡ ended a 1 rest (Found 20 0 (1 + digitRun rest))
 unfolding blankBy tokenBy numberToken
-num-open a x rest q = from-first a x rest (Found 20 0 (digits (x ∷ rest))) (rw q) (rw q) ∙ run-open (first inDigits) 20 a x rest (rw q)
+num-open a x rest q = from-first a x rest (Found 20 0 (digitRun (x ∷ rest))) (rw q) (rw q) ∙ run-open (first inDigits) 20 a x rest (rw q)
 
 one-open : (a x : ℕ) (rest : List ℕ) → classOf x ≡ 4 → from a (x ∷ rest) ≡ after (give (oneKind x) a (suc a)) rest
 unfolding blankBy tokenBy
@@ -173,8 +173,8 @@ neg-beyond m n w false h = tt
 pub minus-open : (a : ℕ) (rest : List ℕ) → from a (45 ∷ rest) ≡ ended a 1 rest (negated 1 rest)
 unfolding blankBy tokenBy classOf openerBlank openerToken minusToken
 minus-open a rest =
-    from-first a 45 rest (negated 1 rest) refl (neg-by 1 (digits rest) (digits rest) (ltb (zeros rest) (digits rest)) (omega arith))
-    ∙ ended-next a 0 45 rest (negated 1 rest) (neg-beyond 0 1 (digits rest) (ltb (zeros rest) (digits rest)) (omega arith))
+    from-first a 45 rest (negated 1 rest) refl (neg-by 1 (digitRun rest) (digitRun rest) (ltb (zeros rest) (digitRun rest)) (omega arith))
+    ∙ ended-next a 0 45 rest (negated 1 rest) (neg-beyond 0 1 (digitRun rest) (ltb (zeros rest) (digitRun rest)) (omega arith))
 
 ltb-suc : (z d : ℕ) (p : Bool) → ltb z d ≡ p → ltb (suc z) (suc d) ≡ p
 ltb-suc z d true e = let h : z < d = ltb-true z d e in lt-ltb (suc z) (suc d) (omega arith)
@@ -182,15 +182,15 @@ ltb-suc z d false e = let h : d ≤ z = ltb-false z d e in le-ltb (suc z) (suc d
 
 zero-yes : (a n x : ℕ) (rest : List ℕ) → isZero x ≡ true → inDigits x ≡ true → ended a n (x ∷ rest) (negated n (x ∷ rest)) ≡ ended a (suc n) rest (negated (suc n) rest)
 zero-yes a n x rest e f =
-    let z : n + suc (digits rest) ≡ suc n + digits rest = omega arith in
-    rw (run-go (first isZero) x rest e, run-go (first inDigits) x rest f, ltb-suc (zeros rest) (digits rest) (ltb (zeros rest) (digits rest)) refl, z)
-    (ended-next a n x rest (negated (suc n) rest) (neg-beyond n (suc n) (digits rest) (ltb (zeros rest) (digits rest)) (omega arith)))
+    let z : n + suc (digitRun rest) ≡ suc n + digitRun rest = omega arith in
+    rw (run-go (first isZero) x rest e, run-go (first inDigits) x rest f, ltb-suc (zeros rest) (digitRun rest) (ltb (zeros rest) (digitRun rest)) refl, z)
+    (ended-next a n x rest (negated (suc n) rest) (neg-beyond n (suc n) (digitRun rest) (ltb (zeros rest) (digitRun rest)) (omega arith)))
 
 neg-yes : (a n x : ℕ) (rest : List ℕ) → isZero x ≡ false → inDigits x ≡ true → ended a n (x ∷ rest) (negated n (x ∷ rest)) ≡ leftBy Negative a (suc n) rest
 neg-yes a n x rest e f =
-    let z : n + suc (digits rest) ≡ suc n + digits rest = omega arith in
-    rw (run-none (first isZero) x rest e, run-go (first inDigits) x rest f, lt-ltb 0 (suc (digits rest)) (omega arith), z)
-    (ended-next a n x rest (Found 21 0 (suc n + digits rest)) (omega arith))
+    let z : n + suc (digitRun rest) ≡ suc n + digitRun rest = omega arith in
+    rw (run-none (first isZero) x rest e, run-go (first inDigits) x rest f, lt-ltb 0 (suc (digitRun rest)) (omega arith), z)
+    (ended-next a n x rest (Found 21 0 (suc n + digitRun rest)) (omega arith))
 
 neg-no : (a n x : ℕ) (rest : List ℕ) → isZero x ≡ false → inDigits x ≡ false → ended a n (x ∷ rest) (negated n (x ∷ rest)) ≡ faultAt a
 neg-no a n x rest e f = rw (run-none (first isZero) x rest e, run-none (first inDigits) x rest f) (none a n (x ∷ rest))

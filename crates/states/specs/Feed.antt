@@ -5,7 +5,7 @@ use mathlib.Core.List.{List, [], _∷_}
 use lib.Dec.{leb, eqb}
 use lib.ListN.{length}
 use lib.Seq.{sets}
-use Rattle.text.specs.Choice.{choose, and, among}
+use Rattle.text.specs.Booleans.{choose, and, among}
 use Rattle.token.specs.Table.{tokenSize, flat, roomOf}
 use Rattle.states.specs.declared.State.{State}
 use Rattle.states.specs.declared.Stand.{Stand}

@@ -5,7 +5,7 @@ use mathlib.Core.Bool.{true}
 use mathlib.Core.List.{List, _++_}
 use lib.Dec.{ltb}
 use lib.ListN.{length}
-use Rattle.text.specs.Choice.{all}
+use Rattle.text.specs.Booleans.{all}
 use Rattle.text.specs.Utf8.{firstBad}
 use Rattle.text.specs.declared.Check.the-variants.{Good}
 use Rattle.token.specs.Lists.{tokensOf}

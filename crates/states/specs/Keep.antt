@@ -4,7 +4,7 @@ use mathlib.Core.Bool.{Bool, true, false}
 use mathlib.Core.List.{List, [], _∷_}
 use lib.Dec.{leb, ltb, eqb}
 use lib.ListN.{getD}
-use Rattle.text.specs.Choice.{choose, and, or, within, among}
+use Rattle.text.specs.Booleans.{choose, and, or, within, among}
 use Rattle.states.specs.declared.Lit.{Lit}
 use Rattle.states.specs.declared.Lit.the-variants.{Text, One}
 use Rattle.states.specs.declared.Tail.{Tail}

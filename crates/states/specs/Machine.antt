@@ -4,7 +4,7 @@ use mathlib.Core.Bool.{Bool, true, false, not}
 use mathlib.Core.List.{List, [], _∷_, _++_}
 use lib.Dec.{leb, ltb, eqb}
 use lib.ListN.{getD, drop}
-use Rattle.text.specs.Choice.{choose, and, or, within}
+use Rattle.text.specs.Booleans.{choose, and, or, within}
 use Rattle.text.specs.Classes.{classOf}
 use Rattle.text.specs.Words.{startsWord, inWord}
 use Rattle.text.specs.Digits.{hexOf}

@@ -4,7 +4,7 @@ use mathlib.Core.Path.{_≡_, refl, sym, ap, _∙_}
 use mathlib.Core.Bool.{Bool, true, false}
 use native.Mathlib.Numerals.{add-one}
 use lib.Dec.{ltb, eqb}
-use Rattle.text.specs.Choice.{choose}
+use Rattle.text.specs.Booleans.{choose}
 use Rattle.text.specs.Classes.{classOf}
 use Rattle.states.specs.declared.State.the-variants.{Quote, More}
 use Rattle.states.specs.declared.Utf.{Utf}

@@ -33,7 +33,7 @@ use Rattle.states.specs.Utf.{utfStep, utfEnd, utfFeed, brokenAt}
 use Rattle.states.specs.Keep.{codeOf, utfCode, tailCode, waiting}
 use Rattle.states.specs.Steps.{Step, Goes, Faults, overAt, stepOf, given, followed, ranOf}
 use Rattle.steps.specs.Shapes.{listOf}
-use Rattle.stream.specs.Shapes.{givesOf, Sound}
+use Rattle.stream.specs.Shapes.{givesOf, Coherent}
 use Rattle.stream.specs.Quick.{startAt, isBetween, Holds, Leapt}
 use Rattle.states.proofs.From.{from, ended, from-law}
 use Rattle.states.proofs.Left.{left}
@@ -85,7 +85,7 @@ utf-start Whole e = refl
 utf-start (Mid t s) e = let z : tailCode t + 1 ≡ 0 = eqb-true (tailCode t + 1) 0 e in absurd (omega arith)
 utf-start (Broke p) e = never e
 
-pub between-is : (c : Stand) → Sound c → isBetween c ≡ true → c ≡ startAt (c .seen) (c .count)
+pub between-is : (c : Stand) → Coherent c → isBetween c ≡ true → c ≡ startAt (c .seen) (c .count)
 unfolding isBetween
 between-is c s e =
     let h = both (eqb (codeOf (c .conf .state)) 0) (eqb (utfCode (c .utf)) 0) e in
@@ -160,7 +160,7 @@ module _ (xs : List ℕ) (at k s e : ℕ) (h : Holds xs at k s e) where
       l .2 f ∙ ap (λ (ys : List ℕ). given (tok k (p + (s - at)) (p + (e - at)) ∷ []) (ranOf room (startAt (p + (e - at)) (suc n)) ys)) (ap (λ (j : ℕ). drop j (drop at xs)) m ∙ shorter)
   leap-by room p n (inr l) = never (l .0)
 
-  pub leap-one : (room p n : ℕ) → Sound (startAt p n) → p + (length xs - at) ≤ 65536 → n < room → brokenAt (utfFeed Whole p (drop at xs)) ≡ Good
+  pub leap-one : (room p n : ℕ) → Coherent (startAt p n) → p + (length xs - at) ≤ 65536 → n < room → brokenAt (utfFeed Whole p (drop at xs)) ≡ Good
       → ranOf room (startAt p n) (drop at xs) ≡ given (tok k (p + (s - at)) (p + (e - at)) ∷ []) (ranOf room (startAt (p + (e - at)) (suc n)) (drop e xs))
   leap-one room p n sound short space clean =
       let i = inside in
@@ -173,7 +173,7 @@ module _ (xs : List ℕ) (at k s e : ℕ) (h : Holds xs at k s e) where
 
 -- ---- on the way
 
-pub leapt-none : (room : ℕ) (c : Stand) (i n : ℕ) (xs l : List ℕ) → Sound c → i ≤ length xs → n ≤ roomOf l → Leapt room c i n xs l l c i
+pub leapt-none : (room : ℕ) (c : Stand) (i n : ℕ) (xs l : List ℕ) → Coherent c → i ≤ length xs → n ≤ roomOf l → Leapt room c i n xs l l c i
 leapt-none room c i n xs l s h g =
     record {
       tokens = [];
@@ -187,7 +187,7 @@ leapt-none room c i n xs l s h g =
     }
 
 pub leapt-more : (room : ℕ) (c : Stand) (i n : ℕ) (xs l m : List ℕ) (d : Stand) (j : ℕ) (h : Leapt room c i n xs l m d j) (us : List Tok) (f : Stand) (a : ℕ) (o : List ℕ) → ranOf room d (drop j xs) ≡ given us (ranOf room f (drop a xs))
-    → o ≡ sets m ((n + length (h .tokens)) * 3) (flat us) → f .count ≡ d .count + length us → (0 < length us → f .count ≤ room) → n + length (h .tokens) + length us ≤ roomOf l → a ≤ length xs → Sound f → Leapt room c i n xs l o f a
+    → o ≡ sets m ((n + length (h .tokens)) * 3) (flat us) → f .count ≡ d .count + length us → (0 < length us → f .count ≤ room) → n + length (h .tokens) + length us ≤ roomOf l → a ≤ length xs → Coherent f → Leapt room c i n xs l o f a
 leapt-more room c i n xs l m d j h us f a o e p q r t w s =
     let ts : List Tok = h .tokens in
     let z : length (ts ++ us) ≡ length ts + length us = length-append ts us in
@@ -265,10 +265,10 @@ settle-turn room c xs l m o d i n a b f h e g r v w =
     leapt-more room c 0 0 xs l m d i h us f (i + 1) o (at-move room d xs i g us f v) (w ∙ ap (λ (j : ℕ). sets m (j * 3) (flat us)) z) q
     (λ p. let x : d .count + length us ≤ room = over-fits room us (d .count) (k .0) p in omega arith) (omega arith) (omega arith) (step-sound room d (getD xs i 0) us f (h .sound) v)
 
-pub sound-start : (p n : ℕ) → p ≤ 65536 → n ≤ p → Sound (startAt p n)
+pub sound-start : (p n : ℕ) → p ≤ 65536 → n ≤ p → Coherent (startAt p n)
 sound-start p n h g = record { short = h; sum = omega arith; count = g; state = refl; utf = refl }
 
-pub sound-between : (c : Stand) → Sound c → Sound (startAt (c .seen) (c .count))
+pub sound-between : (c : Stand) → Coherent c → Coherent (startAt (c .seen) (c .count))
 sound-between c s = sound-start (c .seen) (c .count) (s .short) (omega (arith, s .count, s .sum))
 
 pub leap-turn : (room : ℕ) (c : Stand) (i b : ℕ) (xs l m o : List ℕ) (p n at k s e j : ℕ) → Leapt room c i b xs l m (startAt p n) at → j + c .count ≡ n + b → Holds xs at k s e → p + (length xs - at) ≤ 65536 → n < room

@@ -10,7 +10,7 @@ use native.Mathlib.Omega.{arith}
 use lib.Dec.{leb, ltb, eqb}
 use lib.ListN.{length, drop, getD}
 use borrow.Author.Tests.{ltb-true, eqb-true, lt-ltb, le-ltb}
-use Rattle.text.specs.Choice.{choose, and, or, among}
+use Rattle.text.specs.Booleans.{choose, and, or, among}
 use Rattle.text.specs.Classes.{classOf, blanks, letter, digit, ones, openers}
 use Rattle.text.specs.Words.{startsWord, inWord}
 use Rattle.text.specs.declared.Check.{Check}
@@ -34,7 +34,7 @@ use Rattle.states.specs.Machine.{Out, go, give, again, openRow, classRow, start
 use Rattle.states.specs.Keep.{codeOf, refusedCode, waiting, stateFits}
 use Rattle.states.specs.Utf.{utfLead, utfStep, utfFeed, brokenAt}
 use Rattle.states.specs.Steps.{Step, Goes, unless, longAt, refusedAt, overAt, movedTo, stepBy, stepOf, given, followed, ranOf}
-use Rattle.stream.specs.Shapes.{Sound}
+use Rattle.stream.specs.Shapes.{Coherent}
 use Rattle.stream.specs.Quick.{startAt}
 use Rattle.states.proofs.Left.{left}
 use Rattle.states.proofs.Main.{row-law, end-law}
@@ -365,7 +365,7 @@ module _ (room : ℕ) where
     abbrev pub Closes : Stand → List ℕ → Type 0
     Closes c xs = (isCr (c .conf .state) ≡ true) × (c .seen ≡ suc e) × (ys : List ℕ) × (xs ≡ 10 ∷ ys) × (ranOf room c xs ≡ given one (ranOf room (startAt (suc (c .seen)) (suc (c .count))) ys))
 
-    module _ (c : Stand) (x : ℕ) (xs : List ℕ) (ts : List Tok) (sound : Sound c) (long : suc (c .seen + length xs) ≤ 65536) (space : c .count < room) (clean : brokenAt (utfStep (c .utf) (c .seen) x) ≡ Good)
+    module _ (c : Stand) (x : ℕ) (xs : List ℕ) (ts : List Tok) (sound : Coherent c) (long : suc (c .seen + length xs) ≤ 65536) (space : c .count < room) (clean : brokenAt (utfStep (c .utf) (c .seen) x) ≡ Good)
         (list : step (c .conf) x .gives ++ left (step (c .conf) x .next) xs .list ≡ tok k b e ∷ ts) where
       abbrev o : Out
       o = step (c .conf) x
@@ -389,7 +389,7 @@ module _ (room : ℕ) where
             ∙ ap (λ (us : List Tok). Goes us (movedTo c (utfStep (c .utf) (c .seen) x) o)) g
             ∙ ap (λ (n : ℕ). Goes [] (record { conf = o .next; utf = utfStep (c .utf) (c .seen) x; seen = suc (c .seen); count = n })) z
 
-        quiet-sound : Sound d
+        quiet-sound : Coherent d
         quiet-sound = step-sound room c x [] d sound (sym quiet-step)
 
         quiet-ran : ranOf room c (x ∷ xs) ≡ ranOf room d xs
@@ -473,7 +473,7 @@ module _ (room : ℕ) where
       leaps-by more (inr (inr (inl p))) = again-leaps p
       leaps-by more (inr (inr (inr p))) = doc-leaps p
 
-    pub leaps : (xs : List ℕ) (c : Stand) (ts : List Tok) → Sound c → c .seen + length xs ≤ 65536 → c .count < room → brokenAt (utfFeed (c .utf) (c .seen) xs) ≡ Good → suc e < c .seen + length xs
+    pub leaps : (xs : List ℕ) (c : Stand) (ts : List Tok) → Coherent c → c .seen + length xs ≤ 65536 → c .count < room → brokenAt (utfFeed (c .utf) (c .seen) xs) ≡ Good → suc e < c .seen + length xs
         → left (c .conf) xs .list ≡ tok k b e ∷ ts → Leaps c xs ⊎ Closes c xs
     unfolding utfFeed
     leaps [] c ts s l r n h g =

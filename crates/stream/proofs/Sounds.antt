@@ -19,15 +19,15 @@ use Rattle.states.specs.Machine.{Out, step, finish}
 use Rattle.states.specs.Utf.{utfStep, utfEnd, brokenAt}
 use Rattle.states.specs.Steps.{Step, Goes, Faults, unless, longAt, refusedAt, overAt, movedTo, stepBy, stepOf, lastOf, begin}
 use Rattle.steps.specs.Shapes.{listOf, outOf, finishBy}
-use Rattle.stream.specs.Shapes.{takenBy, steppedOf, Sound}
+use Rattle.stream.specs.Shapes.{takenBy, steppedOf, Coherent}
 use Rattle.states.proofs.Keeps.{Fitting}
 
 -- ---- a sound stream
 
-pub to-fitting : (c : Stand) → Sound c → Fitting c
+pub to-fitting : (c : Stand) → Coherent c → Fitting c
 to-fitting c h = record { short = h .short; fit = record { sum = h .sum; count = h .count; state = h .state }; sound = h .utf }
 
-pub to-sound : (c : Stand) → Fitting c → Sound c
+pub to-sound : (c : Stand) → Fitting c → Coherent c
 to-sound c h = record { short = h .short; sum = h .fit .sum; count = h .fit .count; state = h .fit .state; utf = h .sound }
 
 pub many-small : (g : Given) → length (listOf g) ≤ 1

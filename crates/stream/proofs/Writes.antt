@@ -10,7 +10,7 @@ use lib.Dec.{eqb, ltb}
 use lib.ListN.{length, drop, getD}
 use lib.Seq.{sets}
 use borrow.Author.Tests.{ltb-true, lt-ltb}
-use Rattle.text.specs.Choice.{choose, among}
+use Rattle.text.specs.Booleans.{choose, among}
 use Rattle.text.specs.declared.Check.{Check}
 use Rattle.text.specs.declared.Check.the-variants.{Good, Bad}
 use Rattle.text.proofs.Splices.{sets-append}
@@ -30,7 +30,7 @@ use Rattle.states.specs.Utf.{utfEnd}
 use Rattle.states.specs.Feed.{fits, standOf, refusals, opened, reported, written, feedOf, feedIn, endOf, endIn}
 use Rattle.states.specs.Steps.{Step, Goes, Faults, overAt, stepOf, given, ranOf, lastOf, begin, fedOf, doneOf}
 use Rattle.steps.specs.Shapes.{listOf}
-use Rattle.stream.specs.Shapes.{ranBy, givesOf, isGood, refusing, standing, Sound}
+use Rattle.stream.specs.Shapes.{ranBy, givesOf, isGood, refusing, standing, Coherent}
 use Rattle.states.proofs.Runs.{unless-goes, took}
 use Rattle.stream.proofs.Loops.{loop-starts, loop-goes, loop-stops, loop-ends}
 use Rattle.states.proofs.Calls.{count-ran}
@@ -132,7 +132,7 @@ module _ (room : ℕ) where
       let k = took room c x ts d (sym e) in
       (rw (k .gives) (k .room), rw (k .moved, k .gives))
 
-  pub step-sound : (c : Stand) (x : ℕ) (ts : List Tok) (d : Stand) → Sound c → Goes ts d ≡ stepOf room c x → Sound d
+  pub step-sound : (c : Stand) (x : ℕ) (ts : List Tok) (d : Stand) → Coherent c → Goes ts d ≡ stepOf room c x → Coherent d
   step-sound c x ts d h e = to-sound d (fitting-step room c x ts d (to-fitting c h) (sym e))
 
   pub last-room : (c : Stand) (ts : List Tok) (d : Stand) → Goes ts d ≡ lastOf room c → overAt room (c .count) ts ≡ Good
@@ -149,7 +149,7 @@ module _ (room : ℕ) where
 -- ---- calls
 
 abbrev Sounds : Status → Type 0
-Sounds q = (c : Stand) → q ≡ Open c → Sound c
+Sounds q = (c : Stand) → q ≡ Open c → Coherent c
 
 fresh-sound : Sounds (Open begin)
 fresh-sound c e = let z : begin ≡ c = cc in rw (← z) (to-sound begin fitting-begin)

@@ -6,7 +6,7 @@ use mathlib.Core.List.{List}
 use lib.Dec.{eqb}
 use lib.ListN.{length, drop, getD}
 use lib.Seq.{sets}
-use Rattle.text.specs.Choice.{and}
+use Rattle.text.specs.Booleans.{and}
 use Rattle.text.specs.declared.Check.the-variants.{Good}
 use Rattle.token.specs.Tokens.{tokenAt}
 use Rattle.token.specs.Lists.{Tok}
@@ -20,7 +20,7 @@ use Rattle.stream.specs.declared.Ahead.the-variants.{Nothing, Token}
 use Rattle.states.specs.Keep.{codeOf, utfCode}
 use Rattle.states.specs.Utf.{brokenAt, utfFeed}
 use Rattle.states.specs.Steps.{given, ranOf}
-use Rattle.stream.specs.Shapes.{Sound}
+use Rattle.stream.specs.Shapes.{Coherent}
 
 -- between tokens and between characters, at a place, with so many records
 abbrev pub startAt : ℕ → ℕ → Stand
@@ -54,4 +54,4 @@ pub record Leapt (room : ℕ) (c : Stand) (i n : ℕ) (xs before after : List �
   pub roomy : 0 < length tokens → d .count ≤ room
   pub fits : n + length tokens ≤ roomOf before
   pub within : j ≤ length xs
-  pub sound : Sound d
+  pub sound : Coherent d

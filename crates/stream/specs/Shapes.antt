@@ -42,7 +42,7 @@ isGood (Goes ts c) = true
 isGood (Faults n p) = false
 
 -- a stream whose numbers fit one another
-pub record Sound (c : Stand) : Type 0 where
+pub record Coherent (c : Stand) : Type 0 where
   pub short : c .seen ≤ 65536
   pub sum : c .conf .start + (c .conf .size + waiting (c .conf .state)) ≡ c .seen
   pub count : c .count ≤ c .conf .start

@@ -16,7 +16,7 @@ ghost use Rattle.text.specs.Classes.{classes};
 ghost use Rattle.token.specs.Table.{flat, roomOf};
 ghost use Rattle.states.specs.Steps.{longAt, stepOf, ranOf, lastOf};
 ghost use Rattle.steps.specs.Shapes.{outOf};
-ghost use Rattle.stream.specs.Shapes.{takenBy, steppedOf, ranBy, givesOf, isGood, Sound};
+ghost use Rattle.stream.specs.Shapes.{takenBy, steppedOf, ranBy, givesOf, isGood, Coherent};
 
 // One byte more is too many.
 fn long(seen: usize) -> Check
@@ -61,7 +61,7 @@ fn take(room: usize, c: Stand, utf: Utf, row: Row) -> Stepped
 // A byte: its faults in the order 1, 2, 3, 14.
 fn step(t: &[u8; 256], room: usize, c: Stand, x: u8) -> Stepped
     requires { ⌜ now t ≡ classes ⌝ }
-    requires { ⌜ Sound c ⌝ }
+    requires { ⌜ Coherent c ⌝ }
     ensures { λ r. ⌜ steppedOf r ≡ stepOf room c x ⌝ }
 {
     let too_long = long(c.seen);
@@ -82,7 +82,7 @@ fn step(t: &[u8; 256], room: usize, c: Stand, x: u8) -> Stepped
 // The first pass over a packet writes nothing.
 pub(crate) fn run(t: &[u8; 256], room: usize, from: Stand, packet: &[u8]) -> Ran
     requires { ⌜ now t ≡ classes ⌝ }
-    requires { ⌜ Sound from ⌝ }
+    requires { ⌜ Coherent from ⌝ }
     ensures { λ r. ⌜ r ≡ ranBy (ranOf room from (now (packet .entry))) ⌝ }
 {
     let mut c = from;
@@ -105,7 +105,7 @@ pub(crate) fn run(t: &[u8; 256], room: usize, from: Stand, packet: &[u8]) -> Ran
 // The second writes the tokens of a packet that is good.
 pub(crate) fn write(t: &[u8; 256], from: Stand, packet: &[u8], list: &mut [u32])
     requires { ⌜ now t ≡ classes ⌝ }
-    requires { ⌜ Sound from ⌝ }
+    requires { ⌜ Coherent from ⌝ }
     requires { ⌜ isGood (ranOf (roomOf (now list)) from (now packet)) ≡ true ⌝ }
     ensures { λ _. ⌜ now (list .exit) ≡ sets (now (list .entry)) (from .count * 3) (flat (givesOf (ranOf (roomOf (now (list .entry))) from (now (packet .entry))))) ⌝ }
 {
@@ -130,7 +130,7 @@ pub(crate) fn write(t: &[u8; 256], from: Stand, packet: &[u8], list: &mut [u32])
 // Both passes.
 fn both(t: &[u8; 256], from: Stand, packet: &[u8], list: &mut [u32]) -> Ran
     requires { ⌜ now t ≡ classes ⌝ }
-    requires { ⌜ Sound from ⌝ }
+    requires { ⌜ Coherent from ⌝ }
     ensures answer { λ r. ⌜ r ≡ ranBy (ranOf (roomOf (now (list .entry))) from (now (packet .entry))) ⌝ }
     ensures held { λ _. ⌜ now (list .exit) ≡ sets (now (list .entry)) (from .count * 3) (flat (givesOf (ranOf (roomOf (now (list .entry))) from (now (packet .entry))))) ⌝ }
 {
@@ -148,7 +148,7 @@ fn both(t: &[u8; 256], from: Stand, packet: &[u8], list: &mut [u32]) -> Ran
 // isn't worth the stash.
 pub(crate) fn feed(t: &[u8; 256], from: Stand, packet: &[u8], list: &mut [u32]) -> Ran
     requires { ⌜ now t ≡ classes ⌝ }
-    requires { ⌜ Sound from ⌝ }
+    requires { ⌜ Coherent from ⌝ }
     ensures answer { λ r. ⌜ r ≡ ranBy (ranOf (roomOf (now (list .entry))) from (now (packet .entry))) ⌝ }
     ensures held { λ _. ⌜ now (list .exit) ≡ sets (now (list .entry)) (from .count * 3) (flat (givesOf (ranOf (roomOf (now (list .entry))) from (now (packet .entry))))) ⌝ }
 {
@@ -160,7 +160,7 @@ pub(crate) fn feed(t: &[u8; 256], from: Stand, packet: &[u8], list: &mut [u32]) 
 
 // The text's end.
 pub(crate) fn last(room: usize, c: Stand) -> Stepped
-    requires { ⌜ Sound c ⌝ }
+    requires { ⌜ Coherent c ⌝ }
     ensures { λ r. ⌜ steppedOf r ≡ lastOf room c ⌝ }
 {
     let u = c.utf;

@@ -7,40 +7,40 @@ use native.Mathlib.Omega.{arith}
 use lib.Dec.{eqb}
 use lib.ListN.{length, take, drop}
 use borrow.Author.Tests.{eq-eqb, ne-eqb}
-use Rattle.text.specs.Choice.{choose, and}
+use Rattle.text.specs.Booleans.{choose, and}
 use Rattle.text.specs.Words.{begins}
 use Rattle.text.specs.Splice.{spent}
 use Rattle.literal.specs.Escapes.{badEscape, unescaped}
 use Rattle.text.specs.Scans.{spelled, sought}
 use Rattle.text.specs.declared.Check.the-variants.{Good}
-use Rattle.token.specs.Table.{kind, start, end, is, part, word}
+use Rattle.token.specs.Table.{kind, start, end, is, between, word}
 use Rattle.token.proofs.Table.{part-none, word-is, word-length}
 use Rattle.structure.specs.Tokens.{same, spells}
-use Rattle.structure.specs.Values.{opening, inside, string}
+use Rattle.structure.specs.Values.{opening, literalBytes, string}
 use Rattle.structure.proofs.Steps.{sees, misses, choose-true, choose-false}
 use Rattle.structure.proofs.Sizes.{most, part-short, unescaped-short}
 
 -- the string that the inside of a literal means
-pub bytes-none : (s : List ℕ) (a z : ℕ) → z ≤ a → 0 ≡ length (unescaped (part s a z))
+pub bytes-none : (s : List ℕ) (a z : ℕ) → z ≤ a → 0 ≡ length (unescaped (between s a z))
 unfolding unescaped spelled
 bytes-none s a z h = sym (ap (λ (l : List ℕ). length (unescaped l)) (part-none s a z h))
 
-pub bytes-left : (s : List ℕ) (a z left : ℕ) → length s ≤ 65536 → left ≡ spent most (unescaped (part s a z)) → (left ≤ most) × (most - left ≡ length (unescaped (part s a z)))
+pub bytes-left : (s : List ℕ) (a z left : ℕ) → length s ≤ 65536 → left ≡ spent most (unescaped (between s a z)) → (left ≤ most) × (most - left ≡ length (unescaped (between s a z)))
 unfolding spent
 bytes-left s a z left w e =
-    let x = unescaped-short (part s a z) in
+    let x = unescaped-short (between s a z) in
     let y = part-short s a z in
     (omega arith, omega arith)
 
-pub bad-none : (s : List ℕ) (a z : ℕ) → z ≤ a → Good ≡ badEscape (part s a z)
+pub bad-none : (s : List ℕ) (a z : ℕ) → z ≤ a → Good ≡ badEscape (between s a z)
 unfolding badEscape sought
 bad-none s a z h = sym (ap badEscape (part-none s a z h))
 
 -- an inside, by how many bytes open it
-pub inside-of : (s : List ℕ) (i n a z : ℕ) → n ≡ opening s i → a ≡ start s i + n → z ≡ end s i - 1 → part s a z ≡ inside s i
+pub inside-of : (s : List ℕ) (i n a z : ℕ) → n ≡ opening s i → a ≡ start s i + n → z ≡ end s i - 1 → between s a z ≡ literalBytes s i
 inside-of s i n a z e f g =
     let x : a ≡ start s i + opening s i = omega arith in
-    ap (λ (m : ℕ). part s m z) x ∙ ap (part s (start s i + opening s i)) g
+    ap (λ (m : ℕ). between s m z) x ∙ ap (between s (start s i + opening s i)) g
 
 pub opens-two : (s : List ℕ) (i x : ℕ) → x ≡ kind s i → x ≡ 24 → 2 ≡ opening s i
 opens-two s i x e q = sym (choose-true (is s i 24) _ _ (sees s i x 24 e q))
@@ -55,7 +55,7 @@ opens-small s i = by (is s i 24)
     by true = omega arith
     by false = omega arith
 
-pub string-bytes : (s : List ℕ) (i n a z r : ℕ) → n ≡ opening s i → a ≡ start s i + n → z ≡ end s i - 1 → r ≡ length (unescaped (part s a z)) → r ≡ length (string s i)
+pub string-bytes : (s : List ℕ) (i n a z r : ℕ) → n ≡ opening s i → a ≡ start s i + n → z ≡ end s i - 1 → r ≡ length (unescaped (between s a z)) → r ≡ length (string s i)
 unfolding string
 string-bytes s i n a z r e f g h = h ∙ ap (λ (l : List ℕ). length (unescaped l)) (inside-of s i n a z e f g)
 
@@ -89,7 +89,7 @@ module _ (p s : List ℕ) (i x : ℕ) (e : x ≡ kind s i) where
         sym (spells-same ∙ ap (λ (b : Bool). and b (begins p (word s i))) (ne-eqb (length (word s i)) (length p) (λ m. h (l ∙ m))))
 
     pub spells-by : z - a ≡ length p → (r : Bool) → r ≡ begins p (drop a s) → r ≡ spells p s i
-    unfolding part
+    unfolding between
     spells-by h r m =
         let l = word-length s i a z f g in
         let w = word-is s i a z f g in

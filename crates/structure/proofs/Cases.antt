@@ -17,7 +17,7 @@ use Rattle.table.specs.declared.Sort.the-variants.{Str, Insens, Ident, PushLite
 use Rattle.structure.specs.declared.Level.{Level}
 use Rattle.structure.specs.Tokens.{across, spells}
 use Rattle.structure.specs.Values.{number, string, character}
-use Rattle.structure.specs.Structure.{got, next, limit, join, closed, before, after, inTag, post, noPost, fromNumber, fromComma, postfixAt, slice, pushed, ranged, slices, leafAt, expr, term, signed, node, chain, posts, Run, isName, markAt, pastMark, pastBar, ruling, ruleAt}
+use Rattle.structure.specs.Structure.{got, next, limit, join, closed, prefixed, postfixed, inTag, post, noPost, fromNumber, fromComma, postfixAt, slice, pushed, ranged, slices, leafAt, expr, term, signed, node, chain, posts, Run, isName, markAt, pastMark, pastBar, ruling, ruleFrom}
 use Rattle.structure.proofs.Steps.{split, no-tree, next-got, want-got, want-post, opened-got, posts-by}
 use Rattle.structure.proofs.Grammar.{expr-law, chain-law, term-law, signed-law, node-law, posts-law}
 use Rattle.structure.proofs.Cycle.{finished}
@@ -61,8 +61,8 @@ module _ (level : Level) (s : List ℕ) where
       (λ v e₀. bare v e₀) (sym (term-law level s o at) ∙ e)
 
   pub data SignedRead (o at : ℕ) (t : Tree Span) (n : ℕ) : Type 0 where
-    pos : (u : Tree Span) → is s at 8 ≡ true → Run level s (signed o (at + 1)) ≡ got u n → t ≡ before (start s at) (plain PosPred) u → SignedRead o at t n
-    neg : (u : Tree Span) → is s at 8 ≡ false → is s at 9 ≡ true → Run level s (signed o (at + 1)) ≡ got u n → t ≡ before (start s at) (plain NegPred) u → SignedRead o at t n
+    pos : (u : Tree Span) → is s at 8 ≡ true → Run level s (signed o (at + 1)) ≡ got u n → t ≡ prefixed (start s at) (plain PosPred) u → SignedRead o at t n
+    neg : (u : Tree Span) → is s at 8 ≡ false → is s at 9 ≡ true → Run level s (signed o (at + 1)) ≡ got u n → t ≡ prefixed (start s at) (plain NegPred) u → SignedRead o at t n
     unsigned : (u v : Tree Span) (i : ℕ) → is s at 8 ≡ false → is s at 9 ≡ false → Run level s (node o at) ≡ got u i → Run level s (posts u i) ≡ got v n → t ≡ finished s at v → SignedRead o at t n
 
   pub signed-read : (o at : ℕ) {t : Tree Span} {n : ℕ} → Run level s (signed o at) ≡ got t n → SignedRead o at t n
@@ -79,7 +79,7 @@ module _ (level : Level) (s : List ℕ) where
   pub data NodeRead (o at : ℕ) (t : Tree Span) (n : ℕ) : Type 0 where
     group : (u : Tree Span) (i : ℕ) → is s at 6 ≡ true → leb limit o ≡ false → Run level s (expr (o + 1) (at + 1)) ≡ got u i → is s i 7 ≡ true → t ≡ endsAt u (end s i) → n ≡ i + 1 → NodeRead o at t n
     pushes : (u : Tree Span) (i : ℕ) → is s at 6 ≡ false → spells push s at ≡ true → is s (at + 1) 6 ≡ true → leb limit o ≡ false → Run level s (expr (o + 1) (at + 1 + 1)) ≡ got u i → is s i 7 ≡ true
-        → t ≡ before (start s at) (plain Push) u → n ≡ i + 1 → NodeRead o at t n
+        → t ≡ prefixed (start s at) (plain Push) u → n ≡ i + 1 → NodeRead o at t n
     holds-none : is s at 6 ≡ false → spells push s at ≡ false → leafAt o s at ≡ got t n → NodeRead o at t n
 
   pub node-read : (o at : ℕ) {t : Tree Span} {n : ℕ} → Run level s (node o at) ≡ got t n → NodeRead o at t n
@@ -100,7 +100,7 @@ module _ (level : Level) (s : List ℕ) where
       (λ x e₀. holds-none v x e₀)) (sym (node-law level s o at) ∙ e)
 
   pub data PostsRead (t : Tree Span) (at : ℕ) (u : Tree Span) (n : ℕ) : Type 0 where
-    more : (v : Unary) (i : ℕ) → postfixAt s at ≡ post v i → Run level s (posts (after (end s (i - 1)) v t) i) ≡ got u n → PostsRead t at u n
+    more : (v : Unary) (i : ℕ) → postfixAt s at ≡ post v i → Run level s (posts (postfixed (end s (i - 1)) v t) i) ≡ got u n → PostsRead t at u n
     done : postfixAt s at ≡ noPost → u ≡ t → n ≡ at → PostsRead t at u n
 
   pub posts-read : (t : Tree Span) (at : ℕ) {u : Tree Span} {n : ℕ} → Run level s (posts t at) ≡ got u n → PostsRead t at u n
@@ -184,8 +184,8 @@ pub record RuleRead (level : Level) (s : List ℕ) (at : ℕ) (r : Rule Span) (n
   pub rule : r ≡ record { name = word s at; mark = markAt s (at + 1 + 1); tree = body; place = across s at at }
   pub next : n ≡ past + 1
 
-pub rule-read : (level : Level) (s : List ℕ) (at : ℕ) {r : Rule Span} {n : ℕ} → ruleAt level s at ≡ ruling r n → RuleRead level s at r n
-unfolding ruleAt
+pub rule-read : (level : Level) (s : List ℕ) (at : ℕ) {r : Rule Span} {n : ℕ} → ruleFrom level s at ≡ ruling r n → RuleRead level s at r n
+unfolding ruleFrom
 rule-read level s at e =
     split (isName s at) _ _
     (λ v e₀.

@@ -6,7 +6,7 @@ use mathlib.Core.List.{List}
 use mathlib.Core.Logic.{_⊎_, inl, inr}
 use native.Mathlib.Omega.{arith}
 use lib.ListN.{length}
-use Rattle.text.specs.Choice.{choose, and}
+use Rattle.text.specs.Booleans.{choose, and}
 use Rattle.text.specs.Words.{push}
 use Rattle.token.specs.Table.{toks, kind, start, end, is, label}
 use Rattle.token.proofs.Table.{label-length}
@@ -25,13 +25,13 @@ use Rattle.structure.specs.declared.Opening.{Opening}
 use Rattle.structure.specs.declared.Opening.the-variants.{From, Untied}
 use Rattle.structure.specs.declared.Bracket.{Bracket}
 use Rattle.structure.specs.declared.Bracket.the-variants.{Opens, Unopened, Nothing}
-use Rattle.structure.specs.declared.Tail.{Tail}
-use Rattle.structure.specs.declared.Tail.the-variants as Tail
-use Rattle.structure.specs.declared.Tails.{Tails}
-use Rattle.structure.specs.declared.Tails.the-variants as Tails
+use Rattle.structure.specs.declared.PostfixEnd.{PostfixEnd}
+use Rattle.structure.specs.declared.PostfixEnd.the-variants as PostfixEnd
+use Rattle.structure.specs.declared.PostfixEnds.{PostfixEnds}
+use Rattle.structure.specs.declared.PostfixEnds.the-variants as PostfixEnds
 use Rattle.structure.specs.Tokens.{spells}
-use Rattle.structure.specs.Structure.{Parsed, got, refused, next, want, opened, before, after, inTag, post, postfixAt, leafAt, postsBy, expr, term, signed, node, posts, Run}
-use Rattle.structure.specs.Answers.{summary, wanted, tagNodes, tagBytes, openingOf, signOf, signs, Signed, bracketOf, tailOf, tailed, Posted}
+use Rattle.structure.specs.Structure.{Parsed, got, refused, next, want, opened, prefixed, postfixed, inTag, post, postfixAt, leafAt, postsBy, expr, term, signed, node, posts, Run}
+use Rattle.structure.specs.Answers.{summary, wanted, tagNodes, tagBytes, openingOf, signOf, predicates, Signed, bracketOf, tailOf, tailed, Posted}
 use Rattle.structure.proofs.Steps.{choose-true, choose-false, inside-is, sees, misses, want-true, want-false, next-assoc, next-fun, next-on, next-id, spells-in}
 use Rattle.structure.proofs.Sizes.{most, label-short, Grown, grown-none, grown-ends, grown-before, grown-after, grown-tag, tag-small}
 use Rattle.structure.proofs.Fuel.{postfix-past}
@@ -140,29 +140,29 @@ sign-pos s i e = choose-true (is s i 8) _ _ e
 sign-neg : (s : List ℕ) (i : ℕ) → is s i 8 ≡ false → signOf s i ≡ NegPred
 sign-neg s i e = choose-false (is s i 8) _ _ e
 
-signs-in : (s : List ℕ) (at k p : ℕ) (t : Tree Span) → p ≡ at + k → signs s at k (before (start s p) (plain (signOf s p)) t) ≡ signs s at (suc k) t
-unfolding signs
-signs-in s at zero p t e = let z : p ≡ at = omega arith in ap (λ (j : ℕ). before (start s j) (plain (signOf s j)) t) z
-signs-in s at (suc k) p t e = ap (before (start s at) (plain (signOf s at))) (signs-in s (at + 1) k p t (omega arith))
+signs-in : (s : List ℕ) (at k p : ℕ) (t : Tree Span) → p ≡ at + k → predicates s at k (prefixed (start s p) (plain (signOf s p)) t) ≡ predicates s at (suc k) t
+unfolding predicates
+signs-in s at zero p t e = let z : p ≡ at = omega arith in ap (λ (j : ℕ). prefixed (start s j) (plain (signOf s j)) t) z
+signs-in s at (suc k) p t e = ap (prefixed (start s at) (plain (signOf s at))) (signs-in s (at + 1) k p t (omega arith))
 
-pub grown-signs : (s : List ℕ) (at k : ℕ) (t : Tree Span) → Grown t (signs s at k t) k 0
-unfolding signs
+pub grown-signs : (s : List ℕ) (at k : ℕ) (t : Tree Span) → Grown t (predicates s at k t) k 0
+unfolding predicates
 grown-signs s at zero t = grown-none t
 grown-signs s at (suc k) t =
     let i = grown-signs s (at + 1) k t in
-    let g = grown-before (start s at) (signOf s at) (signs s (at + 1) k t) in
+    let g = grown-before (start s at) (signOf s at) (predicates s (at + 1) k t) in
     record { counts = omega arith; sizes = omega arith }
 
 module _ (s : List ℕ) where
   -- a predicate and what follows it
-  sign-step : (level : Level) (o i x : ℕ) → x ≡ kind s i → (x ≡ 8) ⊎ (x ≡ 9) → Run level s (signed o i) ≡ next (Run level s (signed o (i + 1))) (λ t n. got (before (start s i) (plain (signOf s i)) t) n)
+  sign-step : (level : Level) (o i x : ℕ) → x ≡ kind s i → (x ≡ 8) ⊎ (x ≡ 9) → Run level s (signed o i) ≡ next (Run level s (signed o (i + 1))) (λ t n. got (prefixed (start s i) (plain (signOf s i)) t) n)
   sign-step level o i x e (inl q) =
       let v = sees s i x 8 e q in
-      signed-law level s o i ∙ choose-true (is s i 8) _ _ v ∙ next-fun _ _ _ (λ t n. ap (λ (u : Unary). got (before (start s i) (plain u) t) n) (sym (sign-pos s i v)))
+      signed-law level s o i ∙ choose-true (is s i 8) _ _ v ∙ next-fun _ _ _ (λ t n. ap (λ (u : Unary). got (prefixed (start s i) (plain u) t) n) (sym (sign-pos s i v)))
   sign-step level o i x e (inr q) =
       let w = misses s i x 8 e (λ h. let z : _≡_ {A = ℕ} 8 9 = sym h ∙ q in omega arith) in
       signed-law level s o i ∙ choose-false (is s i 8) _ _ w ∙ choose-true (is s i 9) _ _ (sees s i x 9 e q)
-      ∙ next-fun _ _ _ (λ t n. ap (λ (u : Unary). got (before (start s i) (plain u) t) n) (sym (sign-neg s i w)))
+      ∙ next-fun _ _ _ (λ t n. ap (λ (u : Unary). got (prefixed (start s i) (plain u) t) n) (sym (sign-neg s i w)))
 
   sign-inside : (i x : ℕ) → x ≡ kind s i → (x ≡ 8) ⊎ (x ≡ 9) → i < length (toks s)
   sign-inside i x e (inl q) = inside-is s i 8 (omega arith) (sees s i x 8 e q)
@@ -171,16 +171,16 @@ module _ (s : List ℕ) where
   pub record SignInv (at p : ℕ) : Type 0 where
     pub from : at ≤ p
     pub within : (at ≡ p → ⊥) → p ≤ length (toks s)
-    pub same : (level : Level) (o : ℕ) → Run level s (signed o at) ≡ next (Run level s (signed o p)) (λ t n. got (signs s at (p - at) t) n)
+    pub same : (level : Level) (o : ℕ) → Run level s (signed o at) ≡ next (Run level s (signed o p)) (λ t n. got (predicates s at (p - at) t) n)
 
   pub sign-none : (at : ℕ) → SignInv at at
-  unfolding signs
+  unfolding predicates
   sign-none at =
       let z : at - at ≡ 0 = omega arith in
       record {
         from = omega arith;
         within = λ h. absurd (h refl);
-        same = λ level o. sym (next-fun _ _ _ (λ t n. ap (λ (k : ℕ). got (signs s at k t) n) z) ∙ next-id (Run level s (signed o at)));
+        same = λ level o. sym (next-fun _ _ _ (λ t n. ap (λ (k : ℕ). got (predicates s at k t) n) z) ∙ next-id (Run level s (signed o at)));
       }
 
   pub sign-more : (at p x : ℕ) → x ≡ kind s p → (x ≡ 8) ⊎ (x ≡ 9) → SignInv at p → (p < length (toks s)) × SignInv at (p + 1)
@@ -193,8 +193,8 @@ module _ (s : List ℕ) where
           from = omega arith;
           within = λ n. omega arith;
           same = λ level o.
-              i .same level o ∙ ap (λ (m : Parsed). next m (λ t n. got (signs s at (p - at) t) n)) (sign-step level o p x e q) ∙ next-assoc _ _ _
-              ∙ next-fun _ _ _ (λ t n. next-on _ _ _ ∙ ap (λ (u : Tree Span). got u n) (signs-in s at (p - at) p t (omega arith) ∙ ap (λ (k : ℕ). signs s at k t) z));
+              i .same level o ∙ ap (λ (m : Parsed). next m (λ t n. got (predicates s at (p - at) t) n)) (sign-step level o p x e q) ∙ next-assoc _ _ _
+              ∙ next-fun _ _ _ (λ t n. next-on _ _ _ ∙ ap (λ (u : Tree Span). got u n) (signs-in s at (p - at) p t (omega arith) ∙ ap (λ (k : ℕ). predicates s at k t) z));
         },
       )
 
@@ -211,10 +211,10 @@ module _ (s : List ℕ) where
   pub post-start : (at : ℕ) → PostInv at at 0
   post-start at = record { from = omega arith; within = λ h. absurd (h refl); around = λ level t. (t, refl, grown-none t) }
 
-  posts-on : (level : Level) (t : Tree Span) (i : ℕ) (v : Unary) (n : ℕ) → postfixAt s i ≡ post v n → Run level s (posts t i) ≡ Run level s (posts (after (end s (n - 1)) v t) n)
-  posts-on level t i v n e = posts-law level s t i ∙ ap (λ p. postsBy p (λ v n. Run level s (posts (after (end s (n - 1)) v t) n)) (λ u. got t i)) e
+  posts-on : (level : Level) (t : Tree Span) (i : ℕ) (v : Unary) (n : ℕ) → postfixAt s i ≡ post v n → Run level s (posts t i) ≡ Run level s (posts (postfixed (end s (n - 1)) v t) n)
+  posts-on level t i v n e = posts-law level s t i ∙ ap (λ p. postsBy p (λ v n. Run level s (posts (postfixed (end s (n - 1)) v t) n)) (λ u. got t i)) e
 
-  pub post-more : (at p k : ℕ) (r : Tail) (n : ℕ) → r ≡ tailOf (postfixAt s p) → r ≡ Tail.Past n → PostInv at p k → (p < n) × (n ≤ length (toks s)) × PostInv at n (k + 1)
+  pub post-more : (at p k : ℕ) (r : PostfixEnd) (n : ℕ) → r ≡ tailOf (postfixAt s p) → r ≡ PostfixEnd.Past n → PostInv at p k → (p < n) × (n ≤ length (toks s)) × PostInv at n (k + 1)
   post-more at p k r n e q i =
       let (v, f) = was-past (postfixAt s p) r n e q in
       let h = postfix-past s p v n f in
@@ -227,43 +227,43 @@ module _ (s : List ℕ) where
           around = λ level t.
               let (u, g, w) = i .around level t in
               let y = grown-after (end s (n - 1)) v u in
-              (after (end s (n - 1)) v u, g ∙ posts-on level u p v n f, record { counts = omega arith; sizes = omega arith });
+              (postfixed (end s (n - 1)) v u, g ∙ posts-on level u p v n f, record { counts = omega arith; sizes = omega arith });
         },
       )
 
-  pub post-bad : (at p k : ℕ) (r : Tail) (x : Refusal) → r ≡ tailOf (postfixAt s p) → r ≡ Tail.Bad x → PostInv at p k → Posted s at (Tails.Bad x)
+  pub post-bad : (at p k : ℕ) (r : PostfixEnd) (x : Refusal) → r ≡ tailOf (postfixAt s p) → r ≡ PostfixEnd.Bad x → PostInv at p k → Posted s at (PostfixEnds.Bad x)
   unfolding tailed
   post-bad at p k r x e q i = record {
     around = λ level t.
         let (u, g, w) = i .around level t in
-        sum-refused (g ∙ posts-law level s u p ∙ ap (λ p₁. postsBy p₁ (λ v n. Run level s (posts (after (end s (n - 1)) v u) n)) (λ _. got u p)) (was-bad (postfixAt s p) r x e q));
+        sum-refused (g ∙ posts-law level s u p ∙ ap (λ p₁. postsBy p₁ (λ v n. Run level s (posts (postfixed (end s (n - 1)) v u) n)) (λ _. got u p)) (was-bad (postfixAt s p) r x e q));
   }
 
-  pub post-done : (at p k : ℕ) (r : Tail) → r ≡ tailOf (postfixAt s p) → r ≡ Tail.Ended → PostInv at p k → Posted s at (Tails.All p k)
+  pub post-done : (at p k : ℕ) (r : PostfixEnd) → r ≡ tailOf (postfixAt s p) → r ≡ PostfixEnd.Ended → PostInv at p k → Posted s at (PostfixEnds.All p k)
   unfolding tailed
   post-done at p k r e q i = record {
     around = λ level t.
         let (u, g, w) = i .around level t in
         let c = w .counts in
         let b = w .sizes in
-        sum-got {t = u} p (count t + k) (size t) (g ∙ posts-law level s u p ∙ ap (λ p₁. postsBy p₁ (λ v n. Run level s (posts (after (end s (n - 1)) v u) n)) (λ _. got u p)) (was-ended (postfixAt s p) r e q))
+        sum-got {t = u} p (count t + k) (size t) (g ∙ posts-law level s u p ∙ ap (λ p₁. postsBy p₁ (λ v n. Run level s (posts (postfixed (end s (n - 1)) v u) n)) (λ _. got u p)) (was-ended (postfixAt s p) r e q))
         refl (omega arith) (omega arith);
   }
 
 -- what all postfixes came to
-pub tails-all : (m : Parsed) (t : Tree Span) (r : Tails) (n k : ℕ) → tailed t r ≡ summary m → r ≡ Tails.All n k → (u : Tree Span) × (m ≡ got u n) × Grown t u k 0
+pub tails-all : (m : Parsed) (t : Tree Span) (r : PostfixEnds) (n k : ℕ) → tailed t r ≡ summary m → r ≡ PostfixEnds.All n k → (u : Tree Span) × (m ≡ got u n) × Grown t u k 0
 unfolding tailed
-tails-all m t (Tails.All i j) n k e q =
+tails-all m t (PostfixEnds.All i j) n k e q =
     let x : i ≡ n = cc in
     let y : j ≡ k = cc in
     let (u, f, c, b) = good m (Checked.Good i (count t + j) (size t)) i (count t + j) (size t) e refl in
     (u, f ∙ ap (got u) x, record { counts = omega arith; sizes = omega arith })
-tails-all m t (Tails.Bad x) n k e q = let z : _≡_ {A = ℕ} 0 1 = cc in absurd (omega arith)
+tails-all m t (PostfixEnds.Bad x) n k e q = let z : _≡_ {A = ℕ} 0 1 = cc in absurd (omega arith)
 
-pub tails-bad : (m : Parsed) (t : Tree Span) (r : Tails) (x : Refusal) → tailed t r ≡ summary m → r ≡ Tails.Bad x → m ≡ refused x
+pub tails-bad : (m : Parsed) (t : Tree Span) (r : PostfixEnds) (x : Refusal) → tailed t r ≡ summary m → r ≡ PostfixEnds.Bad x → m ≡ refused x
 unfolding tailed
-tails-bad m t (Tails.All i j) x e q = let z : _≡_ {A = ℕ} 0 1 = cc in absurd (omega arith)
-tails-bad m t (Tails.Bad y) x e q = let z : y ≡ x = cc in bad m (Checked.Refused y) x e (ap Checked.Refused z)
+tails-bad m t (PostfixEnds.All i j) x e q = let z : _≡_ {A = ℕ} 0 1 = cc in absurd (omega arith)
+tails-bad m t (PostfixEnds.Bad y) x e q = let z : y ≡ x = cc in bad m (Checked.Refused y) x e (ap Checked.Refused z)
 
 -- ---- what opens an expression
 
@@ -292,7 +292,7 @@ module _ (level : Level) (s : List ℕ) (at : ℕ) where
     from = omega arith;
     one = omega arith;
     within = inside-is s (at + 1) 6 (omega arith) g;
-    wrap = λ t n. before (start s at) (plain Push) t;
+    wrap = λ t n. prefixed (start s at) (plain Push) t;
     same = λ o. node-law level s o at ∙ choose-false (is s at 6) _ _ e ∙ choose-true (spells push s at) _ _ f ∙ want-true refused s (at + 1) 6 _ g;
     grown = λ t n. grown-before (start s at) Push t;
   }

@@ -8,7 +8,7 @@ use mathlib.Core.Logic.{_⊎_, inl, inr}
 use native.Mathlib.Omega.{arith}
 use lib.ListN.{length}
 use borrow.Author.Tests.{le-leb, lt-leb}
-use Rattle.text.specs.Choice.{choose}
+use Rattle.text.specs.Booleans.{choose}
 use Rattle.token.specs.Table.{toks, kind, start, is}
 use Rattle.table.specs.Tree.{Span, Tree, count, size, startsAt}
 use Rattle.table.specs.declared.Join.the-variants.{Seq}
@@ -23,10 +23,10 @@ use Rattle.structure.specs.declared.Opening.{Opening}
 use Rattle.structure.specs.declared.Opening.the-variants.{Untied}
 use Rattle.structure.specs.declared.Bracket.{Bracket}
 use Rattle.structure.specs.declared.Bracket.the-variants.{Unopened, Nothing}
-use Rattle.structure.specs.declared.Tails.{Tails}
-use Rattle.structure.specs.declared.Tails.the-variants as Tails
+use Rattle.structure.specs.declared.PostfixEnds.{PostfixEnds}
+use Rattle.structure.specs.declared.PostfixEnds.the-variants as PostfixEnds
 use Rattle.structure.specs.Structure.{Parsed, got, refused, next, limit, join, closed, leafAt, Call, expr, term, node, chain, posts, place, Run}
-use Rattle.structure.specs.Answers.{unread, summary, wanted, openingOf, signs, Signed, bracketOf, Posted}
+use Rattle.structure.specs.Answers.{unread, summary, wanted, openingOf, predicates, Signed, bracketOf, Posted}
 use Rattle.structure.proofs.Steps.{choose-true, choose-false, inside-is, sees, misses, next-good, next-bad, next-assoc, next-on, opened-true, opened-false}
 use Rattle.structure.proofs.Sizes.{most, Grown, grown-none, grown-starts, count-closed, size-closed, count-more, size-more}
 use Rattle.structure.proofs.Fuel.{Went, went, held, heldSize}
@@ -166,28 +166,28 @@ module _ (level : Level) (s : List ℕ) (w : length s ≤ 65536) (o at : ℕ) wh
 
   module _ (p k b : ℕ) (v : Opened level s at p k b) (f : ℕ) (i : Signed s p f) where
     to-node : Run level s (term o at)
-        ≡ next (next (Run level s (node o f)) (λ t n. next (Run level s (posts t n)) (λ u m. got (finished s f u) m))) (λ t n. next (got (signs s p (f - p) t) n) (λ t n. got (v .wrap t) n))
+        ≡ next (next (Run level s (node o f)) (λ t n. next (Run level s (posts t n)) (λ u m. got (finished s f u) m))) (λ t n. next (got (predicates s p (f - p) t) n) (λ t n. got (v .wrap t) n))
     unfolding finished
     to-node =
         v .same o
         ∙ ap (λ (m : Parsed). next m (λ t n. got (v .wrap t) n))
-        (i .same level o ∙ ap (λ (m : Parsed). next m (λ t n. got (signs s p (f - p) t) n)) (signed-law level s o f ∙ choose-false (is s f 8) _ _ (i .noPos) ∙ choose-false (is s f 9) _ _ (i .noNeg)))
+        (i .same level o ∙ ap (λ (m : Parsed). next m (λ t n. got (predicates s p (f - p) t) n)) (signed-law level s o f ∙ choose-false (is s f 8) _ _ (i .noPos) ∙ choose-false (is s f 9) _ _ (i .noNeg)))
         ∙ next-assoc _ _ _
 
     pub term-refused : (r : Checked) (x : Refusal) → r ≡ summary (Run level s (node o f)) → r ≡ Checked.Refused x → Checked.Refused x ≡ summary (Run level s (term o at))
     term-refused r x e q = sum-refused (to-node ∙ next-bad _ _ (next-bad _ _ (bad _ r x e q)))
 
     pub term-read : (t u : Tree Span) (n z : ℕ) → Run level s (node o f) ≡ got t n → Run level s (posts t n) ≡ got u z
-        → Run level s (term o at) ≡ got (v .wrap (signs s p (f - p) (finished s f u))) z
+        → Run level s (term o at) ≡ got (v .wrap (predicates s p (f - p) (finished s f u))) z
     term-read t u n z e q = to-node ∙ next-good _ _ (next-good _ _ e ∙ next-good _ _ q) ∙ next-on _ _ _
 
-    module _ (r : Checked) (n k₁ b₁ : ℕ) (e : r ≡ summary (Run level s (node o f))) (q : r ≡ Checked.Good n k₁ b₁) (x : Tails) (j : Posted s n x) where
-      pub term-unposted : (y : Refusal) → x ≡ Tails.Bad y → Checked.Refused y ≡ summary (Run level s (term o at))
+    module _ (r : Checked) (n k₁ b₁ : ℕ) (e : r ≡ summary (Run level s (node o f))) (q : r ≡ Checked.Good n k₁ b₁) (x : PostfixEnds) (j : Posted s n x) where
+      pub term-unposted : (y : Refusal) → x ≡ PostfixEnds.Bad y → Checked.Refused y ≡ summary (Run level s (term o at))
       term-unposted y h =
           let (t, g, c, d) = good _ r n k₁ b₁ e q in
           sum-refused (to-node ∙ next-bad _ _ (next-good _ _ g ∙ next-bad _ _ (tails-bad _ t x y (j .around level t) h)))
 
-      module _ (z k₂ : ℕ) (h : x ≡ Tails.All z k₂) where
+      module _ (z k₂ : ℕ) (h : x ≡ PostfixEnds.All z k₂) where
         pub term-sums : length (toks s) ≤ 65536 → (k₁ + k₂ + (f - p) + k ≤ 65536) × (b₁ + b ≤ most * 65536)
         term-sums l =
             let (t, g, c, d) = good _ r n k₁ b₁ e q in
@@ -213,7 +213,7 @@ module _ (level : Level) (s : List ℕ) (w : length s ≤ 65536) (o at : ℕ) wh
             let y = finished s f u in
             let w₂ = finished-grown s f u in
             let w₃ = grown-signs s p (f - p) (finished s f u) in
-            let w₄ = v .grown (signs s p (f - p) (finished s f u)) in
+            let w₄ = v .grown (predicates s p (f - p) (finished s f u)) in
             sum-got z (k₁ + k₂ + (f - p) + k) (b₁ + b) (term-read t u n z g g₁) refl (omega arith) (omega arith)
 
   -- ---- a node

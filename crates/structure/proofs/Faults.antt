@@ -8,7 +8,7 @@ use native.Mathlib.Nat.{zero-add}
 use lib.Dec.{eqb}
 use lib.ListN.{length, take, drop}
 use borrow.Author.Tests.{eq-eqb, ne-eqb}
-use Rattle.text.specs.Choice.{choose, or}
+use Rattle.text.specs.Booleans.{choose, or}
 use Rattle.text.specs.Digits.{decimalOf}
 use Rattle.text.specs.Scans.{later}
 use Rattle.text.specs.declared.Decimal.{Decimal}
@@ -17,7 +17,7 @@ use Rattle.text.specs.declared.Check.{Check}
 use Rattle.text.specs.declared.Check.the-variants as Check
 use Rattle.literal.specs.Escapes.{escapeLook, badEscape}
 use Rattle.token.proofs.Bounds.{stop-at}
-use Rattle.token.specs.Table.{toks, kind, start, end, is, part, within, word}
+use Rattle.token.specs.Table.{toks, kind, start, end, is, between, trimmed, word}
 use Rattle.token.specs.Tokens.{pushLiteral}
 use Rattle.token.proofs.Table.{part-is, word-is}
 use Rattle.structure.proofs.Bytes.{inside-of}
@@ -26,7 +26,7 @@ use Rattle.structure.specs.declared.Level.the-variants.{Tagged, Plain}
 use Rattle.structure.specs.declared.Fault.{Fault}
 use Rattle.structure.specs.declared.Fault.the-variants.{Sound, Over, Zero, PeekRange, NotScalar, NotPlain}
 use Rattle.structure.specs.Tokens.{spells}
-use Rattle.structure.specs.Values.{integerOf, opening, inside, repeatFault, peekFault, literalFault, wordFault, numberFault, faultAt, orFault, faultsFrom, faults}
+use Rattle.structure.specs.Values.{integerOf, opening, literalBytes, repeatFault, peekFault, literalFault, wordFault, numberFault, faultAt, orFault, faultsFrom, faults}
 use Rattle.structure.proofs.Steps.{choose-true, choose-false, sees, misses, another, or-first, or-second, or-neither}
 use Rattle.structure.proofs.Sizes.{part-short}
 
@@ -40,7 +40,7 @@ module _ (s : List ℕ) (i x : ℕ) (e : x ≡ kind s i) (a z : ℕ) (f : a ≡ 
   integer-negative q h =
       let y : a + 1 ≡ start s i + 1 = omega arith in
       let w : z ≡ end s i - 0 = omega arith in
-      h ∙ ap (decimalOf 2147483648) (part-is s (a + 1) z ∙ ap (λ (n : ℕ). part s n z) y ∙ ap (part s (start s i + 1)) w) ∙ sym (choose-true (is s i 21) _ _ (sees s i x 21 e q))
+      h ∙ ap (decimalOf 2147483648) (part-is s (a + 1) z ∙ ap (λ (n : ℕ). between s n z) y ∙ ap (between s (start s i + 1)) w) ∙ sym (choose-true (is s i 21) _ _ (sees s i x 21 e q))
 
   pub integer-positive : (x ≡ 21 → ⊥) → r ≡ decimalOf 2147483647 (take (z - a) (drop a s)) → r ≡ integerOf s i
   integer-positive q h = number-is s i a z 2147483647 r f g h ∙ sym (choose-false (is s i 21) _ _ (misses s i x 21 e q))
@@ -110,17 +110,17 @@ bad-in xs k e =
     let (n, f, g, h) = stop-at escapeLook xs 0 k (ap (later 0) e ∙ ap Check.Bad (zero-add k)) in
     omega arith
 
-module _ (s : List ℕ) (i n a z : ℕ) (e : n ≡ opening s i) (f : a ≡ start s i + n) (g : z ≡ end s i - 1) (r : Check) (h : r ≡ badEscape (part s a z)) where
-  pub literal-sound : r ≡ Check.Good → Sound ≡ literalFault s i (badEscape (inside s i))
+module _ (s : List ℕ) (i n a z : ℕ) (e : n ≡ opening s i) (f : a ≡ start s i + n) (g : z ≡ end s i - 1) (r : Check) (h : r ≡ badEscape (between s a z)) where
+  pub literal-sound : r ≡ Check.Good → Sound ≡ literalFault s i (badEscape (literalBytes s i))
   literal-sound q = sym (ap (literalFault s i) (ap badEscape (sym (inside-of s i n a z e f g)) ∙ sym h ∙ q))
 
-  pub literal-bad : (k : ℕ) → r ≡ Check.Bad k → NotScalar (a + k) ≡ literalFault s i (badEscape (inside s i))
+  pub literal-bad : (k : ℕ) → r ≡ Check.Bad k → NotScalar (a + k) ≡ literalFault s i (badEscape (literalBytes s i))
   literal-bad k q =
       let y : a + k ≡ start s i + opening s i + k = omega arith in
       ap NotScalar y ∙ sym (ap (literalFault s i) (ap badEscape (sym (inside-of s i n a z e f g)) ∙ sym h ∙ q))
 
   pub literal-low : (k : ℕ) → r ≡ Check.Bad k → k < length s
-  literal-low k q = let m = bad-in (part s a z) k (sym h ∙ q) in let l = part-short s a z in omega arith
+  literal-low k q = let m = bad-in (between s a z) k (sym h ∙ q) in let l = part-short s a z in omega arith
 
 -- ---- a token's value
 
@@ -138,21 +138,21 @@ module _ (level : Level) (s : List ℕ) (before i x : ℕ) (e : x ≡ kind s i) 
   value-minus q h =
       h ∙ sym (choose-false (is s i 18) _ _ (another s i x 21 18 e q (λ m. omega arith)) ∙ choose-false (is s i 20) _ _ (another s i x 21 20 e q (λ m. omega arith)) ∙ choose-true (is s i 21) _ _ (sees s i x 21 e q))
 
-  literal-by : is s i 18 ≡ false → is s i 20 ≡ false → is s i 21 ≡ false → or (is s i 23) (or (is s i 24) (is s i 25)) ≡ true → r ≡ literalFault s i (badEscape (inside s i)) → r ≡ faultAt level s before i
+  literal-by : is s i 18 ≡ false → is s i 20 ≡ false → is s i 21 ≡ false → or (is s i 23) (or (is s i 24) (is s i 25)) ≡ true → r ≡ literalFault s i (badEscape (literalBytes s i)) → r ≡ faultAt level s before i
   unfolding faultAt
   literal-by a b c d h =
       h ∙ sym (choose-false (is s i 18) _ _ a ∙ choose-false (is s i 20) _ _ b ∙ choose-false (is s i 21) _ _ c ∙ choose-true (or (is s i 23) (or (is s i 24) (is s i 25))) _ _ d)
 
-  pub value-string : x ≡ 23 → r ≡ literalFault s i (badEscape (inside s i)) → r ≡ faultAt level s before i
+  pub value-string : x ≡ 23 → r ≡ literalFault s i (badEscape (literalBytes s i)) → r ≡ faultAt level s before i
   value-string q h =
       literal-by (another s i x 23 18 e q (λ m. omega arith)) (another s i x 23 20 e q (λ m. omega arith)) (another s i x 23 21 e q (λ m. omega arith)) (or-first (is s i 23) (or (is s i 24) (is s i 25)) (sees s i x 23 e q)) h
 
-  pub value-insens : x ≡ 24 → r ≡ literalFault s i (badEscape (inside s i)) → r ≡ faultAt level s before i
+  pub value-insens : x ≡ 24 → r ≡ literalFault s i (badEscape (literalBytes s i)) → r ≡ faultAt level s before i
   value-insens q h =
       literal-by (another s i x 24 18 e q (λ m. omega arith)) (another s i x 24 20 e q (λ m. omega arith)) (another s i x 24 21 e q (λ m. omega arith))
       (or-second (is s i 23) (or (is s i 24) (is s i 25)) (or-first (is s i 24) (is s i 25) (sees s i x 24 e q))) h
 
-  pub value-character : x ≡ 25 → r ≡ literalFault s i (badEscape (inside s i)) → r ≡ faultAt level s before i
+  pub value-character : x ≡ 25 → r ≡ literalFault s i (badEscape (literalBytes s i)) → r ≡ faultAt level s before i
   value-character q h =
       literal-by (another s i x 25 18 e q (λ m. omega arith)) (another s i x 25 20 e q (λ m. omega arith)) (another s i x 25 21 e q (λ m. omega arith))
       (or-second (is s i 23) (or (is s i 24) (is s i 25)) (or-second (is s i 24) (is s i 25) (sees s i x 25 e q))) h

@@ -6,7 +6,7 @@ use mathlib.Core.List.{List}
 use mathlib.Core.Option.{Option, none, some}
 use native.Mathlib.Omega.{arith}
 use lib.ListN.{length}
-use Rattle.text.specs.Choice.{choose}
+use Rattle.text.specs.Booleans.{choose}
 use Rattle.text.specs.Words.{push}
 use Rattle.token.specs.Table.{toks, start, end, is, word, label}
 use Rattle.token.specs.Tokens.{pushLiteral}
@@ -19,7 +19,7 @@ use Rattle.table.specs.declared.End.the-variants.{Open, At}
 use Rattle.structure.specs.declared.Level.{Level}
 use Rattle.structure.specs.Tokens.{across, spells}
 use Rattle.structure.specs.Values.{isInteger, integer, string, character}
-use Rattle.structure.specs.Structure.{Parsed, got, refused, next, want, join, closed, before, after, inTag, post, fromNumber, fromComma, postfixAt, sliceTo, slice, pushed, ranged, slices, leafAt, Call, expr, term, signed, node, chain, posts, body, place, weight, run, Run}
+use Rattle.structure.specs.Structure.{Parsed, got, refused, next, want, join, closed, prefixed, postfixed, inTag, post, fromNumber, fromComma, postfixAt, sliceTo, slice, pushed, ranged, slices, leafAt, Call, expr, term, signed, node, chain, posts, body, place, weight, run, Run}
 use Rattle.structure.proofs.Steps.{split, choose-cong, inside-is, want-cong, no-tree, next-got, next-cong, want-got, want-post, opened-got, opened-cong, posts-cong, posts-by}
 use Rattle.structure.proofs.Sizes.{most, word-short, label-short, string-short, Grown, grown-none, grown-ends, grown-starts, grown-before, grown-after, grown-tag, tag-small, count-closed, size-closed, count-more, size-more}
 
@@ -189,11 +189,11 @@ module _ (level : Level) (s : List ℕ) where
 
     -- a predicate, and what it stands before
     signed-went : (o at : ℕ) (v : Unary) (t : Tree Span) (n : ℕ) → at < length (toks s)
-        → next (go (signed o (at + 1))) (λ x m. got (before (start s at) (plain v) x) m) ≡ got t n → Went s (signed o at) t n
+        → next (go (signed o (at + 1))) (λ x m. got (prefixed (start s at) (plain v) x) m) ≡ got t n → Went s (signed o at) t n
     signed-went o at v t n h e =
         let (u, i, e₁, e₂) = next-got _ _ e in
         let p = ih (signed o (at + 1)) u i e₁ in
-        let a : before (start s at) (plain v) u ≡ t = cc in
+        let a : prefixed (start s at) (plain v) u ≡ t = cc in
         let b : i ≡ n = cc in
         let c = ap (count {P = Span}) a in
         let d = ap (size {P = Span}) a in
@@ -319,13 +319,13 @@ module _ (level : Level) (s : List ℕ) where
         (λ v e₀.
         let (v₁, m, e₁) = want-got s (at + 1) 6 _ (omega arith) e₀ in
         let (h, e₂) = opened-got o s (at + 1) _ e₁ in
-        bracket-went o at (at + 1 + 1) 1 (λ x m. before (start s at) (plain Push) x) t n (omega arith) (omega arith) (λ x m. grown-before (start s at) Push x) e₂)
+        bracket-went o at (at + 1 + 1) 1 (λ x m. prefixed (start s at) (plain Push) x) t n (omega arith) (omega arith) (λ x m. grown-before (start s at) Push x) e₂)
         (λ v e₀. leaf-goes o at t n (leaf-went s at o e₀))) e
     body-went (posts u at) t n e =
         posts-by (postfixAt s at) _ _
         (λ v m e₀ e₁.
         let h = postfix-past s at v m e₀ in
-        let q = ih (posts (after (end s (m - 1)) v u) m) t n e₁ in
+        let q = ih (posts (postfixed (end s (m - 1)) v u) m) t n e₁ in
         let g = grown-after (end s (m - 1)) v u in
         record {
           on = omega arith;
@@ -375,7 +375,7 @@ module _ (level : Level) (s : List ℕ) where
         (λ v. want-cong refused s (at + 1) 6 _ _ (omega arith) (λ m. opened-cong o s (at + 1) _ _ (next-cong _ _ _ _ (h (expr (o + 1) (at + 1 + 1)) (omega arith)) (λ t n e. refl))))
         (λ v. refl))
     body-cong (posts t at) h =
-        posts-cong (postfixAt s at) _ _ _ (λ v n e. let p = postfix-past s at v n e in h (posts (after (end s (n - 1)) v t) n) (omega arith))
+        posts-cong (postfixAt s at) _ _ _ (λ v n e. let p = postfix-past s at v n e in h (posts (postfixed (end s (n - 1)) v t) n) (omega arith))
 
   run-went : (k : ℕ) → Wents (run level s k)
   unfolding run

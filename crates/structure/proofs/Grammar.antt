@@ -3,7 +3,7 @@ use Prim.Native.Nat.{ℕ, _+_, _-_}
 use mathlib.Core.Path.{_≡_}
 use mathlib.Core.List.{List}
 use mathlib.Core.Option.{Option, none, some}
-use Rattle.text.specs.Choice.{choose}
+use Rattle.text.specs.Booleans.{choose}
 use Rattle.text.specs.Words.{push}
 use Rattle.token.specs.Table.{start, end, is, label}
 use Rattle.table.specs.Tree.{Span, plain, Tree, endsAt, startsAt}
@@ -11,7 +11,7 @@ use Rattle.table.specs.declared.Join.the-variants.{Seq}
 use Rattle.table.specs.declared.Unary.the-variants.{PosPred, NegPred, Push}
 use Rattle.structure.specs.declared.Level.{Level}
 use Rattle.structure.specs.Tokens.{spells}
-use Rattle.structure.specs.Structure.{got, refused, next, want, opened, join, closed, before, after, inTag, postfixAt, leafAt, postsBy, expr, term, signed, node, chain, posts, body, Run}
+use Rattle.structure.specs.Structure.{got, refused, next, want, opened, join, closed, prefixed, postfixed, inTag, postfixAt, leafAt, postsBy, expr, term, signed, node, chain, posts, body, Run}
 use Rattle.structure.proofs.Fuel.{law}
 
 module _ (level : Level) (s : List ℕ) where
@@ -32,8 +32,8 @@ module _ (level : Level) (s : List ℕ) where
   term-law o at = law level s (term o at)
 
   pub signed-law : (o at : ℕ) → Run level s (signed o at)
-      ≡ choose (is s at 8) (λ u. next (Run level s (signed o (at + 1))) (λ t n. got (before (start s at) (plain PosPred) t) n))
-      (λ u. choose (is s at 9) (λ u. next (Run level s (signed o (at + 1))) (λ t n. got (before (start s at) (plain NegPred) t) n))
+      ≡ choose (is s at 8) (λ u. next (Run level s (signed o (at + 1))) (λ t n. got (prefixed (start s at) (plain PosPred) t) n))
+      (λ u. choose (is s at 9) (λ u. next (Run level s (signed o (at + 1))) (λ t n. got (prefixed (start s at) (plain NegPred) t) n))
       (λ u. next (Run level s (node o at)) (λ t n. next (Run level s (posts t n)) (λ v m. got (choose (is s at 6) (λ u. startsAt v (start s at)) (λ u. v)) m))))
   unfolding body
   signed-law o at = law level s (signed o at)
@@ -42,12 +42,12 @@ module _ (level : Level) (s : List ℕ) where
       ≡ choose (is s at 6) (λ u. opened o s at (λ u. next (Run level s (expr (o + 1) (at + 1))) (λ t n. want refused s n 7 (λ m. got (endsAt t (end s n)) m))))
       (λ u. choose (spells push s at)
       (λ u. want refused s (at + 1) 6
-      (λ i. opened o s (at + 1) (λ u. next (Run level s (expr (o + 1) i)) (λ t n. want refused s n 7 (λ m. got (before (start s at) (plain Push) t) m)))))
+      (λ i. opened o s (at + 1) (λ u. next (Run level s (expr (o + 1) i)) (λ t n. want refused s n 7 (λ m. got (prefixed (start s at) (plain Push) t) m)))))
       (λ u. leafAt o s at))
   unfolding body
   node-law o at = law level s (node o at)
 
   pub posts-law : (t : Tree Span) (at : ℕ) → Run level s (posts t at)
-      ≡ postsBy (postfixAt s at) (λ v n. Run level s (posts (after (end s (n - 1)) v t) n)) (λ u. got t at)
+      ≡ postsBy (postfixAt s at) (λ v n. Run level s (posts (postfixed (end s (n - 1)) v t) n)) (λ u. got t at)
   unfolding body
   posts-law t at = law level s (posts t at)

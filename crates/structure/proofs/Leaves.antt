@@ -6,7 +6,7 @@ use mathlib.Core.List.{List}
 use native.Mathlib.Omega.{arith}
 use lib.ListN.{length}
 use borrow.Author.Tests.{le-leb, lt-leb}
-use Rattle.text.specs.Choice.{choose, and}
+use Rattle.text.specs.Booleans.{choose, and}
 use Rattle.token.specs.Table.{toks, kind, start, is, word}
 use Rattle.token.specs.Tokens.{pushLiteral}
 use Rattle.table.specs.Tree.{Span, Atom, text, range, peekSlice, leaf, below, stored, atomStored}
@@ -19,8 +19,8 @@ use Rattle.structure.specs.declared.Checked.{Checked}
 use Rattle.structure.specs.declared.Checked.the-variants as Checked
 use Rattle.structure.specs.declared.Wanted.{Wanted}
 use Rattle.structure.specs.declared.Wanted.the-variants.{Here, Missing}
-use Rattle.structure.specs.declared.Tail.{Tail}
-use Rattle.structure.specs.declared.Tail.the-variants as Tail
+use Rattle.structure.specs.declared.PostfixEnd.{PostfixEnd}
+use Rattle.structure.specs.declared.PostfixEnd.the-variants as PostfixEnd
 use Rattle.structure.specs.Tokens.{across, spells, peek}
 use Rattle.structure.specs.Values.{isInteger, integer, number, string, character}
 use Rattle.structure.specs.Structure.{Parsed, got, refused, want, limit, post, notPost, fromNumber, fromComma, postfixAt, sliceTo, slice, pushed, ranged, slices, leafAt}
@@ -31,22 +31,22 @@ use Rattle.structure.proofs.Wants.{wanted-on, wanted-off, tail-past, ta
 -- ---- postfixes
 
 module _ (s : List ℕ) (at x : ℕ) (e : x ≡ kind s (at + 1)) where
-  pub number-exact : x ≡ 3 → Tail.Past (at + 1 + 1) ≡ tailOf (fromNumber s at)
+  pub number-exact : x ≡ 3 → PostfixEnd.Past (at + 1 + 1) ≡ tailOf (fromNumber s at)
   unfolding fromNumber
   number-exact q = tail-past (choose-true (is s (at + 1) 3) _ _ (sees s (at + 1) x 3 e q)) (omega arith)
 
   module _ (q : x ≡ 3 → ⊥) (c : Wanted) (f : c ≡ wanted s (at + 1) 15) where
-    pub number-open : c ≡ Missing → (y : ℕ) → y ≡ start s (at + 1) → Tail.Bad (NotAllowed y) ≡ tailOf (fromNumber s at)
+    pub number-open : c ≡ Missing → (y : ℕ) → y ≡ start s (at + 1) → PostfixEnd.Bad (NotAllowed y) ≡ tailOf (fromNumber s at)
     unfolding fromNumber
     number-open g y z = tail-bad (choose-false (is s (at + 1) 3) _ _ (misses s (at + 1) x 3 e q) ∙ wanted-off notPost s (at + 1) 15 _ c y f g z)
 
     module _ (j : ℕ) (g : c ≡ Here j) (w : ℕ) (h : w ≡ kind s j) where
-      pub number-least : w ≡ 3 → Tail.Past (j + 1) ≡ tailOf (fromNumber s at)
+      pub number-least : w ≡ 3 → PostfixEnd.Past (j + 1) ≡ tailOf (fromNumber s at)
       unfolding fromNumber
       number-least l = tail-past (choose-false (is s (at + 1) 3) _ _ (misses s (at + 1) x 3 e q) ∙ wanted-on notPost s (at + 1) 15 _ c j f g ∙ choose-true (is s j 3) _ _ (sees s j w 3 h l)) refl
 
       module _ (l : w ≡ 3 → ⊥) (d : Wanted) (m : d ≡ wanted s j 20) where
-        pub number-comma : d ≡ Missing → (y : ℕ) → y ≡ start s j → Tail.Bad (NotAllowed y) ≡ tailOf (fromNumber s at)
+        pub number-comma : d ≡ Missing → (y : ℕ) → y ≡ start s j → PostfixEnd.Bad (NotAllowed y) ≡ tailOf (fromNumber s at)
         unfolding fromNumber
         number-comma n y z =
             tail-bad (choose-false (is s (at + 1) 3) _ _ (misses s (at + 1) x 3 e q) ∙ wanted-on notPost s (at + 1) 15 _ c j f g ∙ choose-false (is s j 3) _ _ (misses s j w 3 h l)
@@ -59,19 +59,19 @@ module _ (s : List ℕ) (at x : ℕ) (e : x ≡ kind s (at + 1)) where
               choose-false (is s (at + 1) 3) _ _ (misses s (at + 1) x 3 e q) ∙ wanted-on notPost s (at + 1) 15 _ c j f g ∙ choose-false (is s j 3) _ _ (misses s j w 3 h l)
               ∙ wanted-on notPost s j 20 _ d k m n
 
-          pub number-unclosed : b ≡ Missing → (y : ℕ) → y ≡ start s k → Tail.Bad (NotAllowed y) ≡ tailOf (fromNumber s at)
+          pub number-unclosed : b ≡ Missing → (y : ℕ) → y ≡ start s k → PostfixEnd.Bad (NotAllowed y) ≡ tailOf (fromNumber s at)
           number-unclosed p y z = tail-bad (rest ∙ wanted-off notPost s k 3 _ b y a p z)
 
-          pub number-both : (i : ℕ) → b ≡ Here i → Tail.Past i ≡ tailOf (fromNumber s at)
+          pub number-both : (i : ℕ) → b ≡ Here i → PostfixEnd.Past i ≡ tailOf (fromNumber s at)
           number-both i p = tail-past (rest ∙ wanted-on notPost s k 3 _ b i a p) refl
 
 module _ (s : List ℕ) (at : ℕ) (c : Wanted) (f : c ≡ wanted s at 15) where
-  pub comma-none : c ≡ Missing → (y : ℕ) → y ≡ start s at → Tail.Bad (NotAllowed y) ≡ tailOf (fromComma s at)
+  pub comma-none : c ≡ Missing → (y : ℕ) → y ≡ start s at → PostfixEnd.Bad (NotAllowed y) ≡ tailOf (fromComma s at)
   unfolding fromComma
   comma-none g y z = tail-bad (wanted-off notPost s at 15 _ c y f g z)
 
   module _ (j : ℕ) (g : c ≡ Here j) (d : Wanted) (m : d ≡ wanted s j 20) where
-    pub comma-bare : d ≡ Missing → (y : ℕ) → y ≡ start s j → Tail.Bad (NotAllowed y) ≡ tailOf (fromComma s at)
+    pub comma-bare : d ≡ Missing → (y : ℕ) → y ≡ start s j → PostfixEnd.Bad (NotAllowed y) ≡ tailOf (fromComma s at)
     unfolding fromComma
     comma-bare n y z = tail-bad (wanted-on notPost s at 15 _ c j f g ∙ wanted-off notPost s j 20 _ d y m n z)
 
@@ -80,25 +80,25 @@ module _ (s : List ℕ) (at : ℕ) (c : Wanted) (f : c ≡ wanted s at 15) where
       unfolding fromComma
       after-most = wanted-on notPost s at 15 _ c j f g ∙ wanted-on notPost s j 20 _ d k m n
 
-      pub comma-unclosed : b ≡ Missing → (y : ℕ) → y ≡ start s k → Tail.Bad (NotAllowed y) ≡ tailOf (fromComma s at)
+      pub comma-unclosed : b ≡ Missing → (y : ℕ) → y ≡ start s k → PostfixEnd.Bad (NotAllowed y) ≡ tailOf (fromComma s at)
       comma-unclosed p y z = tail-bad (after-most ∙ wanted-off notPost s k 3 _ b y a p z)
 
-      pub comma-most : (i : ℕ) → b ≡ Here i → Tail.Past i ≡ tailOf (fromComma s at)
+      pub comma-most : (i : ℕ) → b ≡ Here i → PostfixEnd.Past i ≡ tailOf (fromComma s at)
       comma-most i p = tail-past (after-most ∙ wanted-on notPost s k 3 _ b i a p) refl
 
 module _ (s : List ℕ) (at x : ℕ) (e : x ≡ kind s at) where
   pub post-in : (k : ℕ) → 0 < k → x ≡ k → at < length (toks s)
   post-in k h q = inside-is s at k h (sees s at x k e q)
 
-  pub post-opt : x ≡ 12 → Tail.Past (at + 1) ≡ tailOf (postfixAt s at)
+  pub post-opt : x ≡ 12 → PostfixEnd.Past (at + 1) ≡ tailOf (postfixAt s at)
   unfolding postfixAt
   post-opt q = tail-past (choose-true (is s at 12) _ _ (sees s at x 12 e q)) refl
 
-  pub post-rep : x ≡ 13 → Tail.Past (at + 1) ≡ tailOf (postfixAt s at)
+  pub post-rep : x ≡ 13 → PostfixEnd.Past (at + 1) ≡ tailOf (postfixAt s at)
   unfolding postfixAt
   post-rep q = tail-past (choose-false (is s at 12) _ _ (another s at x 13 12 e q (λ h. omega arith)) ∙ choose-true (is s at 13) _ _ (sees s at x 13 e q)) refl
 
-  pub post-once : x ≡ 14 → Tail.Past (at + 1) ≡ tailOf (postfixAt s at)
+  pub post-once : x ≡ 14 → PostfixEnd.Past (at + 1) ≡ tailOf (postfixAt s at)
   unfolding postfixAt
   post-once q =
       tail-past (choose-false (is s at 12) _ _ (another s at x 14 12 e q (λ h. omega arith)) ∙ choose-false (is s at 13) _ _ (another s at x 14 13 e q (λ h. omega arith)) ∙ choose-true (is s at 14) _ _ (sees s at x 14 e q)) refl
@@ -110,13 +110,13 @@ module _ (s : List ℕ) (at x : ℕ) (e : x ≡ kind s at) where
         choose-false (is s at 12) _ _ (another s at x 2 12 e q (λ h. omega arith)) ∙ choose-false (is s at 13) _ _ (another s at x 2 13 e q (λ h. omega arith)) ∙ choose-false (is s at 14) _ _ (another s at x 2 14 e q (λ h. omega arith))
         ∙ choose-true (is s at 2) _ _ (sees s at x 2 e q)
 
-    pub post-number : w ≡ 20 → (r : Tail) → r ≡ tailOf (fromNumber s (at + 1)) → r ≡ tailOf (postfixAt s at)
+    pub post-number : w ≡ 20 → (r : PostfixEnd) → r ≡ tailOf (fromNumber s (at + 1)) → r ≡ tailOf (postfixAt s at)
     post-number g r h = h ∙ ap tailOf (sym (braced ∙ choose-true (is s (at + 1) 20) _ _ (sees s (at + 1) w 20 f g)))
 
-    pub post-comma : (w ≡ 20 → ⊥) → (r : Tail) → r ≡ tailOf (fromComma s (at + 1)) → r ≡ tailOf (postfixAt s at)
+    pub post-comma : (w ≡ 20 → ⊥) → (r : PostfixEnd) → r ≡ tailOf (fromComma s (at + 1)) → r ≡ tailOf (postfixAt s at)
     post-comma g r h = h ∙ ap tailOf (sym (braced ∙ choose-false (is s (at + 1) 20) _ _ (misses s (at + 1) w 20 f g)))
 
-  pub post-none : (x ≡ 12 → ⊥) → (x ≡ 13 → ⊥) → (x ≡ 14 → ⊥) → (x ≡ 2 → ⊥) → Tail.Ended ≡ tailOf (postfixAt s at)
+  pub post-none : (x ≡ 12 → ⊥) → (x ≡ 13 → ⊥) → (x ≡ 14 → ⊥) → (x ≡ 2 → ⊥) → PostfixEnd.Ended ≡ tailOf (postfixAt s at)
   unfolding postfixAt
   post-none a b c d =
       tail-ended (choose-false (is s at 12) _ _ (misses s at x 12 e a) ∙ choose-false (is s at 13) _ _ (misses s at x 13 e b) ∙ choose-false (is s at 14) _ _ (misses s at x 14 e c) ∙ choose-false (is s at 2) _ _ (misses s at x 2 e d))

@@ -7,9 +7,9 @@ use native.Mathlib.Omega.{arith}
 use lib.Dec.{leb, eqb}
 use lib.ListN.{length, take, drop, length-append}
 use borrow.Author.Tests.{le-leb, lt-leb, eq-eqb, ne-eqb}
-use Rattle.text.specs.Choice.{choose, and}
+use Rattle.text.specs.Booleans.{choose, and}
 use Rattle.text.specs.Words.{begins, push}
-use Rattle.token.specs.Table.{toks, kind, start, end, is, part, word}
+use Rattle.token.specs.Table.{toks, kind, start, end, is, between, word}
 use Rattle.token.proofs.Table.{word-is}
 use Rattle.table.specs.Tree.{Span, Tree, Rule, count, counts, stored, size, ruleStored, rulesStored}
 use Rattle.structure.specs.declared.Level.{Level}
@@ -22,7 +22,7 @@ use Rattle.structure.specs.declared.Counted.the-variants as Counted
 use Rattle.structure.specs.declared.Wanted.{Wanted}
 use Rattle.structure.specs.declared.Wanted.the-variants.{Here, Missing}
 use Rattle.structure.specs.Tokens.{across, same, spells}
-use Rattle.structure.specs.Structure.{Parsed, got, refused, want, expr, Run, isName, silent, markAt, pastMark, pastBar, Ruled, rules, unruled, withRule, Ruling, ruling, noRule, ruleOf, thenRules, ruleAt, rulesIn, docsIn, docs, grammar}
+use Rattle.structure.specs.Structure.{Parsed, got, refused, want, expr, Run, isName, silent, markAt, pastMark, pastBar, Ruled, rules, unruled, withRule, Ruling, ruling, noRule, ruleOf, thenRules, ruleFrom, rulesUpTo, docsIn, docs, grammar}
 use Rattle.structure.specs.Answers.{summary, wanted, ruleSummary, summaries}
 use Rattle.structure.proofs.Steps.{choose-true, choose-false, split, inside-is, sees, misses, another, spells-in, spells-kind, and-left}
 use Rattle.structure.proofs.Sizes.{most, word-short}
@@ -36,7 +36,7 @@ module _ (s : List ℕ) (i x : ℕ) (e : x ≡ kind s i) where
   name-other q = sym (ap (λ (b : Bool). and b (not (begins push (word s i)))) (misses s i x 18 e q))
 
   pub name-by : x ≡ 18 → (a z : ℕ) → a ≡ start s i → z ≡ end s i → (r : Bool) → r ≡ begins push (take (z - a) (drop a s)) → not r ≡ isName s i
-  unfolding part
+  unfolding between
   name-by q a z f g r h =
       let w = word-is s i a z f g in
       ap not (h ∙ ap (begins push) w) ∙ sym (ap (λ (b : Bool). and b (not (begins push (word s i)))) (sees s i x 18 e q))
@@ -131,9 +131,9 @@ unfolding ruleStored
 size-rule r = length-append (r .name) (stored (r .tree))
 
 -- where a rule ends, and that it isn't large
-pub rule-went : (level : Level) (s : List ℕ) (at : ℕ) (r : Rule Span) (n : ℕ) → length s ≤ 65536 → ruleAt level s at ≡ ruling r n
+pub rule-went : (level : Level) (s : List ℕ) (at : ℕ) (r : Rule Span) (n : ℕ) → length s ≤ 65536 → ruleFrom level s at ≡ ruling r n
     → (at + count (r .tree) < n) × (n ≤ length (toks s)) × (length (ruleStored r) ≤ most * count (r .tree) + most)
-unfolding ruleAt
+unfolding ruleFrom
 rule-went level s at r n w e =
     split (isName s at) _ _
     (λ v e₀.
@@ -174,44 +174,44 @@ unfolding ruleSummary
 sum-ruled {u = u} {n = n} k b e q w = ap (λ (x : ℕ). Checked.Good n x b) q ∙ ap (Checked.Good n (count (u .tree))) w ∙ sym (ap ruleSummary e)
 
 module _ (level : Level) (s : List ℕ) (at : ℕ) (b : Bool) (e : b ≡ isName s at) where
-  pub rule-unnamed : b ≡ false → (y : ℕ) → y ≡ start s at → Checked.Refused (NotAllowed y) ≡ ruleSummary (ruleAt level s at)
-  unfolding ruleAt
+  pub rule-unnamed : b ≡ false → (y : ℕ) → y ≡ start s at → Checked.Refused (NotAllowed y) ≡ ruleSummary (ruleFrom level s at)
+  unfolding ruleFrom
   rule-unnamed q y z = ap (λ (n : ℕ). Checked.Refused (NotAllowed n)) z ∙ sum-unruled (choose-false (isName s at) _ _ (sym e ∙ q))
 
   module _ (q : b ≡ true) (a : Wanted) (f : a ≡ wanted s (at + 1) 1) where
-    pub rule-untied : a ≡ Missing → (y : ℕ) → y ≡ start s (at + 1) → Checked.Refused (NotAllowed y) ≡ ruleSummary (ruleAt level s at)
-    unfolding ruleAt
+    pub rule-untied : a ≡ Missing → (y : ℕ) → y ≡ start s (at + 1) → Checked.Refused (NotAllowed y) ≡ ruleSummary (ruleFrom level s at)
+    unfolding ruleFrom
     rule-untied g y z = sum-unruled (choose-true (isName s at) _ _ (sym e ∙ q) ∙ wanted-off noRule s (at + 1) 1 _ a y f g z)
 
     module _ (i : ℕ) (g : a ≡ Here i) (p : ℕ) (h : p ≡ pastMark s i) (c : Wanted) (l : c ≡ wanted s p 2) where
-      to-brace : ruleAt level s at
+      to-brace : ruleFrom level s at
           ≡ want noRule s p 2
           (λ j. ruleOf (Run level s (expr 0 (pastBar s j))) (λ t n. want noRule s n 3 (λ m. ruling (record { name = word s at; mark = markAt s i; tree = t; place = across s at at }) m)))
-      unfolding ruleAt
+      unfolding ruleFrom
       to-brace =
           choose-true (isName s at) _ _ (sym e ∙ q) ∙ wanted-on noRule s (at + 1) 1 _ a i f g
           ∙ ap
           (λ (x : ℕ). want noRule s x 2 (λ j. ruleOf (Run level s (expr 0 (pastBar s j))) (λ t n. want noRule s n 3 (λ m. ruling (record { name = word s at; mark = markAt s i; tree = t; place = across s at at }) m))))
           (sym h)
 
-      pub rule-unbraced : c ≡ Missing → (y : ℕ) → y ≡ start s p → Checked.Refused (NotAllowed y) ≡ ruleSummary (ruleAt level s at)
+      pub rule-unbraced : c ≡ Missing → (y : ℕ) → y ≡ start s p → Checked.Refused (NotAllowed y) ≡ ruleSummary (ruleFrom level s at)
       rule-unbraced m y z = sum-unruled (to-brace ∙ wanted-off noRule s p 2 _ c y l m z)
 
       module _ (j : ℕ) (m : c ≡ Here j) (t : ℕ) (o : t ≡ pastBar s j) (r : Checked) (u : r ≡ summary (Run level s (expr 0 t))) where
-        to-body : ruleAt level s at
+        to-body : ruleFrom level s at
             ≡ ruleOf (Run level s (expr 0 t)) (λ t n. want noRule s n 3 (λ m. ruling (record { name = word s at; mark = markAt s i; tree = t; place = across s at at }) m))
         to-body =
             to-brace ∙ wanted-on noRule s p 2 _ c j l m
             ∙ ap (λ (x : ℕ). ruleOf (Run level s (expr 0 x)) (λ t n. want noRule s n 3 (λ m. ruling (record { name = word s at; mark = markAt s i; tree = t; place = across s at at }) m))) (sym o)
 
-        pub rule-refused : (x : Refusal) → r ≡ Checked.Refused x → Checked.Refused x ≡ ruleSummary (ruleAt level s at)
+        pub rule-refused : (x : Refusal) → r ≡ Checked.Refused x → Checked.Refused x ≡ ruleSummary (ruleFrom level s at)
         rule-refused x v = sum-unruled (to-body ∙ rule-bad _ _ (bad _ r x u v))
 
         module _ (n k b₁ : ℕ) (v : r ≡ Checked.Good n k b₁) (d : Wanted) (w : d ≡ wanted s n 3) where
-          pub rule-unclosed : d ≡ Missing → (y : ℕ) → y ≡ start s n → Checked.Refused (NotAllowed y) ≡ ruleSummary (ruleAt level s at)
+          pub rule-unclosed : d ≡ Missing → (y : ℕ) → y ≡ start s n → Checked.Refused (NotAllowed y) ≡ ruleSummary (ruleFrom level s at)
           rule-unclosed x y z = let (t₁, g₁, c₁, d₁) = good _ r n k b₁ u v in sum-unruled (to-body ∙ rule-good _ _ g₁ ∙ wanted-off noRule s n 3 _ d y w x z)
 
-          pub rule-read : (z : ℕ) → d ≡ Here z → (y : ℕ) → y ≡ length (word s at) → Checked.Good z k (y + b₁) ≡ ruleSummary (ruleAt level s at)
+          pub rule-read : (z : ℕ) → d ≡ Here z → (y : ℕ) → y ≡ length (word s at) → Checked.Good z k (y + b₁) ≡ ruleSummary (ruleFrom level s at)
           rule-read z x y h₁ =
               let (t₁, g₁, c₁, d₁) = good _ r n k b₁ u v in
               let d₂ = size-rule (record { name = word s at; mark = markAt s i; tree = t₁; place = across s at at }) in
@@ -273,26 +273,26 @@ with-sum r (rules rs) =
 with-sum r (unruled x) = refl
 
 module _ (level : Level) (s : List ℕ) where
-  pub rules-end : (k at : ℕ) → length (toks s) ≤ at → rulesIn level s k at ≡ rules []
-  unfolding rulesIn
+  pub rules-end : (k at : ℕ) → length (toks s) ≤ at → rulesUpTo level s k at ≡ rules []
+  unfolding rulesUpTo
   rules-end zero at h = refl
   rules-end (suc k) at h = choose-true (leb (length (toks s)) at) _ _ (le-leb (length (toks s)) at h)
 
-  pub rules-doc : (k at : ℕ) → at < length (toks s) → is s at 27 ≡ true → rulesIn level s (suc k) at ≡ rulesIn level s k (at + 1)
-  unfolding rulesIn
+  pub rules-doc : (k at : ℕ) → at < length (toks s) → is s at 27 ≡ true → rulesUpTo level s (suc k) at ≡ rulesUpTo level s k (at + 1)
+  unfolding rulesUpTo
   rules-doc k at h e = choose-false (leb (length (toks s)) at) _ _ (lt-leb (length (toks s)) at h) ∙ choose-true (is s at 27) _ _ e
 
-  pub rules-rule : (k at : ℕ) → at < length (toks s) → is s at 27 ≡ false → rulesIn level s (suc k) at ≡ thenRules (ruleAt level s at) (λ r n. withRule r (rulesIn level s k n))
-  unfolding rulesIn
+  pub rules-rule : (k at : ℕ) → at < length (toks s) → is s at 27 ≡ false → rulesUpTo level s (suc k) at ≡ thenRules (ruleFrom level s at) (λ r n. withRule r (rulesUpTo level s k n))
+  unfolding rulesUpTo
   rules-rule k at h e = choose-false (leb (length (toks s)) at) _ _ (lt-leb (length (toks s)) at h) ∙ choose-false (is s at 27) _ _ e
 
-  pub rule-then : (at k : ℕ) {r : Rule Span} {n : ℕ} → ruleAt level s at ≡ ruling r n → thenRules (ruleAt level s at) (λ r n. withRule r (rulesIn level s k n)) ≡ withRule r (rulesIn level s k n)
+  pub rule-then : (at k : ℕ) {r : Rule Span} {n : ℕ} → ruleFrom level s at ≡ ruling r n → thenRules (ruleFrom level s at) (λ r n. withRule r (rulesUpTo level s k n)) ≡ withRule r (rulesUpTo level s k n)
   unfolding thenRules
-  rule-then at k e = ap (λ (x : Ruling). thenRules x (λ r n. withRule r (rulesIn level s k n))) e
+  rule-then at k e = ap (λ (x : Ruling). thenRules x (λ r n. withRule r (rulesUpTo level s k n))) e
 
-  pub rule-else : (at k : ℕ) {x : Refusal} → ruleAt level s at ≡ noRule x → thenRules (ruleAt level s at) (λ r n. withRule r (rulesIn level s k n)) ≡ unruled x
+  pub rule-else : (at k : ℕ) {x : Refusal} → ruleFrom level s at ≡ noRule x → thenRules (ruleFrom level s at) (λ r n. withRule r (rulesUpTo level s k n)) ≡ unruled x
   unfolding thenRules
-  rule-else at k e = ap (λ (x : Ruling). thenRules x (λ r n. withRule r (rulesIn level s k n))) e
+  rule-else at k e = ap (λ (x : Ruling). thenRules x (λ r n. withRule r (rulesUpTo level s k n))) e
 
   -- what was counted up to an index
   pub record RulesInv (i a b c : ℕ) : Type 0 where
@@ -302,7 +302,7 @@ module _ (level : Level) (s : List ℕ) where
     pub rules : a ≤ i
     pub nodes : b ≤ i
     pub bytes : c ≤ most * i
-    pub same : summaries (grammar level s) ≡ plus a b c (summaries (rulesIn level s fuel i))
+    pub same : summaries (grammar level s) ≡ plus a b c (summaries (rulesUpTo level s fuel i))
 
   pub grammar-none : (i : ℕ) → i ≡ docs s → length (toks s) ≤ i → Counted.Refused (NotAllowed (length s)) ≡ summaries (grammar level s)
   unfolding grammar summaries
@@ -318,8 +318,8 @@ module _ (level : Level) (s : List ℕ) where
     nodes = omega arith;
     bytes = omega arith;
     same =
-        ap summaries (choose-false (leb (length (toks s)) (docs s)) _ _ (lt-leb (length (toks s)) (docs s) (omega arith)) ∙ ap (rulesIn level s (length (toks s))) (sym e))
-        ∙ sym (plus-none (summaries (rulesIn level s (length (toks s)) i)));
+        ap summaries (choose-false (leb (length (toks s)) (docs s)) _ _ (lt-leb (length (toks s)) (docs s) (omega arith)) ∙ ap (rulesUpTo level s (length (toks s))) (sym e))
+        ∙ sym (plus-none (summaries (rulesUpTo level s (length (toks s)) i)));
   }
 
   pub grammar-done : (i a b c : ℕ) → length (toks s) ≤ i → RulesInv i a b c → Counted.Rules a b c ≡ summaries (grammar level s)
@@ -330,7 +330,7 @@ module _ (level : Level) (s : List ℕ) where
   pub grammar-doc : (i a b c x : ℕ) → i < length (toks s) → x ≡ kind s i → x ≡ 27 → RulesInv i a b c → RulesInv (i + 1) a b c
   grammar-doc i a b c x h e q v = go (v .fuel) (v .enough) (v .same)
     where
-      go : (k : ℕ) → length (toks s) ≤ i + k → summaries (grammar level s) ≡ plus a b c (summaries (rulesIn level s k i)) → RulesInv (i + 1) a b c
+      go : (k : ℕ) → length (toks s) ≤ i + k → summaries (grammar level s) ≡ plus a b c (summaries (rulesUpTo level s k i)) → RulesInv (i + 1) a b c
       go zero l g = absurd (omega arith)
       go (suc k) l g = record {
         fuel = k;
@@ -342,24 +342,24 @@ module _ (level : Level) (s : List ℕ) where
         same = g ∙ ap (λ (m : Ruled). plus a b c (summaries m)) (rules-doc k i h (sees s i x 27 e q));
       }
 
-  pub grammar-refused : (i a b c x : ℕ) → i < length (toks s) → x ≡ kind s i → (x ≡ 27 → ⊥) → RulesInv i a b c → (r : Checked) (y : Refusal) → r ≡ ruleSummary (ruleAt level s i) → r ≡ Checked.Refused y
+  pub grammar-refused : (i a b c x : ℕ) → i < length (toks s) → x ≡ kind s i → (x ≡ 27 → ⊥) → RulesInv i a b c → (r : Checked) (y : Refusal) → r ≡ ruleSummary (ruleFrom level s i) → r ≡ Checked.Refused y
       → Counted.Refused y ≡ summaries (grammar level s)
   unfolding summaries plus
   grammar-refused i a b c x h e q v r y f g = go (v .fuel) (v .enough) (v .same)
     where
-      go : (k : ℕ) → length (toks s) ≤ i + k → summaries (grammar level s) ≡ plus a b c (summaries (rulesIn level s k i)) → Counted.Refused y ≡ summaries (grammar level s)
+      go : (k : ℕ) → length (toks s) ≤ i + k → summaries (grammar level s) ≡ plus a b c (summaries (rulesUpTo level s k i)) → Counted.Refused y ≡ summaries (grammar level s)
       go zero l w = absurd (omega arith)
       go (suc k) l w =
-          sym (w ∙ ap (λ (m : Ruled). plus a b c (summaries m)) (rules-rule k i h (misses s i x 27 e q) ∙ rule-else i k (was-unruled (ruleAt level s i) r y f g)))
+          sym (w ∙ ap (λ (m : Ruled). plus a b c (summaries m)) (rules-rule k i h (misses s i x 27 e q) ∙ rule-else i k (was-unruled (ruleFrom level s i) r y f g)))
 
   pub grammar-more : length s ≤ 65536 → (i a b c x : ℕ) → i < length (toks s) → x ≡ kind s i → (x ≡ 27 → ⊥) → RulesInv i a b c
-      → (r : Checked) (n k₁ b₁ : ℕ) → r ≡ ruleSummary (ruleAt level s i) → r ≡ Checked.Good n k₁ b₁ → (i < n) × RulesInv n (a + 1) (b + k₁) (c + b₁)
+      → (r : Checked) (n k₁ b₁ : ℕ) → r ≡ ruleSummary (ruleFrom level s i) → r ≡ Checked.Good n k₁ b₁ → (i < n) × RulesInv n (a + 1) (b + k₁) (c + b₁)
   grammar-more t i a b c x h e q v r n k₁ b₁ f g = go (v .fuel) (v .enough) (v .same)
     where
-      go : (k : ℕ) → length (toks s) ≤ i + k → summaries (grammar level s) ≡ plus a b c (summaries (rulesIn level s k i)) → (i < n) × RulesInv n (a + 1) (b + k₁) (c + b₁)
+      go : (k : ℕ) → length (toks s) ≤ i + k → summaries (grammar level s) ≡ plus a b c (summaries (rulesUpTo level s k i)) → (i < n) × RulesInv n (a + 1) (b + k₁) (c + b₁)
       go zero l w = absurd (omega arith)
       go (suc k) l w =
-          let (u, m, o, p) = was-ruled (ruleAt level s i) r n k₁ b₁ f g in
+          let (u, m, o, p) = was-ruled (ruleFrom level s i) r n k₁ b₁ f g in
           let y = rule-went level s i u n t m in
           let v₁ = v .rules in
           let v₂ = v .nodes in
@@ -373,9 +373,9 @@ module _ (level : Level) (s : List ℕ) where
               nodes = omega arith;
               bytes = omega arith;
               same =
-                  w ∙ ap (λ (m : Ruled). plus a b c (summaries m)) (rules-rule k i h (misses s i x 27 e q) ∙ rule-then i k m) ∙ ap (plus a b c) (with-sum u (rulesIn level s k n))
-                  ∙ plus-plus a b c 1 (count (u .tree)) (length (ruleStored u)) (summaries (rulesIn level s k n))
-                  ∙ ap (λ (j : ℕ). plus (a + 1) (b + j) (c + length (ruleStored u)) (summaries (rulesIn level s k n))) o
-                  ∙ ap (λ (j : ℕ). plus (a + 1) (b + k₁) (c + j) (summaries (rulesIn level s k n))) p;
+                  w ∙ ap (λ (m : Ruled). plus a b c (summaries m)) (rules-rule k i h (misses s i x 27 e q) ∙ rule-then i k m) ∙ ap (plus a b c) (with-sum u (rulesUpTo level s k n))
+                  ∙ plus-plus a b c 1 (count (u .tree)) (length (ruleStored u)) (summaries (rulesUpTo level s k n))
+                  ∙ ap (λ (j : ℕ). plus (a + 1) (b + j) (c + length (ruleStored u)) (summaries (rulesUpTo level s k n))) o
+                  ∙ ap (λ (j : ℕ). plus (a + 1) (b + k₁) (c + j) (summaries (rulesUpTo level s k n))) p;
             },
           )

@@ -12,16 +12,16 @@ use Rattle.text.proofs.Tests.{choose-by}
 use Rattle.literal.specs.Escapes.{escapeOf, escapePieceBy, escapePiece, unescaped}
 use Rattle.literal.specs.declared.Escape.{Escape}
 use Rattle.literal.specs.declared.Escape.the-variants as Escape
-use Rattle.token.specs.Table.{start, end, part, word, label}
+use Rattle.token.specs.Table.{start, end, between, word, label}
 use Rattle.table.specs.Tree.{Span, Wrap, plain, nodeTag, Tree, leaf, one, two, below, count, stored, size, wrapStored, placeOf, placed, endsAt, startsAt}
 use Rattle.table.specs.declared.Join.{Join}
 use Rattle.table.specs.declared.Join.the-variants.{Seq, Choice}
 use Rattle.table.specs.declared.Unary.{Unary}
 use Rattle.structure.specs.declared.Level.{Level}
 use Rattle.structure.specs.declared.Level.the-variants.{Tagged, Plain}
-use Rattle.structure.specs.Values.{inside, opening, string}
+use Rattle.structure.specs.Values.{literalBytes, opening, string}
 use Rattle.structure.specs.Answers.{tagNodes, tagBytes}
-use Rattle.structure.specs.Structure.{join, closed, before, after, inTag}
+use Rattle.structure.specs.Structure.{join, closed, prefixed, postfixed, inTag}
 
 -- ---- texts
 
@@ -53,8 +53,8 @@ pub unescaped-short : (s : List ℕ) → length (unescaped s) ≤ 4 * length s
 unfolding unescaped
 unescaped-short s = spelled-short escapePiece (λ x xs. piece-short (x ∷ xs) (escapeOf (x ∷ xs))) 0 s
 
-pub part-short : (s : List ℕ) (a z : ℕ) → length (part s a z) ≤ length s
-unfolding part
+pub part-short : (s : List ℕ) (a z : ℕ) → length (between s a z) ≤ length s
+unfolding between
 part-short s a z = omega (arith, length-take (z - a) (drop a s), length-drop a s)
 
 pub word-short : (s : List ℕ) (i : ℕ) → length (word s i) ≤ length s
@@ -69,7 +69,7 @@ pub string-short : (s : List ℕ) (i : ℕ) → length (string s i) ≤ 4 * leng
 unfolding string
 string-short s i =
     let l = part-short s (start s i + opening s i) (end s i - 1) in
-    let m = unescaped-short (inside s i) in
+    let m = unescaped-short (literalBytes s i) in
     omega arith
 
 -- ---- trees
@@ -122,16 +122,16 @@ grown-one p w t =
     let b = size-one p w t in
     record { counts = omega arith; sizes = omega arith }
 
-pub grown-before : (a : ℕ) (u : Unary) (t : Tree Span) → Grown t (before a (plain u) t) 1 0
-unfolding before
+pub grown-before : (a : ℕ) (u : Unary) (t : Tree Span) → Grown t (prefixed a (plain u) t) 1 0
+unfolding prefixed
 grown-before a u t = grown-one (record { start = a; stop = placeOf t .stop }) (plain u) t
 
-pub grown-after : (z : ℕ) (u : Unary) (t : Tree Span) → Grown t (after z u t) 1 0
-unfolding after
+pub grown-after : (z : ℕ) (u : Unary) (t : Tree Span) → Grown t (postfixed z u t) 1 0
+unfolding postfixed
 grown-after z u t = grown-one (record { start = placeOf t .start; stop = z }) (plain u) t
 
 pub grown-tag : (level : Level) (a : ℕ) (b : List ℕ) (t : Tree Span) → Grown t (inTag level a b t) (tagNodes level) (tagBytes level (length b))
-unfolding inTag before
+unfolding inTag prefixed
 grown-tag Tagged a b t = grown-one (record { start = a; stop = placeOf t .stop }) (nodeTag b) t
 grown-tag Plain a b t = grown-none t
 

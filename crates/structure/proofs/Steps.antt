@@ -8,7 +8,7 @@ use native.Mathlib.Decide.{decLt}
 use lib.Dec.{leb}
 use lib.ListN.{length, List·getD-eq-default}
 use borrow.Author.Tests.{eqb-true, eq-eqb, ne-eqb}
-use Rattle.text.specs.Choice.{choose, and, or}
+use Rattle.text.specs.Booleans.{choose, and, or}
 use Rattle.token.specs.Lists.{tok, kindOf}
 use Rattle.token.specs.Table.{toks, tokOf, kind, start, is, word}
 use Rattle.table.specs.Tree.{Span, Tree}

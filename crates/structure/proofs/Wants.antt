@@ -6,7 +6,7 @@ use mathlib.Core.List.{List, [], _∷_}
 use native.Mathlib.Omega.{arith}
 use native.Mathlib.Decide.{decLt}
 use lib.ListN.{length}
-use Rattle.text.specs.Choice.{choose}
+use Rattle.text.specs.Booleans.{choose}
 use Rattle.token.specs.Lists.{Tok, tok, placeFrom}
 use Rattle.token.specs.Table.{toks, kind, start, is}
 use Rattle.token.proofs.Lists.{Ordered, ordered}
@@ -18,8 +18,8 @@ use Rattle.structure.specs.declared.Checked.{Checked}
 use Rattle.structure.specs.declared.Checked.the-variants as Checked
 use Rattle.structure.specs.declared.Wanted.{Wanted}
 use Rattle.structure.specs.declared.Wanted.the-variants.{Here, Missing}
-use Rattle.structure.specs.declared.Tail.{Tail}
-use Rattle.structure.specs.declared.Tail.the-variants as Tail
+use Rattle.structure.specs.declared.PostfixEnd.{PostfixEnd}
+use Rattle.structure.specs.declared.PostfixEnd.the-variants as PostfixEnd
 use Rattle.structure.specs.Structure.{Parsed, got, refused, want, Postfix, post, notPost, noPost}
 use Rattle.structure.specs.Answers.{unread, summary, wanted, tailOf}
 use Rattle.structure.proofs.Steps.{choose-true, choose-false, inside-is, sees, misses, want-true, want-false}
@@ -64,31 +64,31 @@ wanted-off fail s i k f r y e q z = want-false fail s i k f (was-missing s i k r
 
 -- ---- postfixes
 
-pub tail-past : {p : Postfix} {v : Unary} {n m : ℕ} → p ≡ post v n → m ≡ n → Tail.Past m ≡ tailOf p
+pub tail-past : {p : Postfix} {v : Unary} {n m : ℕ} → p ≡ post v n → m ≡ n → PostfixEnd.Past m ≡ tailOf p
 unfolding tailOf
-tail-past e f = ap Tail.Past f ∙ sym (ap tailOf e)
+tail-past e f = ap PostfixEnd.Past f ∙ sym (ap tailOf e)
 
-pub tail-bad : {p : Postfix} {r : Refusal} → p ≡ notPost r → Tail.Bad r ≡ tailOf p
+pub tail-bad : {p : Postfix} {r : Refusal} → p ≡ notPost r → PostfixEnd.Bad r ≡ tailOf p
 unfolding tailOf
 tail-bad e = sym (ap tailOf e)
 
-pub tail-ended : {p : Postfix} → p ≡ noPost → Tail.Ended ≡ tailOf p
+pub tail-ended : {p : Postfix} → p ≡ noPost → PostfixEnd.Ended ≡ tailOf p
 unfolding tailOf
 tail-ended e = sym (ap tailOf e)
 
-pub was-past : (p : Postfix) (r : Tail) (n : ℕ) → r ≡ tailOf p → r ≡ Tail.Past n → (v : Unary) × (p ≡ post v n)
+pub was-past : (p : Postfix) (r : PostfixEnd) (n : ℕ) → r ≡ tailOf p → r ≡ PostfixEnd.Past n → (v : Unary) × (p ≡ post v n)
 unfolding tailOf
 was-past (post v m) r n e q = let z : m ≡ n = cc in (v, ap (post v) z)
 was-past (notPost x) r n e q = let z : _≡_ {A = ℕ} 0 1 = cc in absurd (omega arith)
 was-past noPost r n e q = let z : _≡_ {A = ℕ} 0 1 = cc in absurd (omega arith)
 
-pub was-bad : (p : Postfix) (r : Tail) (x : Refusal) → r ≡ tailOf p → r ≡ Tail.Bad x → p ≡ notPost x
+pub was-bad : (p : Postfix) (r : PostfixEnd) (x : Refusal) → r ≡ tailOf p → r ≡ PostfixEnd.Bad x → p ≡ notPost x
 unfolding tailOf
 was-bad (post v m) r x e q = let z : _≡_ {A = ℕ} 0 1 = cc in absurd (omega arith)
 was-bad (notPost y) r x e q = cc
 was-bad noPost r x e q = let z : _≡_ {A = ℕ} 0 1 = cc in absurd (omega arith)
 
-pub was-ended : (p : Postfix) (r : Tail) → r ≡ tailOf p → r ≡ Tail.Ended → p ≡ noPost
+pub was-ended : (p : Postfix) (r : PostfixEnd) → r ≡ tailOf p → r ≡ PostfixEnd.Ended → p ≡ noPost
 unfolding tailOf
 was-ended (post v m) r e q = let z : _≡_ {A = ℕ} 0 1 = cc in absurd (omega arith)
 was-ended (notPost y) r e q = let z : _≡_ {A = ℕ} 0 1 = cc in absurd (omega arith)

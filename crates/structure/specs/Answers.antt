@@ -4,7 +4,7 @@ use mathlib.Core.Path.{_≡_}
 use mathlib.Core.Bool.{false}
 use mathlib.Core.List.{List}
 use lib.ListN.{length}
-use Rattle.text.specs.Choice.{choose}
+use Rattle.text.specs.Booleans.{choose}
 use Rattle.text.specs.Words.{push}
 use Rattle.token.specs.Lists.{placeFrom}
 use Rattle.token.specs.Table.{toks, start, is, label}
@@ -21,15 +21,15 @@ use Rattle.structure.specs.declared.Opening.{Opening}
 use Rattle.structure.specs.declared.Opening.the-variants.{From, Untied}
 use Rattle.structure.specs.declared.Bracket.{Bracket}
 use Rattle.structure.specs.declared.Bracket.the-variants.{Opens, Unopened, Nothing}
-use Rattle.structure.specs.declared.Tail.{Tail}
-use Rattle.structure.specs.declared.Tail.the-variants as Tail
-use Rattle.structure.specs.declared.Tails.{Tails}
-use Rattle.structure.specs.declared.Tails.the-variants as Tails
+use Rattle.structure.specs.declared.PostfixEnd.{PostfixEnd}
+use Rattle.structure.specs.declared.PostfixEnd.the-variants as PostfixEnd
+use Rattle.structure.specs.declared.PostfixEnds.{PostfixEnds}
+use Rattle.structure.specs.declared.PostfixEnds.the-variants as PostfixEnds
 use Rattle.structure.specs.declared.Counted.{Counted}
 use Rattle.structure.specs.declared.Counted.the-variants as Counted
 use Rattle.structure.specs.Tokens.{spells}
 use Rattle.structure.specs.Values.{isInteger}
-use Rattle.structure.specs.Structure.{Parsed, got, refused, next, before, Postfix, post, notPost, noPost, signed, posts, Run, Ruling, ruling, noRule, Ruled, rules, unruled}
+use Rattle.structure.specs.Structure.{Parsed, got, refused, next, prefixed, Postfix, post, notPost, noPost, signed, posts, Run, Ruling, ruling, noRule, Ruled, rules, unruled}
 
 -- the number of unread text bytes: the text's length less the end of the last token taken
 unfoldable pub unread : List ℕ → ℕ → ℕ
@@ -63,15 +63,15 @@ abbrev pub signOf : List ℕ → ℕ → Unary
 signOf s i = choose (is s i 8) (λ u. PosPred) (λ u. NegPred)
 
 -- k predicates from an index on, around a tree
-unfoldable pub signs : List ℕ → ℕ → ℕ → Tree Span → Tree Span
-signs s at zero t = t
-signs s at (suc k) t = before (start s at) (plain (signOf s at)) (signs s (at + 1) k t)
+unfoldable pub predicates : List ℕ → ℕ → ℕ → Tree Span → Tree Span
+predicates s at zero t = t
+predicates s at (suc k) t = prefixed (start s at) (plain (signOf s at)) (predicates s (at + 1) k t)
 
 -- the predicates from an index on end at r, at either level
 pub record Signed (s : List ℕ) (at r : ℕ) : Type 0 where
   pub from : at ≤ r
   pub within : (at ≡ r → ⊥) → r ≤ length (toks s)
-  pub same : (level : Level) (o : ℕ) → Run level s (signed o at) ≡ next (Run level s (signed o r)) (λ t n. got (signs s at (r - at) t) n)
+  pub same : (level : Level) (o : ℕ) → Run level s (signed o at) ≡ next (Run level s (signed o r)) (λ t n. got (predicates s at (r - at) t) n)
   pub noPos : is s r 8 ≡ false
   pub noNeg : is s r 9 ≡ false
 
@@ -85,18 +85,18 @@ abbrev pub pastInteger : List ℕ → ℕ → ℕ
 pastInteger s i = choose (isInteger s i) (λ u. i + 1) (λ u. i)
 
 -- where a postfix ends
-unfoldable pub tailOf : Postfix → Tail
-tailOf (post v n) = Tail.Past n
-tailOf (notPost r) = Tail.Bad r
-tailOf noPost = Tail.Ended
+unfoldable pub tailOf : Postfix → PostfixEnd
+tailOf (post v n) = PostfixEnd.Past n
+tailOf (notPost r) = PostfixEnd.Bad r
+tailOf noPost = PostfixEnd.Ended
 
 -- a tree with the nodes of postfixes around it
-unfoldable pub tailed : Tree Span → Tails → Checked
-tailed t (Tails.All n k) = Checked.Good n (count t + k) (size t)
-tailed t (Tails.Bad r) = Checked.Refused r
+unfoldable pub tailed : Tree Span → PostfixEnds → Checked
+tailed t (PostfixEnds.All n k) = Checked.Good n (count t + k) (size t)
+tailed t (PostfixEnds.Bad r) = Checked.Refused r
 
 -- the postfixes from an index on, around any tree, at either level
-pub record Posted (s : List ℕ) (at : ℕ) (r : Tails) : Type 0 where
+pub record Posted (s : List ℕ) (at : ℕ) (r : PostfixEnds) : Type 0 where
   pub around : (level : Level) (t : Tree Span) → tailed t r ≡ summary (Run level s (posts t at))
 
 -- where a rule ends, its nodes and its bytes in the store

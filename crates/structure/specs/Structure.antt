@@ -6,7 +6,7 @@ use mathlib.Core.List.{List, [], _∷_}
 use mathlib.Core.Option.{Option, none, some}
 use lib.Dec.{leb, eqb}
 use lib.ListN.{length}
-use Rattle.text.specs.Choice.{choose, and, or}
+use Rattle.text.specs.Booleans.{choose, and, or}
 use Rattle.text.specs.Words.{begins, push}
 use Rattle.token.specs.Table.{toks, start, end, is, word, label}
 use Rattle.token.specs.Tokens.{pushLiteral}
@@ -59,16 +59,16 @@ closed none l = l
 closed (some c) l = join Choice c l
 
 -- a predicate or a tag before an expression, which starts there and ends with it
-unfoldable pub before : ℕ → Wrap → Tree Span → Tree Span
-before a w t = one (record { start = a; stop = placeOf t .stop }) w t
+unfoldable pub prefixed : ℕ → Wrap → Tree Span → Tree Span
+prefixed a w t = one (record { start = a; stop = placeOf t .stop }) w t
 
 -- a postfix keeps the inner start
-unfoldable pub after : ℕ → Unary → Tree Span → Tree Span
-after z u t = one (record { start = placeOf t .start; stop = z }) (plain u) t
+unfoldable pub postfixed : ℕ → Unary → Tree Span → Tree Span
+postfixed z u t = one (record { start = placeOf t .start; stop = z }) (plain u) t
 
 -- a tag wraps its whole term; plain drops it
 unfoldable pub inTag : Level → ℕ → List ℕ → Tree Span → Tree Span
-inTag Tagged a b t = before a (nodeTag b) t
+inTag Tagged a b t = prefixed a (nodeTag b) t
 inTag Plain a b t = t
 
 -- a postfix: which, and the index past it; a refusal; or none
@@ -77,7 +77,7 @@ pub data Postfix : Type 0 where
   notPost : Refusal → Postfix
   noPost : Postfix
 
--- `{n}`, `{n,}`, `{n, m}`, from past the n on
+-- `{n}`, `{n,}`, `{n, m}`, from the n on
 unfoldable pub fromNumber : List ℕ → ℕ → Postfix
 fromNumber s i =
     choose (is s (i + 1) 3) (λ u. post (RepExact (number s i)) (i + 2))
@@ -160,8 +160,8 @@ module _ (level : Level) (s : List ℕ) where
       (λ u. go (signed o at))
   -- any `&` and `!`, a node, any postfixes; an opening bracket moves the start of the finished term
   body go (signed o at) =
-      choose (is s at 8) (λ u. next (go (signed o (at + 1))) (λ t n. got (before (start s at) (plain PosPred) t) n))
-      (λ u. choose (is s at 9) (λ u. next (go (signed o (at + 1))) (λ t n. got (before (start s at) (plain NegPred) t) n))
+      choose (is s at 8) (λ u. next (go (signed o (at + 1))) (λ t n. got (prefixed (start s at) (plain PosPred) t) n))
+      (λ u. choose (is s at 9) (λ u. next (go (signed o (at + 1))) (λ t n. got (prefixed (start s at) (plain NegPred) t) n))
       (λ u. next (go (node o at)) (λ t n. next (go (posts t n)) (λ v m. got (choose (is s at 6) (λ u. startsAt v (start s at)) (λ u. v)) m))))
   -- `(` expression `)`, whose end moves with the bracket; `PUSH(` expression `)`, which ends with its inner node
   body go (node o at) =
@@ -170,9 +170,9 @@ module _ (level : Level) (s : List ℕ) where
       (λ u. choose (spells push s at)
       (λ u. want refused s (at + 1) 6
       (λ i. opened o s (at + 1)
-      (λ u. next (go (expr (o + 1) i)) (λ t n. want refused s n 7 (λ m. got (before (start s at) (plain Push) t) m)))))
+      (λ u. next (go (expr (o + 1) i)) (λ t n. want refused s n 7 (λ m. got (prefixed (start s at) (plain Push) t) m)))))
       (λ u. leafAt o s at))
-  body go (posts t at) = postsBy (postfixAt s at) (λ v n. go (posts (after (end s (n - 1)) v t) n)) (λ u. got t at)
+  body go (posts t at) = postsBy (postfixAt s at) (λ v n. go (posts (postfixed (end s (n - 1)) v t) n)) (λ u. got t at)
 
 -- where a call begins
 abbrev pub place : Call → ℕ
@@ -203,7 +203,7 @@ module _ (level : Level) (s : List ℕ) where
   unfoldable pub Run : Call → Parsed
   Run c = run (suc (weight s c)) c
 
--- a rule's name: a word that is neither PUSH nor PUSH_LITERAL
+-- a rule's name: a word that doesn't begin PUSH
 abbrev pub isName : List ℕ → ℕ → Bool
 isName s i = and (is s i 18) (not (begins push (word s i)))
 
@@ -247,8 +247,8 @@ thenRules (ruling r n) f = f r n
 thenRules (noRule x) f = unruled x
 
 -- word, `=`, at most one mark, `{`, at most one `|`, expression, `}`
-unfoldable pub ruleAt : Level → List ℕ → ℕ → Ruling
-ruleAt level s at =
+unfoldable pub ruleFrom : Level → List ℕ → ℕ → Ruling
+ruleFrom level s at =
     choose (isName s at)
     (λ u. want noRule s (at + 1) 1
     (λ i. want noRule s (pastMark s i) 2
@@ -257,13 +257,13 @@ ruleAt level s at =
     (λ u. noRule (NotAllowed (start s at)))
 
 -- rules and `///` docs up to the last token; the first argument bounds how many
-unfoldable pub rulesIn : Level → List ℕ → ℕ → ℕ → Ruled
-rulesIn level s zero at = rules []
-rulesIn level s (suc k) at =
+unfoldable pub rulesUpTo : Level → List ℕ → ℕ → ℕ → Ruled
+rulesUpTo level s zero at = rules []
+rulesUpTo level s (suc k) at =
     choose (leb (length (toks s)) at) (λ u. rules [])
-    (λ u. choose (is s at 27) (λ u. rulesIn level s k (at + 1)) (λ u. thenRules (ruleAt level s at) (λ r n. withRule r (rulesIn level s k n))))
+    (λ u. choose (is s at 27) (λ u. rulesUpTo level s k (at + 1)) (λ u. thenRules (ruleFrom level s at) (λ r n. withRule r (rulesUpTo level s k n))))
 
--- how many `//!` docs stand at the front
+-- the index past the `//!` docs from an index on
 unfoldable pub docsIn : List ℕ → ℕ → ℕ → ℕ
 docsIn s zero at = at
 docsIn s (suc k) at = choose (is s at 26) (λ u. docsIn s k (at + 1)) (λ u. at)
@@ -274,4 +274,4 @@ docs s = docsIn s (length (toks s)) 0
 -- any `//!` docs, then one or more of rule or `///` doc
 unfoldable pub grammar : Level → List ℕ → Ruled
 grammar level s =
-    choose (leb (length (toks s)) (docs s)) (λ u. unruled (NotAllowed (length s))) (λ u. rulesIn level s (length (toks s)) (docs s))
+    choose (leb (length (toks s)) (docs s)) (λ u. unruled (NotAllowed (length s))) (λ u. rulesUpTo level s (length (toks s)) (docs s))

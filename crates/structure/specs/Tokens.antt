@@ -4,7 +4,7 @@ use mathlib.Core.List.{List, [], _∷_}
 use Prim.Native.Nat.{ℕ}
 use lib.Dec.{eqb}
 use lib.ListN.{length}
-use Rattle.text.specs.Choice.{and}
+use Rattle.text.specs.Booleans.{and}
 use Rattle.text.specs.Words.{begins}
 use Rattle.token.specs.Table.{start, end, is, word}
 use Rattle.table.specs.Tree.{Span}

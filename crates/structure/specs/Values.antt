@@ -4,7 +4,7 @@ use mathlib.Core.Bool.{Bool}
 use mathlib.Core.List.{List}
 use lib.Dec.{eqb}
 use lib.ListN.{length}
-use Rattle.text.specs.Choice.{choose, or}
+use Rattle.text.specs.Booleans.{choose, or}
 use Rattle.text.specs.Digits.{decimalOf}
 use Rattle.text.specs.Utf8.{charOf}
 use Rattle.text.specs.declared.Decimal.{Decimal}
@@ -16,7 +16,7 @@ use Rattle.text.specs.declared.Check.the-variants as Check
 use Rattle.literal.specs.Escapes.{escapeOf, unescaped, badEscape}
 use Rattle.literal.specs.declared.Escape.{Escape}
 use Rattle.literal.specs.declared.Escape.the-variants as Escape
-use Rattle.token.specs.Table.{toks, kind, start, is, within, word}
+use Rattle.token.specs.Table.{toks, kind, start, is, trimmed, word}
 use Rattle.token.specs.Tokens.{pushLiteral}
 use Rattle.structure.specs.declared.Level.{Level}
 use Rattle.structure.specs.declared.Level.the-variants.{Tagged, Plain}
@@ -24,14 +24,14 @@ use Rattle.structure.specs.declared.Fault.{Fault}
 use Rattle.structure.specs.declared.Fault.the-variants.{Sound, Over, Zero, PeekRange, NotScalar, NotPlain}
 use Rattle.structure.specs.Tokens.{spells}
 
-abbrev pub worth : Decimal → ℕ
-worth (Decimal.Is n) = n
-worth Decimal.Over = 0
-worth Decimal.NotDigits = 0
+abbrev pub valueOf : Decimal → ℕ
+valueOf (Decimal.Is n) = n
+valueOf Decimal.Over = 0
+valueOf Decimal.NotDigits = 0
 
 -- a repeat number, up to 4,294,967,295
 unfoldable pub number : List ℕ → ℕ → ℕ
-number s i = worth (decimalOf 4294967295 (word s i))
+number s i = valueOf (decimalOf 4294967295 (word s i))
 
 abbrev pub negated : ℕ → ℕ
 negated zero = 0
@@ -41,24 +41,24 @@ negated (suc n) = 4294967295 - n
 abbrev pub isInteger : List ℕ → ℕ → Bool
 isInteger s i = or (is s i 20) (is s i 21)
 
--- its value against i32, two's complement
+-- its value but for the sign: what i32 has room for, one more where a minus stands
 abbrev pub integerOf : List ℕ → ℕ → Decimal
-integerOf s i = choose (is s i 21) (λ u. decimalOf 2147483648 (within s i 1 0)) (λ u. decimalOf 2147483647 (word s i))
+integerOf s i = choose (is s i 21) (λ u. decimalOf 2147483648 (trimmed s i 1 0)) (λ u. decimalOf 2147483647 (word s i))
 
 unfoldable pub integer : List ℕ → ℕ → ℕ
-integer s i = choose (is s i 21) (λ u. negated (worth (integerOf s i))) (λ u. worth (integerOf s i))
+integer s i = choose (is s i 21) (λ u. negated (valueOf (integerOf s i))) (λ u. valueOf (integerOf s i))
 
 -- how many bytes open a literal: `"` or `'`, and `^"`
 abbrev pub opening : List ℕ → ℕ → ℕ
 opening s i = choose (is s i 24) (λ u. 2) (λ u. 1)
 
 -- the inside of a literal
-abbrev pub inside : List ℕ → ℕ → List ℕ
-inside s i = within s i (opening s i) 1
+abbrev pub literalBytes : List ℕ → ℕ → List ℕ
+literalBytes s i = trimmed s i (opening s i) 1
 
 -- the string that it means
 unfoldable pub string : List ℕ → ℕ → List ℕ
-string s i = unescaped (inside s i)
+string s i = unescaped (literalBytes s i)
 
 abbrev pub rawChar : Sequence → ℕ
 rawChar (Sequence.Is c n) = c
@@ -70,7 +70,7 @@ charBy Escape.Plain xs = rawChar (charOf xs)
 
 -- the character that a character literal means
 unfoldable pub character : List ℕ → ℕ → ℕ
-character s i = charBy (escapeOf (inside s i)) (inside s i)
+character s i = charBy (escapeOf (literalBytes s i)) (literalBytes s i)
 
 -- a repeat number: over 4,294,967,295, or 0 where it is an exact count or a maximum, since `}` follows
 abbrev pub repeatFault : List ℕ → ℕ → Decimal → Fault
@@ -106,7 +106,7 @@ faultAt level s before i =
     choose (is s i 18) (λ u. wordFault level s i)
     (λ u. choose (is s i 20) (λ u. numberFault s before i)
     (λ u. choose (is s i 21) (λ u. peekFault s i (integerOf s i))
-    (λ u. choose (or (is s i 23) (or (is s i 24) (is s i 25))) (λ u. literalFault s i (badEscape (inside s i))) (λ u. Sound))))
+    (λ u. choose (or (is s i 23) (or (is s i 24) (is s i 25))) (λ u. literalFault s i (badEscape (literalBytes s i))) (λ u. Sound))))
 
 abbrev pub orFault : Fault → (Unit {0} → Fault) → Fault
 orFault Sound f = f tt

@@ -61,14 +61,14 @@ pub enum Bracket {
 }
 
 // One postfix: the index past it.
-pub enum Tail {
+pub enum PostfixEnd {
     Past(usize),
     Bad(Refusal),
     Ended,
 }
 
 // All postfixes of a node: the index past the last, and how many.
-pub enum Tails {
+pub enum PostfixEnds {
     All { next: usize, nodes: usize },
     Bad(Refusal),
 }

@@ -7,7 +7,7 @@ use native.Mathlib.Omega.{arith}
 use lib.Dec.{eqb}
 use lib.ListN.{getD, take, drop}
 use borrow.Author.Tests.{eqb-true}
-use Rattle.text.specs.Choice.{or}
+use Rattle.text.specs.Booleans.{or}
 use Rattle.text.proofs.Ascii.{Low, low-good}
 use Rattle.table.specs.declared.Sort.{Sort}
 use Rattle.table.specs.declared.Sort.the-variants.{Str, Insens, Ident, PushLiteral}
@@ -15,7 +15,7 @@ use Rattle.table.specs.declared.Leaf.the-variants.{Text}
 use Rattle.table.specs.declared.Node.the-variants.{Tip}
 use Rattle.table.specs.declared.First.the-variants.{At, Nowhere}
 use Rattle.table.specs.Record.{nodeSize, part, nodeOf, nodeAt}
-use Rattle.table.specs.Check.{isGood, isUtf8, fineText, inside, goodLeaf, verdict}
+use Rattle.table.specs.Check.{isGood, isUtf8, fineText, inStore, goodLeaf, verdict}
 use Rattle.table.proofs.Texts.{text-in}
 use Rattle.table.proofs.Verdicts.{verdict-tip, verdict-tip-out}
 
@@ -78,7 +78,7 @@ module _ (ns st : List ℕ) (i : ℕ) where
     unfolding nodeAt
     string-at = string-of .is
 
-    pub string-good : Low st → inside st p q ≡ true → verdict ns st i ≡ At i
+    pub string-good : Low st → inStore st p q ≡ true → verdict ns st i ≡ At i
     string-good h g =
         let s = string-of in
         verdict-tip ns st i string-at (text-in st (s .sort) p q g ∙ s .fine (part st p q) ∙ low-utf8 _ (take-low q _ (drop-low p st h)))

@@ -8,7 +8,7 @@ use Prim.Native.Nat.{ℕ, zero, suc, _+_, _-_, _*_, _≤_, _<_}
 use native.Mathlib.Omega.{arith}
 use lib.ListN.{length, getD, take, drop, take-append-drop, length-take, length-drop}
 use lib.Seq.{drop-length, drop-append-le, drop-drop, take-add}
-use Rattle.text.specs.Choice.{choose, and, within}
+use Rattle.text.specs.Booleans.{choose, and, within}
 use Rattle.text.specs.Scans.{later, soughtBy, sought}
 use Rattle.text.specs.Utf8.{scalar, leadOf, gathered, judged, sequenceBy, charOf, lookBy, seqLook, firstBad, encoded}
 use Rattle.text.specs.declared.Check.{Check}

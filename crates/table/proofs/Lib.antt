@@ -6,7 +6,7 @@ pub mod Nodes
 pub mod Texts
 pub mod Verdicts
 pub mod Ascii
-pub mod Kids
+pub mod Children
 pub mod Heads
 pub mod Lowest
 pub mod Held

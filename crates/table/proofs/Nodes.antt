@@ -10,7 +10,7 @@ use lib.Dec.{eqb}
 use lib.ListN.{length, getD, List·getD-eq-default}
 use borrow.Author.Tests.{eqb-true}
 use Rattle.text.proofs.Tests.{lt-or-ge}
-use Rattle.text.specs.Choice.{and}
+use Rattle.text.specs.Booleans.{and}
 use Rattle.table.specs.declared.Join.{Join}
 use Rattle.table.specs.declared.Leaf.{Leaf}
 use Rattle.table.specs.declared.Op.{Op}

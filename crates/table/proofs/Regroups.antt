@@ -7,7 +7,7 @@ use native.Mathlib.Omega.{arith}
 use lib.Dec.{leb}
 use lib.ListN.{length, length-append}
 use borrow.Author.Tests.{not-true}
-use Rattle.text.specs.Choice.{choose, and}
+use Rattle.text.specs.Booleans.{choose, and}
 use Rattle.table.specs.declared.Join.{Join}
 use Rattle.table.specs.declared.Join.the-variants.{Seq, Choice}
 use Rattle.table.specs.Tree.{Atom, Wrap, plain, nodeTag, Tree, leaf, one, two, Rule, placed, below, count, counts, atomStored, wrapStored, stored, ruleStored, rulesStored, Nowhere, aside, ruleBy}

@@ -10,13 +10,13 @@ use borrow.Author.Tests.{le-leb, eq-eqb, ne-eqb, leb-true, ltb-true, eqb-true}
 use Rattle.table.specs.Tree.{Span, Rule, below, count, counts, rulesStored}
 use Rattle.table.specs.Record.{nodeSize, ruleSize, nodesIn, rulesIn, treeAt, firstAt, nameOffset, nameLength, nameAt, markAt, rootAt, nameSpan, ruleRowAt, ruleAt, rulesFrom, rulesOf}
 use Rattle.table.specs.Flat.{nodesOf, recordsOf, ruleRow, RulesLie, Alike}
-use Rattle.table.specs.Check.{maxNodes, maxRules, maxStore, inside, isName, goodAt, beginAt, goodName, goodRoot, goodRule, lowest, orElse, leftOver, shaped, tables, Numbered, numbered, fine, fineRule, fineRules, Sound, Valid}
+use Rattle.table.specs.Check.{maxNodes, maxRules, maxStore, inStore, isName, goodAt, beginAt, goodName, goodRoot, goodRule, lowest, orElse, leftOver, shaped, tables, Numbered, numbered, fine, fineRule, fineRules, Sound, Valid}
 use Rattle.table.proofs.Branches.{and-true, and-both, choose-true, choose-false}
 use Rattle.table.proofs.Trees.{read}
 use Rattle.table.proofs.Nodes.{sound-below}
 use Rattle.table.proofs.Lowest.{lowest-good, lowest-all}
 use Rattle.table.proofs.Rules.{length-nodes, length-records, rules-many, nodes-alike, rules-alike, flat-lie, flat-valid}
-use Rattle.text.specs.Choice.{choose}
+use Rattle.text.specs.Booleans.{choose}
 use Rattle.text.specs.declared.Check.{Check}
 use Rattle.text.specs.declared.Check.the-variants.{Good, Bad}
 use Rattle.table.specs.declared.TableCheck.{TableCheck}
@@ -34,7 +34,7 @@ pub rule-sound : (ns rs st : List ℕ) (k : ℕ) → goodRule ns rs st k ≡ tru
 unfolding goodRule goodName goodRoot
 rule-sound ns rs st k g =
     let a = and-true (goodName rs st k) _ g in
-    let b = and-true (inside st (nameOffset rs k) (nameLength rs k)) (isName (nameAt rs st k)) (a .0) in
+    let b = and-true (inStore st (nameOffset rs k) (nameLength rs k)) (isName (nameAt rs st k)) (a .0) in
     let c = and-true (leb (markAt rs k) 4) (goodRoot ns (beginAt rs k) (rootAt rs k)) (a .1) in
     let d = and-true (ltb (rootAt rs k) (nodesIn ns)) (eqb (firstAt ns (rootAt rs k)) (beginAt rs k)) (c .1) in
     record {

@@ -8,7 +8,7 @@ use native.Mathlib.Omega.{arith}
 use lib.Dec.{leb}
 use lib.ListN.{length, take, drop}
 use borrow.Author.Tests.{leb-true, leb-false}
-use Rattle.text.specs.Choice.{and}
+use Rattle.text.specs.Booleans.{and}
 use Rattle.table.specs.declared.Sort.{Sort}
 use Rattle.table.specs.declared.Leaf.{Leaf}
 use Rattle.table.specs.declared.Leaf.the-variants.{Text, Range}
@@ -21,7 +21,7 @@ use Rattle.text.specs.declared.Check.{Check}
 use Rattle.text.specs.declared.Check.the-variants.{Good, Bad}
 use Rattle.text.specs.declared.Word.{Word}
 use Rattle.text.specs.declared.Word.the-variants as Word
-use Rattle.table.specs.Check.{isGood, mayName, mayTag, isUtf8, isName, isLabel, fineText, fineAtom, fineWrap, inside, leafInside, opInside, goodLeaf, goodOp}
+use Rattle.table.specs.Check.{isGood, mayName, mayTag, isUtf8, isName, isLabel, fineText, fineAtom, fineWrap, inStore, leafInside, opInside, goodLeaf, goodOp}
 use Rattle.table.proofs.Branches.{and-true}
 
 module _ (st : List ℕ) where
@@ -42,19 +42,19 @@ module _ (st : List ℕ) where
   op-fine o g = and-true (opInside st o) _ g .1
 
   -- a text inside is judged by its bytes
-  pub text-in : (k : Sort) (p n : ℕ) → inside st p n ≡ true → goodLeaf st (Text k p n) ≡ fineText k (part st p n)
+  pub text-in : (k : Sort) (p n : ℕ) → inStore st p n ≡ true → goodLeaf st (Text k p n) ≡ fineText k (part st p n)
   unfolding goodLeaf
   text-in k p n h = rw h
 
-  pub text-out : (k : Sort) (p n : ℕ) → inside st p n ≡ false → goodLeaf st (Text k p n) ≡ false
+  pub text-out : (k : Sort) (p n : ℕ) → inStore st p n ≡ false → goodLeaf st (Text k p n) ≡ false
   unfolding goodLeaf
   text-out k p n h = rw h
 
-  pub tag-in : (p n : ℕ) → inside st p n ≡ true → goodOp st (NodeTag p n) ≡ isLabel (part st p n)
+  pub tag-in : (p n : ℕ) → inStore st p n ≡ true → goodOp st (NodeTag p n) ≡ isLabel (part st p n)
   unfolding goodOp
   tag-in p n h = rw h
 
-  pub tag-out : (p n : ℕ) → inside st p n ≡ false → goodOp st (NodeTag p n) ≡ false
+  pub tag-out : (p n : ℕ) → inStore st p n ≡ false → goodOp st (NodeTag p n) ≡ false
   unfolding goodOp
   tag-out p n h = rw h
 

@@ -8,7 +8,7 @@ use lib.Dec.{eqb}
 use lib.ListN.{length, getD, set}
 use lib.Seq.{getD-set-same, getD-set-other}
 use borrow.Author.Tests.{eq-eqb, ne-eqb}
-use Rattle.text.specs.Choice.{choose}
+use Rattle.text.specs.Booleans.{choose}
 use Rattle.table.specs.declared.Join.{Join}
 use Rattle.table.specs.declared.Leaf.{Leaf}
 use Rattle.table.specs.declared.Op.{Op}

@@ -9,7 +9,7 @@ use Rattle.table.specs.declared.Character.{Character}
 use Rattle.table.specs.declared.Character.the-variants as Character
 pub use Rattle.text.specs.declared.Check.the-variants.{Good, Bad}
 unfoldable pub use Rattle.text.specs.Utf8.{charOf, firstBad}
-pub use Rattle.text.specs.Choice.{choose, and, or, within, nextIs}
+pub use Rattle.text.specs.Booleans.{choose, and, or, within, nextIs}
 unfoldable pub use Rattle.text.specs.Splice.{fronted}
 
 abbrev pub faultOf : Check → Fault

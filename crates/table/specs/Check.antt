@@ -5,7 +5,7 @@ use mathlib.Core.Bool.{Bool, true, false}
 use mathlib.Core.List.{List, [], _∷_}
 use lib.Dec.{leb, ltb, eqb}
 use lib.ListN.{length, getD}
-use Rattle.text.specs.Choice.{choose, and}
+use Rattle.text.specs.Booleans.{choose, and}
 use Rattle.text.specs.Utf8.{scalar, firstBad}
 use Rattle.text.specs.Words.{wordOf}
 use Rattle.text.specs.declared.Check.{Check}
@@ -88,17 +88,17 @@ fineWrap (plain u) = true
 fineWrap (nodeTag b) = isLabel b
 
 -- a part lies inside the store; offset and length are not added in 32 bits
-abbrev pub inside : List ℕ → ℕ → ℕ → Bool
-inside st p n = leb (p + n) (length st)
+abbrev pub inStore : List ℕ → ℕ → ℕ → Bool
+inStore st p n = leb (p + n) (length st)
 
 abbrev pub leafInside : List ℕ → Leaf → Bool
-leafInside st (Text k p n) = inside st p n
+leafInside st (Text k p n) = inStore st p n
 leafInside st (Range x y) = true
 leafInside st (PeekSlice x e) = true
 
 abbrev pub opInside : List ℕ → Op → Bool
 opInside st (Plain u) = true
-opInside st (NodeTag p n) = inside st p n
+opInside st (NodeTag p n) = inStore st p n
 
 unfoldable pub goodLeaf : List ℕ → Leaf → Bool
 goodLeaf st l = and (leafInside st l) (fineAtom (atomOf st l))
@@ -125,7 +125,7 @@ beginAt rs (suc k) = rootAt rs k + 1
 
 -- a rule's name lies inside the store and is a name
 unfoldable pub goodName : List ℕ → List ℕ → ℕ → Bool
-goodName rs st k = and (inside st (nameOffset rs k) (nameLength rs k)) (isName (nameAt rs st k))
+goodName rs st k = and (inStore st (nameOffset rs k) (nameLength rs k)) (isName (nameAt rs st k))
 
 -- a root is a node, and its tree begins at a given one
 unfoldable pub goodRoot : List ℕ → ℕ → ℕ → Bool

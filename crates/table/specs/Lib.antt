@@ -4,6 +4,6 @@ pub mod Regroup
 pub mod Record
 pub mod Flat
 pub mod Check
-pub mod Kids
+pub mod Children
 pub mod Characters
 pub mod Names

@@ -1,7 +1,7 @@
 -- Regrouping once, and removing tags. Spans are put aside before.
 use mathlib.Core.Bool.{Bool, true, false, not}
 use mathlib.Core.List.{List, [], _∷_, _++_, map}
-use Rattle.text.specs.Choice.{choose, and}
+use Rattle.text.specs.Booleans.{choose, and}
 use Rattle.table.specs.declared.Join.{Join}
 use Rattle.table.specs.declared.Join.the-variants.{Seq, Choice}
 use Rattle.table.specs.Tree.{Atom, Wrap, plain, nodeTag, Tree, leaf, one, two, Rule, Nowhere, ruleBy}

@@ -9,7 +9,7 @@ use lib.Dec.{leb}
 use lib.ListN.{length, getD, drop, length-append}
 use borrow.Author.Tests.{lt-ltb, le-ltb, le-leb, lt-leb}
 use Rattle.text.specs.declared.Decimal.the-variants as Decimal
-use Rattle.text.specs.Choice.{choose}
+use Rattle.text.specs.Booleans.{choose}
 use Rattle.text.specs.Classes.{digit}
 use Rattle.text.specs.Digits.{digits, decimal, decimalFrom, decimalOf}
 use Rattle.text.specs.declared.Decimal.{Decimal}

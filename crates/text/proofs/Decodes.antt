@@ -8,7 +8,7 @@ use native.Mathlib.Omega.{arith}
 use lib.ListN.{length, take}
 use lib.Dec.{leb, ltb}
 use borrow.Author.Tests.{leb-true, ltb-true, ltb-false, lt-ltb, le-ltb}
-use Rattle.text.specs.Choice.{choose, within}
+use Rattle.text.specs.Booleans.{choose, within}
 use Rattle.text.specs.Utf8.{scalar, leadOf, gathered, judged, sequenceBy, charOf, encoded, Tail}
 use Rattle.text.specs.declared.Value.{Value}
 use Rattle.text.specs.declared.Value.the-variants.{Number, Nothing}

@@ -7,7 +7,7 @@ use native.Mathlib.Nat.{pow-suc, pow-le-pow-right, zero-lt-suc}
 use native.Mathlib.Numerals.{add-one}
 use native.Mathlib.Omega.{arith}
 use lib.ListN.{length, getD, drop}
-use Rattle.text.specs.Choice.{within}
+use Rattle.text.specs.Booleans.{within}
 use Rattle.text.specs.Utf8.{gathered}
 use Rattle.text.specs.declared.Value.the-variants.{Number, Nothing}
 use Rattle.text.proofs.Tests.{at-byte, at-end, within-yes}

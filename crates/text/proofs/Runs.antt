@@ -6,7 +6,7 @@ use mathlib.Core.List.{List, [], _∷_}
 use native.Mathlib.Omega.{arith}
 use lib.ListN.{length, getD, drop}
 use borrow.Author.Tests.{eq-eqb, ne-eqb}
-use Rattle.text.specs.Choice.{and, all}
+use Rattle.text.specs.Booleans.{and, all}
 use Rattle.text.specs.Words.{startsWord, inWord, isWord, begins}
 use Rattle.text.proofs.Tests.{at-byte, at-end}
 

@@ -3,7 +3,7 @@ use Prim.Native.Nat.{ℕ}
 use mathlib.Core.Bool.{Bool}
 use mathlib.Core.List.{List, [], _∷_}
 use lib.Dec.{eqb}
-use Rattle.text.specs.Choice.{choose, or, within, among}
+use Rattle.text.specs.Booleans.{choose, or, within, among}
 
 -- space, tab, LF
 abbrev pub blanks : List ℕ

@@ -5,7 +5,7 @@ use lib.Dec.{leb, ltb}
 use lib.ListN.{length}
 use Rattle.text.specs.declared.Decimal.the-variants as Decimal
 use Rattle.text.specs.declared.Put.the-variants as Put
-use Rattle.text.specs.Choice.{choose, within}
+use Rattle.text.specs.Booleans.{choose, within}
 use Rattle.text.specs.Classes.{digit}
 use Rattle.text.specs.Splice.{fronted}
 use Rattle.text.specs.declared.Value.{Value}

@@ -1,5 +1,5 @@
 -- Bytes and characters: the definitions that the contracts of this crate cite.
-pub mod Choice
+pub mod Booleans
 pub mod Splice
 pub mod Scans
 pub mod Utf8

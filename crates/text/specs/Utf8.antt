@@ -4,7 +4,7 @@ use mathlib.Core.Bool.{Bool, true}
 use mathlib.Core.List.{List, [], _∷_}
 use lib.Dec.{leb, ltb}
 use lib.ListN.{length}
-use Rattle.text.specs.Choice.{choose, within}
+use Rattle.text.specs.Booleans.{choose, within}
 use Rattle.text.specs.Scans.{sought}
 use Rattle.text.specs.Splice.{fronted}
 use Rattle.text.specs.declared.Value.{Value}

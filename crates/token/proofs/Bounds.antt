@@ -7,7 +7,7 @@ use native.Mathlib.Omega.{arith}
 use lib.Dec.{ltb, eqb}
 use lib.ListN.{length, drop, length-drop}
 use borrow.Author.Tests.{ltb-true, eqb-true, ne-eqb}
-use Rattle.text.specs.Choice.{choose, nextIs}
+use Rattle.text.specs.Booleans.{choose, nextIs}
 use Rattle.text.specs.Classes.{classOf, ones}
 use Rattle.text.specs.Words.{inWord, startsWord}
 use Rattle.text.specs.Scans.{later, soughtBy, sought}
@@ -24,7 +24,7 @@ use Rattle.literal.specs.Escapes.{escapeOf}
 use Rattle.literal.specs.declared.Escape.{Escape}
 use Rattle.literal.specs.declared.Escape.the-variants.{Means, Plain}
 use Rattle.literal.proofs.Escaped.{meant}
-use Rattle.token.specs.Blanks.{first, inDigits, inLine, words, digits, zeros, line, blankOf}
+use Rattle.token.specs.Blanks.{first, inDigits, inLine, words, digitRun, zeros, line, blankOf}
 use Rattle.token.specs.Tokens.{moved, allowed, wordToken, tagToken, numberToken, minusToken, dotsToken, insideLook, stringBy, stringOf, insensToken, quoted, escapedBy, rawBy, charToken, docToken, openerToken, placeIn, oneKind, tokenBy, firstToken, pastBlanks, tokenOf, tokenAt}
 use Rattle.token.specs.declared.Token.{Token}
 use Rattle.token.specs.declared.Token.the-variants.{Found, End, NoToken}
@@ -153,7 +153,7 @@ module _ (xs : List ℕ) where
 
   minus-in : One (minusToken xs)
   unfolding minusToken least
-  minus-in = choose-by One (ltb (zeros xs) (digits xs)) _ _ (λ e. (omega arith, omega arith, omega (arith, ltb-true (zeros xs) (digits xs) e), omega (arith, run-in (first inDigits) xs))) (λ e. omega arith)
+  minus-in = choose-by One (ltb (zeros xs) (digitRun xs)) _ _ (λ e. (omega arith, omega arith, omega (arith, ltb-true (zeros xs) (digitRun xs) e), omega (arith, run-in (first inDigits) xs))) (λ e. omega arith)
 
   doc-in : One (docToken xs)
   unfolding docToken least
@@ -199,8 +199,8 @@ word-in x xs e =
 number-in : (x : ℕ) (xs : List ℕ) → classOf x ≡ 3 → In (1 + length xs) (numberToken (x ∷ xs))
 unfolding numberToken least
 number-in x xs e =
-    let l : digits (x ∷ xs) ≤ suc (length xs) = run-in (first inDigits) (x ∷ xs) in
-    let m : 0 < digits (x ∷ xs) = run-some (first inDigits) x xs (rw e refl) in
+    let l : digitRun (x ∷ xs) ≤ suc (length xs) = run-in (first inDigits) (x ∷ xs) in
+    let m : 0 < digitRun (x ∷ xs) = run-some (first inDigits) x xs (rw e refl) in
     (omega arith, omega arith, omega arith, omega arith)
 
 first-in : (xs : List ℕ) → In (length xs) (firstToken xs)

@@ -9,7 +9,7 @@ use lib.Dec.{ltb, eqb}
 use lib.ListN.{length, getD, drop, length-drop}
 use lib.Seq.{drop-drop}
 use borrow.Author.Tests.{eqb-true}
-use Rattle.text.specs.Choice.{choose, nextIs}
+use Rattle.text.specs.Booleans.{choose, nextIs}
 use Rattle.text.specs.Classes.{classOf}
 use Rattle.text.specs.Words.{startsWord}
 use Rattle.text.specs.Scans.{later, sought}
@@ -24,7 +24,7 @@ use Rattle.literal.specs.Escapes.{escapeOf}
 use Rattle.literal.specs.declared.Escape.{Escape}
 use Rattle.literal.specs.declared.Escape.the-variants.{Means, Plain}
 use Rattle.literal.proofs.Escaped.{meant, means-opens}
-use Rattle.token.specs.Blanks.{first, words, digits, zeros, line, blankOf}
+use Rattle.token.specs.Blanks.{first, words, digitRun, zeros, line, blankOf}
 use Rattle.token.specs.Tokens.{moved, allowed, wordToken, tagToken, numberToken, minusToken, dotsToken, insideLook, stringBy, stringOf, insensToken, quoted, escapedBy, rawBy, charToken, docToken, openerToken, oneKind, tokenBy, firstToken, tokenAt}
 use Rattle.token.specs.Lists.{tokensOf, pastLast}
 use Rattle.token.specs.Lister.{listedBy, checkedBy, nextOf}
@@ -165,7 +165,7 @@ module _ (s : List ℕ) (f : ℕ) where
 
   minus-out : (xs : List ℕ) → Out (minusToken xs)
   unfolding minusToken
-  minus-out xs = choose-by Out (ltb (zeros xs) (digits xs)) _ _ (λ q. tt) (λ q. inl refl)
+  minus-out xs = choose-by Out (ltb (zeros xs) (digitRun xs)) _ _ (λ q. tt) (λ q. inl refl)
 
   doc-out : (xs : List ℕ) → Out (docToken xs)
   unfolding docToken

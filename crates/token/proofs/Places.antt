@@ -15,7 +15,7 @@ use Rattle.text.specs.declared.Look.{Look}
 use Rattle.text.specs.declared.Look.the-variants.{Past, Stop}
 use Rattle.text.proofs.Tests.{at-byte}
 use Rattle.text.proofs.Walks.{sought-past, sought-stop, sought-end}
-use Rattle.token.specs.Blanks.{digits, openerBlank, blankBy, blankOf, pastFrom}
+use Rattle.token.specs.Blanks.{digitRun, openerBlank, blankBy, blankOf, pastFrom}
 use Rattle.token.specs.Tokens.{moved, wordToken, numberToken, openerToken, oneKind, tokenBy, firstToken, pastBlanks, tokenOf, tokenAt}
 use Rattle.token.specs.declared.Token.{Token}
 use Rattle.token.specs.declared.Token.the-variants.{Found, End, NoToken}
@@ -93,7 +93,7 @@ module _ (s : List ℕ) (i : ℕ) (h : i < length s) where
     unfolding blankBy tokenBy
     at-word q r z = z ∙ sym (here (rw q refl) ∙ rw (q, at-byte s i h))
 
-    pub at-number : c ≡ 3 → (end : ℕ) → end ≡ i + digits (drop i s) → Found 20 i end ≡ tokenAt s i
+    pub at-number : c ≡ 3 → (end : ℕ) → end ≡ i + digitRun (drop i s) → Found 20 i end ≡ tokenAt s i
     unfolding blankBy tokenBy numberToken
     at-number q end z = sym (here (rw q refl) ∙ rw (q, z, at-byte s i h, add-zero i))
 

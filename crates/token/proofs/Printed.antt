@@ -10,7 +10,7 @@ use lib.Dec.{T, eqb, eqb→eq}
 use lib.ListN.{length, getD, drop, length-append}
 use lib.Seq.{drop-at}
 use borrow.Author.Tests.{lt-ltb, eqb-true, ne-eqb}
-use Rattle.text.specs.Choice.{choose, and, nextIs, all}
+use Rattle.text.specs.Booleans.{choose, and, nextIs, all}
 use Rattle.text.specs.Classes.{classOf, classes, digit}
 use Rattle.text.specs.Words.{startsWord, inWord, begins, push}
 use Rattle.text.specs.Scans.{sought}
@@ -32,7 +32,7 @@ use Rattle.literal.proofs.Escaped.{Each}
 use Rattle.literal.proofs.Pieces.{encoded-some, encoded-free}
 use Rattle.literal.proofs.Stands.{Stands, escape, itself}
 use Rattle.literal.proofs.Back.{PastEscapes, PastBytes, plain-byte, bytes-over-inside}
-use Rattle.token.specs.Blanks.{run, first, inDigits, isZero, words, digits, openerBlank}
+use Rattle.token.specs.Blanks.{run, first, inDigits, isZero, words, digitRun, openerBlank}
 use Rattle.token.specs.Tokens.{moved, pushLiteral, allowed, wordToken, tagToken, minusToken, dotsToken, insideLook, stringOf, insensToken, quoted, charToken, openerToken, oneKind, tokenOf, tokenAt}
 use Rattle.token.specs.Lists.{tok, onto, tokensBy, tokensFrom}
 use Rattle.token.specs.declared.Token.{Token}
@@ -60,8 +60,8 @@ module _ (x : ℕ) (xs : List ℕ) where
   word-first : classOf x ≡ 2 → tokenOf (x ∷ xs) ≡ wordToken (x ∷ xs)
   word-first e = sym (at-front (x ∷ xs)) ∙ sym (at-word (x ∷ xs) 0 (omega arith) 2 (sym e) refl (wordToken (x ∷ xs)) (sym (moved-zero (wordToken (x ∷ xs)))))
 
-  number-first : classOf x ≡ 3 → tokenOf (x ∷ xs) ≡ Found 20 0 (digits (x ∷ xs))
-  number-first e = sym (at-front (x ∷ xs)) ∙ sym (at-number (x ∷ xs) 0 (omega arith) 3 (sym e) refl (digits (x ∷ xs)) (sym (zero-add (digits (x ∷ xs)))))
+  number-first : classOf x ≡ 3 → tokenOf (x ∷ xs) ≡ Found 20 0 (digitRun (x ∷ xs))
+  number-first e = sym (at-front (x ∷ xs)) ∙ sym (at-number (x ∷ xs) 0 (omega arith) 3 (sym e) refl (digitRun (x ∷ xs)) (sym (zero-add (digitRun (x ∷ xs)))))
 
   opener-first : classOf x ≡ 5 → openerBlank x xs ≡ Stop → tokenOf (x ∷ xs) ≡ openerToken x xs
   opener-first e b =
@@ -157,7 +157,7 @@ digit-class b e =
     sym (class-rule b h) ∙ eqb→eq (getD classes b 0) 3 u
 
 module _ (x : ℕ) (w ys : List ℕ) (g : all inDigits (x ∷ w) ≡ true) (n : first inDigits ys ≡ false) where
-  number-length : digits (x ∷ (w ++ ys)) ≡ suc (length w)
+  number-length : digitRun (x ∷ (w ++ ys)) ≡ suc (length w)
   number-length = run-all inDigits (x ∷ w) ys g n
 
   pub number-piece : tokenOf (x ∷ (w ++ ys)) ≡ Found 20 0 (suc (length w))

@@ -7,7 +7,7 @@ use native.Mathlib.Omega.{arith}
 use lib.ListN.{length, getD, drop, length-drop}
 use lib.Seq.{drop-drop}
 use borrow.Author.Tests.{ne-eqb}
-use Rattle.text.specs.Choice.{nextIs}
+use Rattle.text.specs.Booleans.{nextIs}
 use Rattle.text.specs.Scans.{later, sought}
 use Rattle.text.specs.declared.Check.{Check}
 use Rattle.text.specs.declared.Check.the-variants.{Good, Bad}

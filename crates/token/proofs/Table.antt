@@ -11,7 +11,7 @@ use lib.Seq.{sets, getD-append-add}
 use Rattle.text.specs.Splice.{fronted}
 use Rattle.text.proofs.Splices.{sets-append, sets-front}
 use Rattle.token.specs.Lists.{Tok, tok, kindOf, startOf, endOf}
-use Rattle.token.specs.Table.{tokenSize, rowOf, flat, roomOf, toks, Lent, tokOf, kind, start, end, part, word, label}
+use Rattle.token.specs.Table.{tokenSize, rowOf, flat, roomOf, toks, Lent, tokOf, kind, start, end, between, word, label}
 use Rattle.token.proofs.Lists.{inside-at, few}
 
 -- ---- rows
@@ -127,26 +127,26 @@ module _ (s : List ℕ) (i : ℕ) where
 
 -- ---- parts of a text
 
-pub part-length : (s : List ℕ) (a z : ℕ) → z ≤ length s → length (part s a z) ≡ z - a
-unfolding part
+pub part-length : (s : List ℕ) (a z : ℕ) → z ≤ length s → length (between s a z) ≡ z - a
+unfolding between
 part-length s a z h = omega (arith, length-take (z - a) (drop a s), length-drop a s)
 
-pub part-is : (s : List ℕ) (a z : ℕ) → take (z - a) (drop a s) ≡ part s a z
-unfolding part
+pub part-is : (s : List ℕ) (a z : ℕ) → take (z - a) (drop a s) ≡ between s a z
+unfolding between
 part-is s a z = refl
 
-pub part-none : (s : List ℕ) (a z : ℕ) → z ≤ a → part s a z ≡ []
-unfolding part
+pub part-none : (s : List ℕ) (a z : ℕ) → z ≤ a → between s a z ≡ []
+unfolding between
 part-none s a z h =
     let e : z - a ≡ 0 = omega arith in
     ap (λ (n : ℕ). take n (drop a s)) e
 
-pub word-is : (s : List ℕ) (i a z : ℕ) → a ≡ start s i → z ≡ end s i → part s a z ≡ word s i
+pub word-is : (s : List ℕ) (i a z : ℕ) → a ≡ start s i → z ≡ end s i → between s a z ≡ word s i
 unfolding word
 word-is s i a z e f =
     let x : a ≡ start s i + 0 = omega arith in
     let y : z ≡ end s i - 0 = omega arith in
-    ap (λ (n : ℕ). part s n z) x ∙ ap (part s (start s i + 0)) y
+    ap (λ (n : ℕ). between s n z) x ∙ ap (between s (start s i + 0)) y
 
 pub word-length : (s : List ℕ) (i a z : ℕ) → a ≡ start s i → z ≡ end s i → z - a ≡ length (word s i)
 word-length s i a z e f =

@@ -4,7 +4,7 @@ use mathlib.Core.Bool.{Bool, true, false, not}
 use mathlib.Core.List.{List, [], _∷_}
 use lib.Dec.{leb, eqb}
 use lib.ListN.{drop}
-use Rattle.text.specs.Choice.{choose, and, or, nextIs}
+use Rattle.text.specs.Booleans.{choose, and, or, nextIs}
 use Rattle.text.specs.Classes.{classOf}
 use Rattle.text.specs.Words.{inWord}
 use Rattle.text.specs.declared.Look.{Look}
@@ -46,8 +46,8 @@ abbrev pub words : List ℕ → ℕ
 words xs = run (first inWord) xs
 
 -- how many digits
-abbrev pub digits : List ℕ → ℕ
-digits xs = run (first inDigits) xs
+abbrev pub digitRun : List ℕ → ℕ
+digitRun xs = run (first inDigits) xs
 
 -- how many zeros
 abbrev pub zeros : List ℕ → ℕ

@@ -5,7 +5,7 @@ use mathlib.Core.Bool.{true, false}
 use mathlib.Core.List.{List}
 use mathlib.Core.Logic.{_⊎_}
 use lib.ListN.{drop}
-use Rattle.text.specs.Choice.{nextIs}
+use Rattle.text.specs.Booleans.{nextIs}
 use Rattle.text.specs.Scans.{later, sought}
 use Rattle.text.specs.declared.Check.the-variants.{Bad}
 use Rattle.literal.specs.Escapes.{escapeOf}

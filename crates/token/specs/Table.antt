@@ -56,16 +56,16 @@ unfoldable pub is : List ℕ → ℕ → ℕ → Bool
 is s i k = eqb (kind s i) k
 
 -- the bytes of a text from a to z
-unfoldable pub part : List ℕ → ℕ → ℕ → List ℕ
-part s a z = take (z - a) (drop a s)
+unfoldable pub between : List ℕ → ℕ → ℕ → List ℕ
+between s a z = take (z - a) (drop a s)
 
 -- a token's bytes without the first k and the last n
-abbrev pub within : List ℕ → ℕ → ℕ → ℕ → List ℕ
-within s i k n = part s (start s i + k) (end s i - n)
+abbrev pub trimmed : List ℕ → ℕ → ℕ → ℕ → List ℕ
+trimmed s i k n = between s (start s i + k) (end s i - n)
 
 -- a word's or a number's bytes; a tag's, without its `#`
 unfoldable pub word : List ℕ → ℕ → List ℕ
-word s i = within s i 0 0
+word s i = trimmed s i 0 0
 
 unfoldable pub label : List ℕ → ℕ → List ℕ
-label s i = within s i 1 0
+label s i = trimmed s i 1 0

@@ -4,7 +4,7 @@ use mathlib.Core.Bool.{Bool, true}
 use mathlib.Core.List.{List, [], _∷_}
 use lib.Dec.{ltb, eqb}
 use lib.ListN.{drop}
-use Rattle.text.specs.Choice.{choose, and, or, nextIs}
+use Rattle.text.specs.Booleans.{choose, and, or, nextIs}
 use Rattle.text.specs.Classes.{classOf, ones}
 use Rattle.text.specs.Words.{startsWord, begins, push}
 use Rattle.text.specs.Scans.{sought}
@@ -18,7 +18,7 @@ use Rattle.text.specs.declared.Sequence.the-variants.{Is, Broken}
 use Rattle.literal.specs.Escapes.{escapeOf, strayLook}
 use Rattle.literal.specs.declared.Escape.{Escape}
 use Rattle.literal.specs.declared.Escape.the-variants.{Means, Plain}
-use Rattle.token.specs.Blanks.{first, words, digits, zeros, line, blankOf}
+use Rattle.token.specs.Blanks.{first, words, digitRun, zeros, line, blankOf}
 use Rattle.token.specs.declared.Token.{Token}
 use Rattle.token.specs.declared.Token.the-variants.{Found, End, NoToken}
 
@@ -46,11 +46,11 @@ tagToken xs = choose (first startsWord xs) (λ u. Found 19 0 (words xs + 1)) (λ
 
 -- digits
 unfoldable pub numberToken : List ℕ → Token
-numberToken xs = Found 20 0 (digits xs)
+numberToken xs = Found 20 0 (digitRun xs)
 
 -- after `-`: digits not all 0
 unfoldable pub minusToken : List ℕ → Token
-minusToken xs = choose (ltb (zeros xs) (digits xs)) (λ u. Found 21 0 (digits xs + 1)) (λ u. NoToken 0)
+minusToken xs = choose (ltb (zeros xs) (digitRun xs)) (λ u. Found 21 0 (digitRun xs + 1)) (λ u. NoToken 0)
 
 -- after `.`: another
 unfoldable pub dotsToken : List ℕ → Token

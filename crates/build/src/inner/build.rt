@@ -1,19 +1,19 @@
 // Expressions, terms and nodes, built. A term's tag, predicates and postfixes are gone through by
 // loops: only brackets nest.
+use super::around::put_choice;
+use super::around::put_postfixes;
+use super::around::put_predicates;
 use super::leaves::put_leaf;
-use super::loops::put_choice;
-use super::loops::put_postfixes;
-use super::loops::put_signs;
 use super::terms::get_node_tag;
-use super::terms::head_at;
-use super::terms::open_at;
+use super::terms::move_to_bracket;
 use super::terms::put_tag;
+use super::terms::term_start;
 use crate::Placed;
 use records::inner::nodes::move_end;
 use records::inner::nodes::put_join;
 use records::inner::nodes::put_unary;
 use structure::Level;
-use structure::inner::checks::signs_end;
+use structure::inner::checks::predicates_end;
 use structure::inner::tokens::spelled;
 use table::Join;
 use table::Unary;
@@ -22,7 +22,7 @@ use token::inner::table::kind_at;
 use token::inner::table::start_at;
 ghost use Rattle.token.specs.Table.{Lent};
 ghost use Rattle.structure.specs.Structure.{Run, expr, term, node};
-ghost use Rattle.build.specs.Build.{Scalars, Room, Built};
+ghost use Rattle.build.specs.Build.{Scalars, TreeRoom, Built};
 
 // Terms joined by `~` or `|`, both grouped left.
 pub fn consume_expr(
@@ -38,7 +38,7 @@ pub fn consume_expr(
 ) -> Placed
     requires { ⌜ Lent (now text) (now tokens) ⌝ }
     requires { ⌜ Scalars (now text) ⌝ }
-    requires { ⌜ Room (Run level (now text) (expr deep at)) (now nodes) (now store) used free ⌝ }
+    requires { ⌜ TreeRoom (Run level (now text) (expr deep at)) (now nodes) (now store) used free ⌝ }
     ensures { λ r. ⌜ Built (Run level (now (text .entry)) (expr deep at)) (now (nodes .entry)) (now (store .entry)) used free r (now (nodes .exit)) (now (store .exit)) ⌝ }
 {
     let first = unaries(text, tokens, nodes, store, level, deep, at, used, free);
@@ -96,11 +96,11 @@ pub fn unaries(
 ) -> Placed
     requires { ⌜ Lent (now text) (now tokens) ⌝ }
     requires { ⌜ Scalars (now text) ⌝ }
-    requires { ⌜ Room (Run level (now text) (term deep at)) (now nodes) (now store) used free ⌝ }
+    requires { ⌜ TreeRoom (Run level (now text) (term deep at)) (now nodes) (now store) used free ⌝ }
     ensures { λ r. ⌜ Built (Run level (now (text .entry)) (term deep at)) (now (nodes .entry)) (now (store .entry)) used free r (now (nodes .exit)) (now (store .exit)) ⌝ }
 {
     let tag = get_node_tag(text, tokens, store, level, at, free);
-    let first = signs_end(text, tokens, tag.next);
+    let first = predicates_end(text, tokens, tag.next);
     let inner = consume_node(
         text,
         tokens,
@@ -121,9 +121,9 @@ pub fn unaries(
         inner.from,
         inner.to,
     );
-    open_at(text, tokens, nodes, first, tail.used);
-    let u = put_signs(text, tokens, nodes, tag.next, first, tail.used, tail.to);
-    let a = head_at(text, tokens, tag.next, first, inner.from);
+    move_to_bracket(text, tokens, nodes, first, tail.used);
+    let u = put_predicates(text, tokens, nodes, tag.next, first, tail.used, tail.to);
+    let a = term_start(text, tokens, tag.next, first, inner.from);
     let built = Placed {
         next: tail.next,
         used: u,
@@ -148,7 +148,7 @@ pub fn consume_node(
 ) -> Placed
     requires { ⌜ Lent (now text) (now tokens) ⌝ }
     requires { ⌜ Scalars (now text) ⌝ }
-    requires { ⌜ Room (Run level (now text) (node deep at)) (now nodes) (now store) used free ⌝ }
+    requires { ⌜ TreeRoom (Run level (now text) (node deep at)) (now nodes) (now store) used free ⌝ }
     ensures { λ r. ⌜ Built (Run level (now (text .entry)) (node deep at)) (now (nodes .entry)) (now (store .entry)) used free r (now (nodes .exit)) (now (store .exit)) ⌝ }
 {
     if kind_at(text, tokens, at) == 6 {

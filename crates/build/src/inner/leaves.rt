@@ -20,9 +20,9 @@ ghost use lib.ListN.{length};
 ghost use Rattle.text.specs.declared.Check.the-variants as Check;
 ghost use Rattle.literal.specs.Escapes.{badEscape};
 ghost use Rattle.token.specs.Table.{toks, start, end, is, Lent};
-ghost use Rattle.structure.specs.Values.{opening, inside};
+ghost use Rattle.structure.specs.Values.{opening, literalBytes};
 ghost use Rattle.structure.specs.Structure.{sliceTo, slice, ranged, leafAt};
-ghost use Rattle.build.specs.Build.{Room, Built, Scalars, wordLeaf, stringLeaf};
+ghost use Rattle.build.specs.Build.{TreeRoom, Built, Scalars, wordLeaf, stringLeaf};
 
 fn put_word(
     text: &[u8],
@@ -35,7 +35,7 @@ fn put_word(
 ) -> Placed
     requires { ⌜ Lent (now text) (now tokens) ⌝ }
     requires { ⌜ at < length (toks (now text)) ⌝ }
-    requires { ⌜ Room (wordLeaf (now text) at) (now nodes) (now store) used free ⌝ }
+    requires { ⌜ TreeRoom (wordLeaf (now text) at) (now nodes) (now store) used free ⌝ }
     ensures { λ r. ⌜ Built (wordLeaf (now (text .entry)) at) (now (nodes .entry)) (now (store .entry)) used free r (now (nodes .exit)) (now (store .exit)) ⌝ }
 {
     let a = start_at(text, tokens, at);
@@ -65,8 +65,8 @@ fn put_literal(
 ) -> Placed
     requires { ⌜ Lent (now text) (now tokens) ⌝ }
     requires { ⌜ start (now text) at + opening (now text) at < end (now text) at ⌝ }
-    requires { ⌜ badEscape (inside (now text) at) ≡ Check.Good ⌝ }
-    requires { ⌜ Room (stringLeaf sort (now text) at next) (now nodes) (now store) used free ⌝ }
+    requires { ⌜ badEscape (literalBytes (now text) at) ≡ Check.Good ⌝ }
+    requires { ⌜ TreeRoom (stringLeaf sort (now text) at next) (now nodes) (now store) used free ⌝ }
     ensures { λ r. ⌜ Built (stringLeaf sort (now (text .entry)) at next) (now (nodes .entry)) (now (store .entry)) used free r (now (nodes .exit)) (now (store .exit)) ⌝ }
 {
     let a = start_at(text, tokens, at);
@@ -94,7 +94,7 @@ fn put_range(
 ) -> Placed
     requires { ⌜ Lent (now text) (now tokens) ⌝ }
     requires { ⌜ is (now text) at 25 ≡ true ⌝ }
-    requires { ⌜ Room (ranged (now text) at) (now nodes) (now store) used free ⌝ }
+    requires { ⌜ TreeRoom (ranged (now text) at) (now nodes) (now store) used free ⌝ }
     ensures { λ r. ⌜ Built (ranged (now (text .entry)) at) (now (nodes .entry)) (now (store .entry)) used free r (now (nodes .exit)) (now (store .exit)) ⌝ }
 {
     let i = at + 1 + 1;
@@ -125,7 +125,7 @@ fn put_slice_to(
     free: usize,
 ) -> Placed
     requires { ⌜ Lent (now text) (now tokens) ⌝ }
-    requires { ⌜ Room (sliceTo (now text) at from i) (now nodes) (now store) used free ⌝ }
+    requires { ⌜ TreeRoom (sliceTo (now text) at from i) (now nodes) (now store) used free ⌝ }
     ensures { λ r. ⌜ Built (sliceTo (now (text .entry)) at from i) (now (nodes .entry)) (now (store .entry)) used free r (now (nodes .exit)) (now (store .exit)) ⌝ }
 {
     let a = start_at(text, tokens, at);
@@ -164,7 +164,7 @@ fn put_slice(
     free: usize,
 ) -> Placed
     requires { ⌜ Lent (now text) (now tokens) ⌝ }
-    requires { ⌜ Room (slice (now text) at i) (now nodes) (now store) used free ⌝ }
+    requires { ⌜ TreeRoom (slice (now text) at i) (now nodes) (now store) used free ⌝ }
     ensures { λ r. ⌜ Built (slice (now (text .entry)) at i) (now (nodes .entry)) (now (store .entry)) used free r (now (nodes .exit)) (now (store .exit)) ⌝ }
 {
     if is_integer(text, tokens, i) {
@@ -187,7 +187,7 @@ pub fn put_leaf(
 ) -> Placed
     requires { ⌜ Lent (now text) (now tokens) ⌝ }
     requires { ⌜ Scalars (now text) ⌝ }
-    requires { ⌜ Room (leafAt deep (now text) at) (now nodes) (now store) used free ⌝ }
+    requires { ⌜ TreeRoom (leafAt deep (now text) at) (now nodes) (now store) used free ⌝ }
     ensures { λ r. ⌜ Built (leafAt deep (now (text .entry)) at) (now (nodes .entry)) (now (store .entry)) used free r (now (nodes .exit)) (now (store .exit)) ⌝ }
 {
     if spelled(b"PUSH_LITERAL", text, tokens, at) {

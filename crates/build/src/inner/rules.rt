@@ -1,7 +1,7 @@
 // Rules: a name, a mark, a tree and a record each.
 use super::build::consume_expr;
 use super::store::put_bytes;
-use crate::Past;
+use crate::RuleEnd;
 use records::inner::rules::put_rule;
 use structure::Level;
 use structure::inner::rules::docs_end;
@@ -13,8 +13,8 @@ use token::inner::table::kind_at;
 use token::inner::table::start_at;
 use token::inner::table::token_count;
 ghost use Rattle.token.specs.Table.{Lent};
-ghost use Rattle.structure.specs.Structure.{ruleAt, grammar};
-ghost use Rattle.build.specs.Rules.{rulesOf};
+ghost use Rattle.structure.specs.Structure.{ruleFrom, grammar};
+ghost use Rattle.build.specs.Rules.{rulesRead};
 ghost use Rattle.build.specs.Build.{Scalars};
 ghost use Rattle.build.specs.Rules.{RuleRoom, RuleBuilt, RulesRoom, RulesBuilt};
 
@@ -30,11 +30,11 @@ fn consume_rule(
     index: usize,
     used: usize,
     free: usize,
-) -> Past
+) -> RuleEnd
     requires { ⌜ Lent (now text) (now tokens) ⌝ }
     requires { ⌜ Scalars (now text) ⌝ }
-    requires { ⌜ RuleRoom (ruleAt level (now text) at) (now nodes) (now rules) (now store) index used free ⌝ }
-    ensures { λ r. ⌜ RuleBuilt (ruleAt level (now (text .entry)) at) (now (nodes .entry)) (now (rules .entry)) (now (store .entry)) index used free r (now (nodes .exit)) (now (rules .exit)) (now (store .exit)) ⌝ }
+    requires { ⌜ RuleRoom (ruleFrom level (now text) at) (now nodes) (now rules) (now store) index used free ⌝ }
+    ensures { λ r. ⌜ RuleBuilt (ruleFrom level (now (text .entry)) at) (now (nodes .entry)) (now (rules .entry)) (now (store .entry)) index used free r (now (nodes .exit)) (now (rules .exit)) (now (store .exit)) ⌝ }
 {
     let a = start_at(text, tokens, at);
     let z = end_at(text, tokens, at);
@@ -44,7 +44,7 @@ fn consume_rule(
     let body = past_bar(text, tokens, open + 1);
     let tree = consume_expr(text, tokens, nodes, store, level, 0, body, used, named);
     put_rule(rules, index, free, z - a, mark, tree.used - 1, a, z);
-    Past {
+    RuleEnd {
         next: tree.next + 1,
         used: tree.used,
         free: tree.free,
@@ -62,8 +62,8 @@ pub fn consume_rules_with_spans(
 )
     requires { ⌜ Lent (now text) (now tokens) ⌝ }
     requires { ⌜ Scalars (now text) ⌝ }
-    requires { ⌜ RulesRoom (grammar level (now text)) (rulesOf level (now text)) (now nodes) (now rules) (now store) ⌝ }
-    ensures { λ _. ⌜ RulesBuilt (rulesOf level (now (text .entry))) (now (nodes .entry)) (now (rules .entry)) (now (store .entry)) (now (nodes .exit)) (now (rules .exit)) (now (store .exit)) ⌝ }
+    requires { ⌜ RulesRoom (grammar level (now text)) (rulesRead level (now text)) (now nodes) (now rules) (now store) ⌝ }
+    ensures { λ _. ⌜ RulesBuilt (rulesRead level (now (text .entry))) (now (nodes .entry)) (now (rules .entry)) (now (store .entry)) (now (nodes .exit)) (now (rules .exit)) (now (store .exit)) ⌝ }
 {
     let n = token_count(text, tokens);
     let mut i = docs_end(text, tokens);

@@ -5,13 +5,13 @@ ghost use lib.ListN.{length};
 ghost use Rattle.text.specs.Splice.{Room, Wrote};
 ghost use Rattle.text.specs.declared.Check.the-variants as Check;
 ghost use Rattle.literal.specs.Escapes.{badEscape, unescaped};
-ghost use Rattle.token.specs.Table.{part};
+ghost use Rattle.token.specs.Table.{between};
 
 // Copies bytes of the text into the store.
 pub fn put_bytes(text: &[u8], store: &mut [u8], a: usize, z: usize, free: usize) -> usize
     requires { ⌜ (a ≤ z) × (z ≤ length (now text)) ⌝ }
-    requires { ⌜ Room (now store) free (part (now text) a z) ⌝ }
-    ensures { λ r. ⌜ Wrote (now (store .entry)) free (part (now (text .entry)) a z) (now (store .exit)) r ⌝ }
+    requires { ⌜ Room (now store) free (between (now text) a z) ⌝ }
+    ensures { λ r. ⌜ Wrote (now (store .entry)) free (between (now (text .entry)) a z) (now (store .exit)) r ⌝ }
 {
     text::inner::splice::put(&text[a..z], store, free)
 }
@@ -19,9 +19,9 @@ pub fn put_bytes(text: &[u8], store: &mut [u8], a: usize, z: usize, free: usize)
 // Writes the string that the bytes of the text from one place to another mean.
 pub fn put_string(text: &[u8], store: &mut [u8], a: usize, z: usize, free: usize) -> usize
     requires { ⌜ (a ≤ z) × (z ≤ length (now text)) ⌝ }
-    requires { ⌜ badEscape (part (now text) a z) ≡ Check.Good ⌝ }
-    requires { ⌜ Room (now store) free (unescaped (part (now text) a z)) ⌝ }
-    ensures { λ r. ⌜ Wrote (now (store .entry)) free (unescaped (part (now (text .entry)) a z)) (now (store .exit)) r ⌝ }
+    requires { ⌜ badEscape (between (now text) a z) ≡ Check.Good ⌝ }
+    requires { ⌜ Room (now store) free (unescaped (between (now text) a z)) ⌝ }
+    ensures { λ r. ⌜ Wrote (now (store .entry)) free (unescaped (between (now (text .entry)) a z)) (now (store .exit)) r ⌝ }
 {
     literal::inner::escapes::put_unescaped(&text[a..z], store, free)
 }

@@ -14,7 +14,7 @@ ghost use lib.ListN.{length};
 ghost use Rattle.text.specs.Splice.{Room, Wrote};
 ghost use Rattle.token.specs.Table.{Lent};
 ghost use Rattle.table.specs.Record.{nodeSize};
-ghost use Rattle.build.specs.Build.{tagText, pastTag, Opened, headAt, TagRoom, Tied};
+ghost use Rattle.build.specs.Build.{tagText, pastTag, Opened, termStart, TagRoom, Tied};
 
 // Goes past a term's tag, and puts its text into the store. Plain drops it.
 pub fn get_node_tag(
@@ -51,7 +51,7 @@ pub fn get_node_tag(
 }
 
 // Moves the start of the node that was written last to the bracket that opened it, if one did.
-pub fn open_at(text: &[u8], tokens: &[u32], nodes: &mut [u32], at: usize, used: usize)
+pub fn move_to_bracket(text: &[u8], tokens: &[u32], nodes: &mut [u32], at: usize, used: usize)
     requires { ⌜ Lent (now text) (now tokens) ⌝ }
     requires { ⌜ (nodeSize * used ≤ length (now nodes)) × (0 < used) ⌝ }
     ensures { λ _. ⌜ Opened (now (text .entry)) at used (now (nodes .entry)) (now (nodes .exit)) ⌝ }
@@ -63,9 +63,9 @@ pub fn open_at(text: &[u8], tokens: &[u32], nodes: &mut [u32], at: usize, used: 
 }
 
 // Where a term starts, its tag aside: with its predicates, its bracket, or its node.
-pub fn head_at(text: &[u8], tokens: &[u32], from: usize, first: usize, a: usize) -> usize
+pub fn term_start(text: &[u8], tokens: &[u32], from: usize, first: usize, a: usize) -> usize
     requires { ⌜ Lent (now text) (now tokens) ⌝ }
-    ensures { λ r. ⌜ r ≡ headAt (now (text .entry)) from first a ⌝ }
+    ensures { λ r. ⌜ r ≡ termStart (now (text .entry)) from first a ⌝ }
 {
     if from < first {
         return start_at(text, tokens, from);

@@ -1,5 +1,5 @@
 // What tokens are worth, from the bytes of the text.
-use crate::Suffix;
+use crate::FoundPostfix;
 use literal::Escape;
 use structure::inner::values::integer_of;
 use structure::inner::values::number_of;
@@ -15,12 +15,12 @@ ghost use Prim.Native.Nat.{_<_};
 ghost use lib.ListN.{length};
 ghost use Rattle.literal.specs.Escapes.{escapeOf};
 ghost use Rattle.token.specs.Table.{toks, is, Lent};
-ghost use Rattle.structure.specs.Values.{worth, negated, number, isInteger, integer, opening, charBy, character};
+ghost use Rattle.structure.specs.Values.{valueOf, negated, number, isInteger, integer, opening, charBy, character};
 ghost use Rattle.structure.specs.Structure.{postfixAt, fromNumber, fromComma};
-ghost use Rattle.build.specs.Build.{Sound, suffixOf};
+ghost use Rattle.build.specs.Build.{Accepted, suffixOf};
 
 fn worth_of(d: Decimal) -> u32
-    ensures { λ r. ⌜ r ≡ worth d ⌝ }
+    ensures { λ r. ⌜ r ≡ valueOf d ⌝ }
 {
     match d {
         Decimal::Is(n) => n,
@@ -112,53 +112,53 @@ pub fn character_at(text: &[u8], tokens: &[u32], at: usize) -> u32
 }
 
 // `{n}`, `{n,}`, `{n, m}`, from past the `{` on.
-fn from_number(text: &[u8], tokens: &[u32], at: usize) -> Suffix
+fn from_number(text: &[u8], tokens: &[u32], at: usize) -> FoundPostfix
     requires { ⌜ Lent (now text) (now tokens) ⌝ }
     requires { ⌜ is (now text) at 20 ≡ true ⌝ }
-    requires { ⌜ Sound (fromNumber (now text) at) ⌝ }
+    requires { ⌜ Accepted (fromNumber (now text) at) ⌝ }
     ensures { λ r. ⌜ r ≡ suffixOf (fromNumber (now (text .entry)) at) ⌝ }
 {
     let n = number_at(text, tokens, at);
     if kind_at(text, tokens, at + 1) == 3 {
-        return Suffix::Post(Unary::RepExact(n), at + 2);
+        return FoundPostfix::Post(Unary::RepExact(n), at + 2);
     }
     let j = at + 1 + 1;
     if kind_at(text, tokens, j) == 3 {
-        return Suffix::Post(Unary::RepMin(n), j + 1);
+        return FoundPostfix::Post(Unary::RepMin(n), j + 1);
     }
     let m = number_at(text, tokens, j);
-    Suffix::Post(Unary::RepMinMax(n, m), j + 1 + 1)
+    FoundPostfix::Post(Unary::RepMinMax(n, m), j + 1 + 1)
 }
 
 // `{,n}`, from the comma on.
-fn from_comma(text: &[u8], tokens: &[u32], at: usize) -> Suffix
+fn from_comma(text: &[u8], tokens: &[u32], at: usize) -> FoundPostfix
     requires { ⌜ Lent (now text) (now tokens) ⌝ }
-    requires { ⌜ Sound (fromComma (now text) at) ⌝ }
+    requires { ⌜ Accepted (fromComma (now text) at) ⌝ }
     ensures { λ r. ⌜ r ≡ suffixOf (fromComma (now (text .entry)) at) ⌝ }
 {
     let j = at + 1;
     let n = number_at(text, tokens, j);
-    Suffix::Post(Unary::RepMax(n), j + 1 + 1)
+    FoundPostfix::Post(Unary::RepMax(n), j + 1 + 1)
 }
 
 // The postfix at a token.
-pub fn suffix_at(text: &[u8], tokens: &[u32], at: usize) -> Suffix
+pub fn suffix_at(text: &[u8], tokens: &[u32], at: usize) -> FoundPostfix
     requires { ⌜ Lent (now text) (now tokens) ⌝ }
-    requires { ⌜ Sound (postfixAt (now text) at) ⌝ }
+    requires { ⌜ Accepted (postfixAt (now text) at) ⌝ }
     ensures { λ r. ⌜ r ≡ suffixOf (postfixAt (now (text .entry)) at) ⌝ }
 {
     let kind = kind_at(text, tokens, at);
     if kind == 12 {
-        return Suffix::Post(Unary::Opt, at + 1);
+        return FoundPostfix::Post(Unary::Opt, at + 1);
     }
     if kind == 13 {
-        return Suffix::Post(Unary::Rep, at + 1);
+        return FoundPostfix::Post(Unary::Rep, at + 1);
     }
     if kind == 14 {
-        return Suffix::Post(Unary::RepOnce, at + 1);
+        return FoundPostfix::Post(Unary::RepOnce, at + 1);
     }
     if kind != 2 {
-        return Suffix::Nothing;
+        return FoundPostfix::Nothing;
     }
     let i = at + 1;
     if kind_at(text, tokens, i) == 20 {

@@ -10,7 +10,7 @@ use states::Utf;
 ghost use mathlib.Core.Path.{_≡_};
 ghost use Prim.Native.Nat.{_-_};
 ghost use lib.ListN.{getD};
-ghost use Rattle.text.specs.Choice.{and, among};
+ghost use Rattle.text.specs.Booleans.{and, among};
 ghost use Rattle.states.specs.Keep as Keep;
 ghost use Rattle.states.specs.Steps.{begin};
 ghost use Rattle.states.specs.Feed as Feeds;

@@ -1,4 +1,4 @@
--- The place stays inside the word.
+-- The word keeps its length at every turn. What is left of it falls.
 use mathlib.Core.Path.{_≡_}
 use Prim.Native.Nat.{_-_}
 use lib.ListN.{length}

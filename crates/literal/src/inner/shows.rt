@@ -6,7 +6,7 @@ ghost use mathlib.Core.Path.{_≡_};
 ghost use mathlib.Core.Bool.{not};
 ghost use Prim.Native.Nat.{_<_};
 ghost use lib.Dec.{eqb};
-ghost use Rattle.text.specs.Choice.{and};
+ghost use Rattle.text.specs.Booleans.{and};
 ghost use Rattle.text.specs.Splice.{Room, Wrote, spent};
 ghost use Rattle.text.specs.Digits.{hexDigits};
 ghost use Rattle.literal.specs.Literals.{hexCount, bare, showOf, shown, inside, literal, quoteByte};

@@ -9,7 +9,7 @@ ghost use Prim.Native.Nat.{_+_, _≤_, _<_};
 ghost use lib.ListN.{length, drop};
 ghost use lib.Seq.{sets};
 ghost use Rattle.table.specs.Record.{nodesIn};
-ghost use Rattle.links.specs.Program.{linkedAt, Sound};
+ghost use Rattle.links.specs.Program.{linkedAt, Runnable};
 ghost use Rattle.matcher.specs.Answers.{lineOf};
 ghost use Rattle.matcher.specs.Lines.{bodySize, lineSize, rowSize, fields, ranOver, recorded};
 
@@ -64,7 +64,7 @@ pub(crate) fn run_lines(
     text: &[u8],
     records: &mut [u64],
 ) -> Lines
-    requires { ⌜ Sound (now nodes) (now links) (now store) ⌝ }
+    requires { ⌜ Runnable (now nodes) (now links) (now store) ⌝ }
     requires { ⌜ root < nodesIn (now nodes) ⌝ }
     ensures { λ r. ⌜ r ≡ ranOver (now (text .entry)) (length (now (records .entry))) ⌝ }
     ensures { λ r. ⌜ now (records .exit) ≡ recorded (lineOf (linkedAt (now (nodes .entry)) (now (links .entry))) (now (store .entry)) root allowance) (now (text .entry)) (now (records .entry)) ⌝ }

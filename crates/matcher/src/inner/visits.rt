@@ -12,7 +12,7 @@ use table::Fault;
 ghost use mathlib.Core.Path.{_≡_};
 ghost use Prim.Native.Nat.{_<_};
 ghost use Rattle.table.specs.Record.{nodesIn};
-ghost use Rattle.links.specs.Program.{linkedAt, Sound};
+ghost use Rattle.links.specs.Program.{linkedAt, Runnable};
 ghost use Rattle.matcher.specs.Match.{repeat, visit};
 ghost use Rattle.matcher.specs.Answers.{lineOf};
 
@@ -28,7 +28,7 @@ fn visit(
     depth: usize,
     allowed: u64,
 ) -> Outcome
-    requires { ⌜ Sound (now nodes) (now links) (now store) ⌝ }
+    requires { ⌜ Runnable (now nodes) (now links) (now store) ⌝ }
     requires { ⌜ start < nodesIn (now nodes) ⌝ }
     ensures { λ r. ⌜ r ≡ visit (linkedAt (now (nodes .entry)) (now (links .entry))) (now (store .entry)) (now (line .entry)) depth allowed start from ⌝ }
 {
@@ -145,7 +145,7 @@ fn repeat(
     depth: usize,
     allowed: u64,
 ) -> Outcome
-    requires { ⌜ Sound (now nodes) (now links) (now store) ⌝ }
+    requires { ⌜ Runnable (now nodes) (now links) (now store) ⌝ }
     requires { ⌜ c < nodesIn (now nodes) ⌝ }
     ensures { λ r. ⌜ r ≡ repeat (visit (linkedAt (now (nodes .entry)) (now (links .entry))) (now (store .entry)) (now (line .entry)) depth) c least most 0 start allowed ⌝ }
 {
@@ -185,7 +185,7 @@ pub(crate) fn run_line(
     allowance: u64,
     line: &[u8],
 ) -> Answer
-    requires { ⌜ Sound (now nodes) (now links) (now store) ⌝ }
+    requires { ⌜ Runnable (now nodes) (now links) (now store) ⌝ }
     requires { ⌜ root < nodesIn (now nodes) ⌝ }
     ensures { λ r. ⌜ r ≡ lineOf (linkedAt (now (nodes .entry)) (now (links .entry))) (now (store .entry)) root allowance (now (line .entry)) ⌝ }
 {

@@ -1,4 +1,4 @@
--- The place stays inside the records.
+-- Nothing has to hold from turn to turn: the test of the loop keeps the place inside the records. What is left of them falls.
 use Prim.Native.Nat.{_-_}
 use native.Mathlib.Omega.{arith}
 use lib.ListN.{length}

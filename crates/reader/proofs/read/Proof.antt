@@ -6,7 +6,7 @@ use Rattle.reader.proofs.read.Statement.{statement}
 use Rattle.reader.proofs.read.Tie as tie
 use Rattle.reader.proofs.read.Reads as reads
 use Rattle.reader.proofs.read.Lts as lts
-use Rattle.reader.proofs.inner.sizes.read_listed.Reads as read-listed-reads
+use Rattle.reader.proofs.inner.listings.read_listed.Reads as read-listed-reads
 use Rattle.text.proofs.first_bad.Reads as first-bad-reads
 use Rattle.text.proofs.inner.classes.classes.Reads as classes-reads
 

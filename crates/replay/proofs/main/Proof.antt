@@ -21,63 +21,48 @@ Inv-loop input₀ answers₀ blocks₀ t5 input answers blocks = (length input �
 abbrev μ-loop : tie.MeasureT-loop
 μ-loop input₀ answers₀ blocks₀ t5 input answers blocks = 1024 - blocks
 
--- src/main.rt:349:21
 large-buffer-requires : tie.Need-large-buffer-requires Inv-loop μ-loop
 large-buffer-requires c κs = search needs
 
--- src/main.rt:352:5
 loop-holds : tie.Need-loop-holds Inv-loop μ-loop
 loop-holds c = (search needs, omega arith, omega arith)
 
--- src/main.rt:353:34
 slice-aggregate-read-full : tie.Need-slice-aggregate-read-full Inv-loop μ-loop
 slice-aggregate-read-full c = search needs
 
--- src/main.rt:353:13
 read-full-requires : tie.Need-read-full-requires Inv-loop μ-loop
 read-full-requires c κs = search needs
 
--- src/main.rt:357:30
 array-share-prefix-input : tie.Need-array-share-prefix-input Inv-loop μ-loop
 array-share-prefix-input c = search needs
 
--- src/main.rt:357:30
 slice-aggregate-run-block : tie.Need-slice-aggregate-run-block Inv-loop μ-loop
 slice-aggregate-run-block c = search needs
 
--- src/main.rt:357:20
 run-block-requires : tie.Need-run-block-requires Inv-loop μ-loop
 run-block-requires c κs = search needs
 
--- src/main.rt:357:9
 add-answers : tie.Need-add-answers Inv-loop μ-loop
 add-answers c = omega arith
 
--- src/main.rt:358:9
 add-blocks : tie.Need-add-blocks Inv-loop μ-loop
 add-blocks c = omega arith
 
--- src/main.rt:352:5
 loop-less : tie.Need-loop-less Inv-loop μ-loop
 loop-less c = omega arith
 
--- src/main.rt:352:5
 loop-again : tie.Need-loop-again Inv-loop μ-loop
 loop-again c = (search needs, omega arith, omega arith)
 
--- src/main.rt:360:5
 print-decimal-requires : tie.Need-print-decimal-requires Inv-loop μ-loop
 print-decimal-requires c κs = search needs
 
--- src/main.rt:361:20
 slice-aggregate-write : tie.Need-slice-aggregate-write Inv-loop μ-loop
 slice-aggregate-write c = search needs
 
--- src/main.rt:361:5
 write-requires : tie.Need-write-requires Inv-loop μ-loop
 write-requires c κs = search needs
 
--- src/main.rt:348:1
 returns : tie.Need-returns Inv-loop μ-loop
 returns c = search needs
 

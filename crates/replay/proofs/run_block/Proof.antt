@@ -17,47 +17,36 @@ Inv-loop block answers₀ at₀ answers at = (answers ≤ at) × (at ≤ 1 + len
 abbrev μ-loop : tie.MeasureT-loop
 μ-loop block answers₀ at₀ answers at = length block - at
 
--- src/main.rt:340:5
 loop-holds : tie.Need-loop-holds Inv-loop μ-loop
 loop-holds c = (omega arith, omega arith)
 
--- src/main.rt:341:13
 line-end-requires : tie.Need-line-end-requires Inv-loop μ-loop
 line-end-requires c κs = search needs
 
--- src/main.rt:342:24
 sub-ask : tie.Need-sub-ask Inv-loop μ-loop
 sub-ask c = c .line-end .ensures .1 (omega arith)
 
--- src/main.rt:342:24
 part-ask-start : tie.Need-part-ask-start Inv-loop μ-loop
 part-ask-start c = c .line-end .ensures .1 (omega arith)
 
--- src/main.rt:342:24
 part-ask-end : tie.Need-part-ask-end Inv-loop μ-loop
 part-ask-end c = omega arith
 
--- src/main.rt:342:20
 ask-requires : tie.Need-ask-requires Inv-loop μ-loop
 ask-requires c κs = search needs
 
--- src/main.rt:342:9
 add-answers : tie.Need-add-answers Inv-loop μ-loop
 add-answers c = omega arith
 
--- src/main.rt:343:14
 add-at : tie.Need-add-at Inv-loop μ-loop
 add-at c = omega arith
 
--- src/main.rt:340:5
 loop-less : tie.Need-loop-less Inv-loop μ-loop
 loop-less c = omega (arith, c .before .before .line-end .ensures .1 (omega arith))
 
--- src/main.rt:340:5
 loop-again : tie.Need-loop-again Inv-loop μ-loop
 loop-again c = (omega (arith, c .before .before .line-end .ensures .1 (omega arith)), omega arith)
 
--- src/main.rt:335:1
 returns : tie.Need-returns Inv-loop μ-loop
 returns c = omega arith
 

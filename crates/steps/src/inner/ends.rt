@@ -8,7 +8,7 @@ ghost use mathlib.Core.Path.{_≡_};
 ghost use mathlib.Core.Bool.{true};
 ghost use Prim.Native.Nat.{_+_, _≤_};
 ghost use lib.Dec.{ltb, eqb};
-ghost use Rattle.text.specs.Choice.{or};
+ghost use Rattle.text.specs.Booleans.{or};
 ghost use Rattle.states.specs.Keep.{stateFits};
 ghost use Rattle.states.specs.Machine as Machine;
 ghost use Rattle.steps.specs.Shapes.{finishBy};

@@ -3,7 +3,7 @@ use states::Tail;
 use states::Utf;
 use text::Check;
 ghost use mathlib.Core.Path.{_≡_};
-ghost use Rattle.text.specs.Choice as Choice;
+ghost use Rattle.text.specs.Booleans as Choice;
 ghost use Rattle.states.specs.Machine.{tailOk};
 ghost use Rattle.states.specs.Utf.{utfLead, utfNext, utfStep, utfEnd, brokenAt};
 

@@ -19,7 +19,7 @@ ghost use lib.Seq.{sets};
 ghost use Rattle.text.specs.Classes.{classes};
 ghost use Rattle.token.specs.Table.{flat, roomOf};
 ghost use Rattle.states.specs.Steps.{ranOf};
-ghost use Rattle.stream.specs.Shapes.{ranBy, givesOf, Sound};
+ghost use Rattle.stream.specs.Shapes.{ranBy, givesOf, Coherent};
 ghost use Rattle.stream.specs.Quick.{startAt, isBetween, Free, HoldsIf, Leapt};
 
 // The stream stands between tokens and between characters.
@@ -70,7 +70,7 @@ fn is_slow(c: Stand, i: usize, len: usize, n: usize, space: usize) -> bool
 // A packet may begin inside a token: by the table, up to the first place between tokens.
 fn settle(t: &[u8; 256], room: usize, from: Stand, packet: &[u8], stash: &mut [u32]) -> Part
     requires { ⌜ now t ≡ classes ⌝ }
-    requires { ⌜ Sound from ⌝ }
+    requires { ⌜ Coherent from ⌝ }
     ensures { λ r. ⌜ Leapt room from 0 0 (now (packet .entry)) (now (stash .entry)) (now (stash .exit)) (r .stand) (r .at) ⌝ }
 {
     let space = stash.len() / 3;
@@ -122,7 +122,7 @@ fn ahead(t: &[u8; 256], packet: &[u8], at: usize) -> Ahead
 
 // The stream stands between tokens, and no byte of the rest is refused by 1 or 2.
 fn may_leap(c: Stand, rest: &[u8]) -> bool
-    requires { ⌜ Sound c ⌝ }
+    requires { ⌜ Coherent c ⌝ }
     ensures { λ r. ⌜ (r ≡ true → Free c (now (rest .entry))) ⌝ }
 {
     if 65536 - c.seen < rest.len() {
@@ -147,7 +147,7 @@ fn leap(
     stash: &mut [u32],
 ) -> Part
     requires { ⌜ now t ≡ classes ⌝ }
-    requires { ⌜ Sound from ⌝ }
+    requires { ⌜ Coherent from ⌝ }
     requires { ⌜ i ≤ length (now packet) ⌝ }
     requires { ⌜ m ≤ roomOf (now stash) ⌝ }
     ensures { λ r. ⌜ Leapt room from i m (now (packet .entry)) (now (stash .entry)) (now (stash .exit)) (r .stand) (r .at) ⌝ }
@@ -225,7 +225,7 @@ fn cut(packet: &[u8]) -> usize
 // A packet.
 pub(crate) fn fast(t: &[u8; 256], from: Stand, packet: &[u8], list: &mut [u32]) -> Ran
     requires { ⌜ now t ≡ classes ⌝ }
-    requires { ⌜ Sound from ⌝ }
+    requires { ⌜ Coherent from ⌝ }
     ensures answer { λ r. ⌜ r ≡ ranBy (ranOf (roomOf (now (list .entry))) from (now (packet .entry))) ⌝ }
     ensures held { λ _. ⌜ now (list .exit) ≡ sets (now (list .entry)) (from .count * 3) (flat (givesOf (ranOf (roomOf (now (list .entry))) from (now (packet .entry))))) ⌝ }
 {

@@ -4,9 +4,9 @@ use crate::Bracket;
 use crate::Checked;
 use crate::Level;
 use crate::Opening;
+use crate::PostfixEnd;
+use crate::PostfixEnds;
 use crate::Refusal;
-use crate::Tail;
-use crate::Tails;
 use crate::Wanted;
 use token::inner::table::end_at;
 use token::inner::table::kind_at;
@@ -52,7 +52,7 @@ pub fn tag_of(text: &[u8], tokens: &[u32], level: Level, at: usize) -> Opening
 }
 
 // Past the predicates from an index on.
-pub fn signs_end(text: &[u8], tokens: &[u32], at: usize) -> usize
+pub fn predicates_end(text: &[u8], tokens: &[u32], at: usize) -> usize
     requires { ⌜ Lent (now text) (now tokens) ⌝ }
     ensures { λ r. ⌜ Signed (now (text .entry)) at r ⌝ }
 {
@@ -69,7 +69,7 @@ pub fn signs_end(text: &[u8], tokens: &[u32], at: usize) -> usize
 }
 
 // Past the postfixes from an index on.
-pub fn check_posts(text: &[u8], tokens: &[u32], at: usize) -> Tails
+pub fn check_posts(text: &[u8], tokens: &[u32], at: usize) -> PostfixEnds
     requires { ⌜ Lent (now text) (now tokens) ⌝ }
     ensures { λ r. ⌜ Posted (now (text .entry)) at r ⌝ }
 {
@@ -78,15 +78,15 @@ pub fn check_posts(text: &[u8], tokens: &[u32], at: usize) -> Tails
     loop {
         let tail = super::leaves::postfix_end(text, tokens, i);
         match tail {
-            Tail::Past(n) => {
+            PostfixEnd::Past(n) => {
                 i = n;
                 count += 1;
             }
-            Tail::Bad(refusal) => {
-                return Tails::Bad(refusal);
+            PostfixEnd::Bad(refusal) => {
+                return PostfixEnds::Bad(refusal);
             }
-            Tail::Ended => {
-                return Tails::All {
+            PostfixEnd::Ended => {
+                return PostfixEnds::All {
                     next: i,
                     nodes: count,
                 };
@@ -166,14 +166,14 @@ fn check_term(text: &[u8], tokens: &[u32], level: Level, at: usize, deep: usize)
     else {
         return Checked::Refused(Refusal::NotAllowed(start_at(text, tokens, at + 1)));
     };
-    let first = signs_end(text, tokens, from);
+    let first = predicates_end(text, tokens, from);
     match check_node(text, tokens, level, first, deep) {
         Checked::Refused(refusal) => Checked::Refused(refusal),
         Checked::Good { next, nodes, bytes } => {
             let tails = check_posts(text, tokens, next);
             match tails {
-                Tails::Bad(refusal) => Checked::Refused(refusal),
-                Tails::All {
+                PostfixEnds::Bad(refusal) => Checked::Refused(refusal),
+                PostfixEnds::All {
                     next: last,
                     nodes: posts,
                 } => Checked::Good {

@@ -1,7 +1,7 @@
 // Nodes that hold no expression, and postfixes.
 use crate::Checked;
+use crate::PostfixEnd;
 use crate::Refusal;
-use crate::Tail;
 use crate::Wanted;
 use token::inner::table::kind_at;
 use token::inner::table::start_at;
@@ -13,70 +13,70 @@ ghost use Rattle.structure.specs.Structure.{postfixAt, fromNumber, fromC
 ghost use Rattle.structure.specs.Answers.{summary, pastInteger, tailOf};
 
 // `{n}`, `{n,}`, `{n, m}`, from the n on.
-fn number_end(text: &[u8], tokens: &[u32], at: usize) -> Tail
+fn number_end(text: &[u8], tokens: &[u32], at: usize) -> PostfixEnd
     requires { ⌜ Lent (now text) (now tokens) ⌝ }
     requires { ⌜ at < length (toks (now text)) ⌝ }
     ensures { λ r. ⌜ r ≡ tailOf (fromNumber (now (text .entry)) at) ⌝ }
 {
     let i = at + 1;
     if kind_at(text, tokens, i) == 3 {
-        return Tail::Past(i + 1);
+        return PostfixEnd::Past(i + 1);
     }
     let comma = super::tokens::expect(text, tokens, i, 15);
     let Wanted::Here(j) = comma else {
-        return Tail::Bad(Refusal::NotAllowed(start_at(text, tokens, i)));
+        return PostfixEnd::Bad(Refusal::NotAllowed(start_at(text, tokens, i)));
     };
     if kind_at(text, tokens, j) == 3 {
-        return Tail::Past(j + 1);
+        return PostfixEnd::Past(j + 1);
     }
     let most = super::tokens::expect(text, tokens, j, 20);
     let Wanted::Here(k) = most else {
-        return Tail::Bad(Refusal::NotAllowed(start_at(text, tokens, j)));
+        return PostfixEnd::Bad(Refusal::NotAllowed(start_at(text, tokens, j)));
     };
     let close = super::tokens::expect(text, tokens, k, 3);
     let Wanted::Here(n) = close else {
-        return Tail::Bad(Refusal::NotAllowed(start_at(text, tokens, k)));
+        return PostfixEnd::Bad(Refusal::NotAllowed(start_at(text, tokens, k)));
     };
-    Tail::Past(n)
+    PostfixEnd::Past(n)
 }
 
 // `{,n}`, from the comma on.
-fn comma_end(text: &[u8], tokens: &[u32], at: usize) -> Tail
+fn comma_end(text: &[u8], tokens: &[u32], at: usize) -> PostfixEnd
     requires { ⌜ Lent (now text) (now tokens) ⌝ }
     ensures { λ r. ⌜ r ≡ tailOf (fromComma (now (text .entry)) at) ⌝ }
 {
     let comma = super::tokens::expect(text, tokens, at, 15);
     let Wanted::Here(j) = comma else {
-        return Tail::Bad(Refusal::NotAllowed(start_at(text, tokens, at)));
+        return PostfixEnd::Bad(Refusal::NotAllowed(start_at(text, tokens, at)));
     };
     let most = super::tokens::expect(text, tokens, j, 20);
     let Wanted::Here(k) = most else {
-        return Tail::Bad(Refusal::NotAllowed(start_at(text, tokens, j)));
+        return PostfixEnd::Bad(Refusal::NotAllowed(start_at(text, tokens, j)));
     };
     let close = super::tokens::expect(text, tokens, k, 3);
     let Wanted::Here(n) = close else {
-        return Tail::Bad(Refusal::NotAllowed(start_at(text, tokens, k)));
+        return PostfixEnd::Bad(Refusal::NotAllowed(start_at(text, tokens, k)));
     };
-    Tail::Past(n)
+    PostfixEnd::Past(n)
 }
 
 // Where the postfix ends that stands at an index.
-pub fn postfix_end(text: &[u8], tokens: &[u32], at: usize) -> Tail
+pub fn postfix_end(text: &[u8], tokens: &[u32], at: usize) -> PostfixEnd
     requires { ⌜ Lent (now text) (now tokens) ⌝ }
     ensures { λ r. ⌜ r ≡ tailOf (postfixAt (now (text .entry)) at) ⌝ }
 {
     let k = kind_at(text, tokens, at);
     match k {
-        12 => Tail::Past(at + 1),
-        13 => Tail::Past(at + 1),
-        14 => Tail::Past(at + 1),
+        12 => PostfixEnd::Past(at + 1),
+        13 => PostfixEnd::Past(at + 1),
+        14 => PostfixEnd::Past(at + 1),
         2 => {
             if kind_at(text, tokens, at + 1) == 20 {
                 return number_end(text, tokens, at + 1);
             }
             comma_end(text, tokens, at + 1)
         }
-        _ => Tail::Ended,
+        _ => PostfixEnd::Ended,
     }
 }
 

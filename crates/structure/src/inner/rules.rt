@@ -11,7 +11,7 @@ use token::inner::table::token_count;
 ghost use mathlib.Core.Path.{_≡_};
 ghost use Prim.Native.Nat.{_<_};
 ghost use Rattle.token.specs.Table.{Lent};
-ghost use Rattle.structure.specs.Structure.{isName, markAt, pastMark, pastBar, ruleAt, docs, grammar};
+ghost use Rattle.structure.specs.Structure.{isName, markAt, pastMark, pastBar, ruleFrom, docs, grammar};
 ghost use Rattle.structure.specs.Answers.{ruleSummary, summaries};
 
 // A rule's name stands at an index.
@@ -72,7 +72,7 @@ pub fn past_bar(text: &[u8], tokens: &[u32], at: usize) -> usize
 // Word, `=`, at most one mark, `{`, at most one `|`, expression, `}`.
 fn check_rule(text: &[u8], tokens: &[u32], level: Level, at: usize) -> Checked
     requires { ⌜ Lent (now text) (now tokens) ⌝ }
-    ensures { λ r. ⌜ r ≡ ruleSummary (ruleAt level (now (text .entry)) at) ⌝ }
+    ensures { λ r. ⌜ r ≡ ruleSummary (ruleFrom level (now (text .entry)) at) ⌝ }
 {
     if !is_name(text, tokens, at) {
         return Checked::Refused(Refusal::NotAllowed(start_at(text, tokens, at)));

@@ -7,7 +7,7 @@ ghost use mathlib.Core.Path.{_≡_};
 ghost use Prim.Native.Nat.{_≤_, _<_};
 ghost use lib.ListN.{length};
 ghost use Rattle.literal.specs.Escapes.{unescaped};
-ghost use Rattle.token.specs.Table.{part, word, Lent};
+ghost use Rattle.token.specs.Table.{between, word, Lent};
 ghost use Rattle.structure.specs.Tokens.{spells};
 ghost use Rattle.structure.specs.Values.{string};
 ghost use Rattle.structure.specs.Answers.{wanted};
@@ -57,7 +57,7 @@ pub fn word_bytes(text: &[u8], tokens: &[u32], at: usize) -> usize
 fn unescaped_bytes(text: &[u8], a: usize, z: usize) -> usize
     requires { ⌜ length (now text) ≤ 65536 ⌝ }
     requires { ⌜ z ≤ length (now text) ⌝ }
-    ensures { λ r. ⌜ r ≡ length (unescaped (part (now (text .entry)) a z)) ⌝ }
+    ensures { λ r. ⌜ r ≡ length (unescaped (between (now (text .entry)) a z)) ⌝ }
 {
     if z <= a {
         return 0;

@@ -12,8 +12,8 @@ ghost use Prim.Native.Nat.{_+_, _≤_, _<_};
 ghost use lib.ListN.{length};
 ghost use Rattle.text.specs.Digits.{decimalOf};
 ghost use Rattle.literal.specs.Escapes.{badEscape};
-ghost use Rattle.token.specs.Table.{toks, part, word, Lent};
-ghost use Rattle.structure.specs.Values.{peekFault, repeatFault, literalFault, wordFault, numberFault, integerOf, opening, inside, faultAt, faults};
+ghost use Rattle.token.specs.Table.{toks, between, word, Lent};
+ghost use Rattle.structure.specs.Values.{peekFault, repeatFault, literalFault, wordFault, numberFault, integerOf, opening, literalBytes, faultAt, faults};
 
 // PUSH_LITERAL, at the plain level.
 fn word_fault(text: &[u8], tokens: &[u32], level: Level, at: usize) -> Fault
@@ -109,7 +109,7 @@ fn number_fault(text: &[u8], tokens: &[u32], before: u8, at: usize) -> Fault
 // The first bad escape in the part of a text from a to z.
 fn bad_escape_in(text: &[u8], a: usize, z: usize) -> Check
     requires { ⌜ z ≤ length (now text) ⌝ }
-    ensures { λ r. ⌜ r ≡ badEscape (part (now (text .entry)) a z) ⌝ }
+    ensures { λ r. ⌜ r ≡ badEscape (between (now (text .entry)) a z) ⌝ }
 {
     if z <= a {
         return Check::Good;
@@ -122,7 +122,7 @@ fn literal_fault(text: &[u8], tokens: &[u32], at: usize, skip: usize) -> Fault
     requires { ⌜ Lent (now text) (now tokens) ⌝ }
     requires { ⌜ at < length (toks (now text)) ⌝ }
     requires { ⌜ skip ≡ opening (now text) at ⌝ }
-    ensures { λ r. ⌜ r ≡ literalFault (now (text .entry)) at (badEscape (inside (now (text .entry)) at)) ⌝ }
+    ensures { λ r. ⌜ r ≡ literalFault (now (text .entry)) at (badEscape (literalBytes (now (text .entry)) at)) ⌝ }
 {
     let a = start_at(text, tokens, at) + skip;
     let z = end_at(text, tokens, at);

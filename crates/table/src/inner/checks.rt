@@ -12,15 +12,15 @@ ghost use mathlib.Core.Path.{_≡_};
 ghost use Prim.Native.Nat.{ℕ, _+_, _*_, _≤_, _<_};
 ghost use mathlib.Core.Bool.{true, false};
 ghost use lib.ListN.{length, getD};
-ghost use Rattle.text.specs.Choice.{choose};
+ghost use Rattle.text.specs.Booleans.{choose};
 ghost use Rattle.text.specs.Classes.{classes};
 ghost use Rattle.text.specs.declared.Check.the-variants.{Good};
 ghost use Rattle.table.specs.declared.Leaf.the-variants.{Text, Range};
 ghost use Rattle.table.specs.declared.Op.the-variants.{NodeTag};
 ghost use Rattle.table.specs.Record.{nodeSize, ruleSize, nodesIn, rulesIn};
-ghost use Rattle.table.specs.Kids as Kids;
-ghost use Rattle.table.specs.Kids.{Told, Limits};
-ghost use Rattle.table.specs.Check.{maxNodes, shaped, inside, isUtf8, isName, isLabel, fineText, goodLeaf, goodOp, goodAt, beginAt, goodRoot, goodRule, lowest, verdict, Firsts};
+ghost use Rattle.table.specs.Children as Kids;
+ghost use Rattle.table.specs.Children.{Told, Limits};
+ghost use Rattle.table.specs.Check.{maxNodes, shaped, inStore, isUtf8, isName, isLabel, fineText, goodLeaf, goodOp, goodAt, beginAt, goodRoot, goodRule, lowest, verdict, Firsts};
 
 // Whole records, no more than the limits.
 pub(crate) fn is_shaped(nodes: &[u32], rules: &[u32], store: &[u8]) -> bool
@@ -43,7 +43,7 @@ pub(crate) fn is_shaped(nodes: &[u32], rules: &[u32], store: &[u8]) -> bool
 
 // Whether a part lies in the store; offset and length are not added before it is known to.
 fn is_inside(store: &[u8], p: usize, n: usize) -> bool
-    ensures { λ r. ⌜ r ≡ inside (now (store .entry)) p n ⌝ }
+    ensures { λ r. ⌜ r ≡ inStore (now (store .entry)) p n ⌝ }
 {
     if p <= store.len() {
         return n <= store.len() - p;

@@ -45,7 +45,7 @@ fn plain_of(unary: Unary, p: u32) -> Node
     Node::One(Op::Plain(unary), p as usize)
 }
 
-// A node by its kind, p, q and r: the one function that knows the kinds' numbers.
+// A node by its kind, p, q and r. The kinds' numbers are known here and, the other way round, to the writers of `records`.
 fn node_of(kind: u32, p: u32, q: u32, r: u32) -> Node
     ensures { λ x. ⌜ x ≡ nodeOf kind p q r ⌝ }
 {

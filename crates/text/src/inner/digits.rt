@@ -3,7 +3,7 @@ use crate::Decimal;
 ghost use mathlib.Core.Path.{_≡_};
 ghost use Prim.Native.Nat.{_+_, _*_, _≤_, _<_};
 ghost use lib.Dec.{leb};
-ghost use Rattle.text.specs.Choice.{choose};
+ghost use Rattle.text.specs.Booleans.{choose};
 ghost use Rattle.text.specs.Splice.{Room, Wrote, spent};
 ghost use Rattle.text.specs.Digits.{decimalFrom, decimal, hexDigits, hexDigit, hexes};
 

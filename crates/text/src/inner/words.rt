@@ -3,7 +3,7 @@ use crate::Word;
 ghost use mathlib.Core.Path.{_≡_};
 ghost use Prim.Native.Nat.{_≤_};
 ghost use lib.ListN.{length, drop};
-ghost use Rattle.text.specs.Choice.{all};
+ghost use Rattle.text.specs.Booleans.{all};
 ghost use Rattle.text.specs.Classes.{classes};
 ghost use Rattle.text.specs.Words.{startsWord, inWord, begins, wordOf};
 

@@ -2,9 +2,9 @@
 ghost use mathlib.Core.Path.{_≡_};
 ghost use Prim.Native.Nat.{_+_, _<_};
 ghost use lib.ListN.{length, drop};
-ghost use Rattle.text.specs.Choice.{nextIs};
+ghost use Rattle.text.specs.Booleans.{nextIs};
 ghost use Rattle.text.specs.Classes.{classes};
-ghost use Rattle.token.specs.Blanks.{words, digits, zeros, line, lineEnds};
+ghost use Rattle.token.specs.Blanks.{words, digitRun, zeros, line, lineEnds};
 
 // The byte at a place is b.
 pub(crate) fn next_is(s: &[u8], i: usize, b: u8) -> bool
@@ -34,7 +34,7 @@ pub(crate) fn word_end(t: &[u8; 256], s: &[u8], at: usize) -> usize
 // Past digits.
 pub(crate) fn digits_end(t: &[u8; 256], s: &[u8], at: usize) -> usize
     requires { ⌜ now t ≡ classes ⌝ }
-    ensures { λ r. ⌜ r ≡ at + digits (drop at (now (s .entry))) ⌝ }
+    ensures { λ r. ⌜ r ≡ at + digitRun (drop at (now (s .entry))) ⌝ }
 {
     let mut i = at;
     while i < s.len() {

@@ -5,7 +5,7 @@ use states::Conf;
 use states::State;
 ghost use mathlib.Core.Path.{_≡_};
 ghost use Prim.Native.Nat.{suc, _+_, _≤_};
-ghost use Rattle.text.specs.Choice.{choose};
+ghost use Rattle.text.specs.Booleans.{choose};
 ghost use Rattle.states.specs.Machine as Machine;
 ghost use Rattle.steps.specs.Shapes.{outOf, going, giving};
 

@@ -9,7 +9,7 @@ use text::Value;
 ghost use mathlib.Core.Path.{_≡_};
 ghost use Prim.Native.Nat.{_+_, _≤_};
 ghost use lib.Dec.{leb, ltb, eqb};
-ghost use Rattle.text.specs.Choice.{and};
+ghost use Rattle.text.specs.Booleans.{and};
 ghost use Rattle.literal.specs.Escapes.{simpleOf};
 ghost use Rattle.states.specs.Machine as Machine;
 ghost use Rattle.steps.specs.Shapes.{outOf};

@@ -6,7 +6,7 @@ ghost use mathlib.Core.Path.{_≡_};
 ghost use Prim.Native.Nat.{suc, _+_, _≤_};
 ghost use lib.Dec.{ltb, eqb};
 ghost use lib.ListN.{getD};
-ghost use Rattle.text.specs.Choice.{choose, and, or};
+ghost use Rattle.text.specs.Booleans.{choose, and, or};
 ghost use Rattle.text.specs.Classes.{classes};
 ghost use Rattle.token.specs.Blanks.{inDigits};
 ghost use Rattle.token.specs.Tokens.{pushLiteral};

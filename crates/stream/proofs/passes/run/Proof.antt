@@ -5,14 +5,14 @@ use borrow.Author.Needs.{needs}
 use lib.ListN.{length, drop}
 use native.Mathlib.Omega.{arith}
 use mathlib.Core.Path.{sym, _∙_, ap, refl, _≡_}
-use Rattle.stream.specs.Shapes.{ranBy, Sound}
+use Rattle.stream.specs.Shapes.{ranBy, Coherent}
 use Rattle.states.specs.Steps.{ranOf}
 use Rattle.stream.proofs.Writes.{run-stops, run-moves, ran-end, step-sound}
 use Rattle.stream.proofs.passes.run.Statement.{statement}
 use Rattle.stream.proofs.passes.run.Tie as tie
 
 abbrev Inv-loop : tie.InvT-loop
-Inv-loop t room packet c₀ i₀ c i = (i ≤ length packet) × Sound c × (ranBy (ranOf room c (drop i packet)) ≡ ranBy (ranOf room c₀ packet))
+Inv-loop t room packet c₀ i₀ c i = (i ≤ length packet) × Coherent c × (ranBy (ranOf room c (drop i packet)) ≡ ranBy (ranOf room c₀ packet))
 
 abbrev μ-loop : tie.MeasureT-loop
 μ-loop t room packet c₀ i₀ c i = length packet - i

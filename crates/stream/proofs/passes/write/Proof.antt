@@ -9,13 +9,13 @@ use native.Mathlib.Omega.{arith}
 use mathlib.Core.Path.{sym, _∙_, ap, refl, _≡_}
 use Rattle.token.specs.Table.{flat, roomOf}
 use Rattle.states.specs.Steps.{Step, ranOf}
-use Rattle.stream.specs.Shapes.{givesOf, isGood, Sound}
+use Rattle.stream.specs.Shapes.{givesOf, isGood, Coherent}
 use Rattle.stream.proofs.Writes.{good-goes, good-moves, write-moves, ran-end, step-room, step-sound}
 use Rattle.stream.proofs.passes.write.Statement.{statement}
 use Rattle.stream.proofs.passes.write.Tie as tie
 
 abbrev Inv-loop : tie.InvT-loop
-Inv-loop t packet list₀ room c₀ i₀ list c i = (length list ≡ length list₀) × (i ≤ length packet) × Sound c × (isGood (ranOf room c (drop i packet)) ≡ true) × (sets list (c .count * 3) (flat (givesOf (ranOf room c (drop i packet)))) ≡ sets list₀ (c₀ .count * 3) (flat (givesOf (ranOf room c₀ packet))))
+Inv-loop t packet list₀ room c₀ i₀ list c i = (length list ≡ length list₀) × (i ≤ length packet) × Coherent c × (isGood (ranOf room c (drop i packet)) ≡ true) × (sets list (c .count * 3) (flat (givesOf (ranOf room c (drop i packet)))) ≡ sets list₀ (c₀ .count * 3) (flat (givesOf (ranOf room c₀ packet))))
 
 abbrev μ-loop : tie.MeasureT-loop
 μ-loop t packet list₀ room c₀ i₀ list c i = length packet - i

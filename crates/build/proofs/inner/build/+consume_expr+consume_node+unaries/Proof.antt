@@ -28,17 +28,17 @@ use Rattle.build.proofs.inner.build.unaries.Reads as unaries
 use Rattle.build.proofs.inner.build.unaries.Kinds as unaries-kinds
 use Rattle.build.proofs.inner.build.+consume_expr+consume_node+unaries.Lts-unaries as unaries-lts
 use Rattle.build.proofs.inner.leaves.put_leaf.Reads as put-leaf-reads
-use Rattle.build.proofs.inner.loops.put_choice.Reads as put-choice-reads
-use Rattle.build.proofs.inner.loops.put_postfixes.Reads as put-postfixes-reads
-use Rattle.build.proofs.inner.loops.put_signs.Reads as put-signs-reads
+use Rattle.build.proofs.inner.around.put_choice.Reads as put-choice-reads
+use Rattle.build.proofs.inner.around.put_postfixes.Reads as put-postfixes-reads
+use Rattle.build.proofs.inner.around.put_predicates.Reads as put-predicates-reads
 use Rattle.records.proofs.inner.nodes.move_end.Reads as move-end-reads
 use Rattle.records.proofs.inner.nodes.put_join.Reads as put-join-reads
 use Rattle.records.proofs.inner.nodes.put_unary.Reads as put-unary-reads
 use Rattle.build.proofs.inner.terms.get_node_tag.Reads as get-node-tag-reads
-use Rattle.build.proofs.inner.terms.head_at.Reads as head-at-reads
-use Rattle.build.proofs.inner.terms.open_at.Reads as open-at-reads
+use Rattle.build.proofs.inner.terms.term_start.Reads as term-start-reads
+use Rattle.build.proofs.inner.terms.move_to_bracket.Reads as move-to-bracket-reads
 use Rattle.build.proofs.inner.terms.put_tag.Reads as put-tag-reads
-use Rattle.structure.proofs.inner.checks.signs_end.Reads as signs-end-reads
+use Rattle.structure.proofs.inner.checks.predicates_end.Reads as predicates-end-reads
 use Rattle.token.proofs.inner.table.end_at.Reads as end-at-reads
 use Rattle.token.proofs.inner.table.kind_at.Reads as kind-at-reads
 use Rattle.structure.proofs.inner.tokens.spelled.Reads as spelled-reads
@@ -102,7 +102,7 @@ of-consume-node N t = N (kind-at-reads.Asked, kind-at-reads.Learnt, consume-expr
 
 -- a need of `unaries`, or a place of its code, at the measure t
 abbrev of-unaries : ((k : unaries-lts.Claims) (p : In 4 unaries-kinds.ps) (q : Out 4 unaries-kinds.ps unaries-kinds.r) → Type 0) → ℕ → Type 0
-of-unaries N t = N (get-node-tag-reads.Asked, get-node-tag-reads.Learnt, signs-end-reads.Asked, signs-end-reads.Learnt, consume-node-below t, consume-node.Post, put-postfixes-reads.Asked, put-postfixes-reads.Learnt, open-at-reads.Asked, open-at-reads.Learnt, put-signs-reads.Asked, put-signs-reads.Learnt, head-at-reads.Asked, head-at-reads.Learnt, put-tag-reads.Asked, put-tag-reads.Learnt) (unaries-at t) unaries.Post
+of-unaries N t = N (get-node-tag-reads.Asked, get-node-tag-reads.Learnt, predicates-end-reads.Asked, predicates-end-reads.Learnt, consume-node-below t, consume-node.Post, put-postfixes-reads.Asked, put-postfixes-reads.Learnt, move-to-bracket-reads.Asked, move-to-bracket-reads.Learnt, put-predicates-reads.Asked, put-predicates-reads.Learnt, term-start-reads.Asked, term-start-reads.Learnt, put-tag-reads.Asked, put-tag-reads.Learnt) (unaries-at t) unaries.Post
 
 consume-expr-unaries-requires : (t : ℕ) → of-consume-expr consume-expr-lts.Need-unaries-requires t
 consume-expr-unaries-requires t c κs =
@@ -620,87 +620,87 @@ unaries-get-node-tag-requires t c κs =
     let room = start .pre .1 .1 .1 in
     (lent, tag-room _ _ _ _ _ _ _ _ room)
 
-unaries-signs-end-requires : (t : ℕ) → of-unaries unaries-lts.Need-signs-end-requires t
+unaries-signs-end-requires : (t : ℕ) → of-unaries unaries-lts.Need-predicates-end-requires t
 unaries-signs-end-requires t c κs = search needs
 
 unaries-consume-node-requires : (t : ℕ) → of-unaries unaries-lts.Need-consume-node-requires t
 unaries-consume-node-requires t c κs =
-    let at-signs-end = c .before .before in
-    let at-get-node-tag = at-signs-end .before .before .before in
+    let at-predicates-end = c .before .before in
+    let at-get-node-tag = at-predicates-end .before .before .before in
     let start = at-get-node-tag .before .before .before .before .before .before in
     let measured = start .pre .0 in
     let room = start .pre .1 .1 .1 in
     let lent = start .pre .1 .0 in
-    let node-falls-to = node-falls _ _ _ _ _ _ _ _ room _ _ _ _ (at-get-node-tag .get-node-tag .ensures .1) (at-get-node-tag .get-node-tag .ensures .0) (at-signs-end .signs-end .ensures) in
+    let node-falls-to = node-falls _ _ _ _ _ _ _ _ room _ _ _ _ (at-get-node-tag .get-node-tag .ensures .1) (at-get-node-tag .get-node-tag .ensures .0) (at-predicates-end .predicates-end .ensures) in
     let scalars = start .pre .1 .1 .0 in
-    (omega (arith, measured, node-falls-to), (lent, (scalars, node-room _ _ _ _ _ _ _ _ room _ _ _ _ (at-get-node-tag .get-node-tag .ensures .1) (at-get-node-tag .get-node-tag .ensures .0) (at-signs-end .signs-end .ensures))))
+    (omega (arith, measured, node-falls-to), (lent, (scalars, node-room _ _ _ _ _ _ _ _ room _ _ _ _ (at-get-node-tag .get-node-tag .ensures .1) (at-get-node-tag .get-node-tag .ensures .0) (at-predicates-end .predicates-end .ensures))))
 
 unaries-put-postfixes-requires : (t : ℕ) → of-unaries unaries-lts.Need-put-postfixes-requires t
 unaries-put-postfixes-requires t c κs =
     let at-consume-node = c .before .before .before .before .before in
-    let at-signs-end = at-consume-node .before .before .before in
-    let at-get-node-tag = at-signs-end .before .before .before in
+    let at-predicates-end = at-consume-node .before .before .before in
+    let at-get-node-tag = at-predicates-end .before .before .before in
     let start = at-get-node-tag .before .before .before .before .before .before in
     let lent = start .pre .1 .0 in
     let room = start .pre .1 .1 .1 in
-    (lent, posts-room _ _ _ _ _ _ _ _ room _ _ _ _ (at-get-node-tag .get-node-tag .ensures .1) (at-get-node-tag .get-node-tag .ensures .0) (at-signs-end .signs-end .ensures) _ _ _ (at-consume-node .consume-node .ensures))
+    (lent, posts-room _ _ _ _ _ _ _ _ room _ _ _ _ (at-get-node-tag .get-node-tag .ensures .1) (at-get-node-tag .get-node-tag .ensures .0) (at-predicates-end .predicates-end .ensures) _ _ _ (at-consume-node .consume-node .ensures))
 
-unaries-open-at-requires : (t : ℕ) → of-unaries unaries-lts.Need-open-at-requires t
+unaries-open-at-requires : (t : ℕ) → of-unaries unaries-lts.Need-move-to-bracket-requires t
 unaries-open-at-requires t c κs =
     let at-put-postfixes = c .before .before .before in
     let at-consume-node = at-put-postfixes .before .before .before .before .before .before in
-    let at-signs-end = at-consume-node .before .before .before in
-    let at-get-node-tag = at-signs-end .before .before .before in
+    let at-predicates-end = at-consume-node .before .before .before in
+    let at-get-node-tag = at-predicates-end .before .before .before in
     let start = at-get-node-tag .before .before .before .before .before .before in
     let lent = start .pre .1 .0 in
     let room = start .pre .1 .1 .1 in
-    (lent, open-room _ _ _ _ _ _ _ _ room _ _ _ _ (at-get-node-tag .get-node-tag .ensures .1) (at-get-node-tag .get-node-tag .ensures .0) (at-signs-end .signs-end .ensures) _ _ _ (at-consume-node .consume-node .ensures) _ _ (at-put-postfixes .put-postfixes .ensures))
+    (lent, open-room _ _ _ _ _ _ _ _ room _ _ _ _ (at-get-node-tag .get-node-tag .ensures .1) (at-get-node-tag .get-node-tag .ensures .0) (at-predicates-end .predicates-end .ensures) _ _ _ (at-consume-node .consume-node .ensures) _ _ (at-put-postfixes .put-postfixes .ensures))
 
-unaries-put-signs-requires : (t : ℕ) → of-unaries unaries-lts.Need-put-signs-requires t
+unaries-put-signs-requires : (t : ℕ) → of-unaries unaries-lts.Need-put-predicates-requires t
 unaries-put-signs-requires t c κs =
-    let at-open-at = c .before .before .before in
-    let at-put-postfixes = at-open-at .before .before .before .before in
+    let at-move-to-bracket = c .before .before .before in
+    let at-put-postfixes = at-move-to-bracket .before .before .before .before in
     let at-consume-node = at-put-postfixes .before .before .before .before .before .before in
-    let at-signs-end = at-consume-node .before .before .before in
-    let at-get-node-tag = at-signs-end .before .before .before in
+    let at-predicates-end = at-consume-node .before .before .before in
+    let at-get-node-tag = at-predicates-end .before .before .before in
     let start = at-get-node-tag .before .before .before .before .before .before in
     let lent = start .pre .1 .0 in
     let room = start .pre .1 .1 .1 in
-    (lent, signs-room _ _ _ _ _ _ _ _ room _ _ _ _ (at-get-node-tag .get-node-tag .ensures .1) (at-get-node-tag .get-node-tag .ensures .0) (at-signs-end .signs-end .ensures) _ _ _ (at-consume-node .consume-node .ensures) _ _ (at-put-postfixes .put-postfixes .ensures) _ (at-open-at .open-at .ensures))
+    (lent, signs-room _ _ _ _ _ _ _ _ room _ _ _ _ (at-get-node-tag .get-node-tag .ensures .1) (at-get-node-tag .get-node-tag .ensures .0) (at-predicates-end .predicates-end .ensures) _ _ _ (at-consume-node .consume-node .ensures) _ _ (at-put-postfixes .put-postfixes .ensures) _ (at-move-to-bracket .move-to-bracket .ensures))
 
-unaries-head-at-requires : (t : ℕ) → of-unaries unaries-lts.Need-head-at-requires t
+unaries-head-at-requires : (t : ℕ) → of-unaries unaries-lts.Need-term-start-requires t
 unaries-head-at-requires t c κs =
     let start = c .before .before .before .before .before .before .before .before .before .before .before .before .before .before .before .before .before .before .before .before .before .before .before .before .before .before .before .before in
     start .pre .1 .0
 
 unaries-put-tag-requires : (t : ℕ) → of-unaries unaries-lts.Need-put-tag-requires t
 unaries-put-tag-requires t c κs =
-    let at-head-at = c .before in
-    let at-put-signs = at-head-at .before .before .before in
-    let at-open-at = at-put-signs .before .before .before .before in
-    let at-put-postfixes = at-open-at .before .before .before .before in
+    let at-term-start = c .before in
+    let at-put-predicates = at-term-start .before .before .before in
+    let at-move-to-bracket = at-put-predicates .before .before .before .before in
+    let at-put-postfixes = at-move-to-bracket .before .before .before .before in
     let at-consume-node = at-put-postfixes .before .before .before .before .before .before in
-    let at-signs-end = at-consume-node .before .before .before in
-    let at-get-node-tag = at-signs-end .before .before .before in
+    let at-predicates-end = at-consume-node .before .before .before in
+    let at-get-node-tag = at-predicates-end .before .before .before in
     let start = at-get-node-tag .before .before .before .before .before .before in
     let lent = start .pre .1 .0 in
     let room = start .pre .1 .1 .1 in
-    (lent, tie-room _ _ _ _ _ _ _ _ room _ _ _ _ (at-get-node-tag .get-node-tag .ensures .1) (at-get-node-tag .get-node-tag .ensures .0) (at-signs-end .signs-end .ensures) _ _ _ (at-consume-node .consume-node .ensures) _ _ (at-put-postfixes .put-postfixes .ensures) _ (at-open-at .open-at .ensures) _ _ (at-put-signs .put-signs .ensures .0) (at-put-signs .put-signs .ensures .1) _ (at-head-at .head-at .ensures) (lent .short))
+    (lent, tie-room _ _ _ _ _ _ _ _ room _ _ _ _ (at-get-node-tag .get-node-tag .ensures .1) (at-get-node-tag .get-node-tag .ensures .0) (at-predicates-end .predicates-end .ensures) _ _ _ (at-consume-node .consume-node .ensures) _ _ (at-put-postfixes .put-postfixes .ensures) _ (at-move-to-bracket .move-to-bracket .ensures) _ _ (at-put-predicates .put-predicates .ensures .0) (at-put-predicates .put-predicates .ensures .1) _ (at-term-start .term-start .ensures) (lent .short))
 
 unaries-returns : (t : ℕ) → of-unaries unaries-lts.Need-returns t
 unaries-returns t c =
     let at-put-tag = c .before .before in
-    let at-head-at = at-put-tag .before .before in
-    let at-put-signs = at-head-at .before .before .before in
-    let at-open-at = at-put-signs .before .before .before .before in
-    let at-put-postfixes = at-open-at .before .before .before .before in
+    let at-term-start = at-put-tag .before .before in
+    let at-put-predicates = at-term-start .before .before .before in
+    let at-move-to-bracket = at-put-predicates .before .before .before .before in
+    let at-put-postfixes = at-move-to-bracket .before .before .before .before in
     let at-consume-node = at-put-postfixes .before .before .before .before .before .before in
-    let at-signs-end = at-consume-node .before .before .before in
-    let at-get-node-tag = at-signs-end .before .before .before in
+    let at-predicates-end = at-consume-node .before .before .before in
+    let at-get-node-tag = at-predicates-end .before .before .before in
     let start = at-get-node-tag .before .before .before .before .before .before in
     let room = start .pre .1 .1 .1 in
     let lent = start .pre .1 .0 in
-    term-built _ _ _ _ _ _ _ _ room _ _ _ _ (at-get-node-tag .get-node-tag .ensures .1) (at-get-node-tag .get-node-tag .ensures .0) (at-signs-end .signs-end .ensures) _ _ _ (at-consume-node .consume-node .ensures) _ _ (at-put-postfixes .put-postfixes .ensures) _ (at-open-at .open-at .ensures) _ _ (at-put-signs .put-signs .ensures .0) (at-put-signs .put-signs .ensures .1) _ (at-head-at .head-at .ensures) (lent .short) _ _ (at-put-tag .put-tag .ensures)
+    term-built _ _ _ _ _ _ _ _ room _ _ _ _ (at-get-node-tag .get-node-tag .ensures .1) (at-get-node-tag .get-node-tag .ensures .0) (at-predicates-end .predicates-end .ensures) _ _ _ (at-consume-node .consume-node .ensures) _ _ (at-put-postfixes .put-postfixes .ensures) _ (at-move-to-bracket .move-to-bracket .ensures) _ _ (at-put-predicates .put-predicates .ensures .0) (at-put-predicates .put-predicates .ensures .1) _ (at-term-start .term-start .ensures) (lent .short) _ _ (at-put-tag .put-tag .ensures)
 
 unaries-same-length : (t : ℕ) → of-unaries unaries-lts.Need-same-length t
 unaries-same-length t c = built-long _ _ _ _ _ _ _ _ (unaries-returns t c) .0
@@ -793,18 +793,18 @@ pub +consume-expr+consume-node+unaries-spec : {M : Type 1} → statement M
     λ t. unaries-lts.spec (
       get-node-tag-reads.Asked,
       get-node-tag-reads.Learnt,
-      signs-end-reads.Asked,
-      signs-end-reads.Learnt,
+      predicates-end-reads.Asked,
+      predicates-end-reads.Learnt,
       consume-node-below t,
       consume-node.Post,
       put-postfixes-reads.Asked,
       put-postfixes-reads.Learnt,
-      open-at-reads.Asked,
-      open-at-reads.Learnt,
-      put-signs-reads.Asked,
-      put-signs-reads.Learnt,
-      head-at-reads.Asked,
-      head-at-reads.Learnt,
+      move-to-bracket-reads.Asked,
+      move-to-bracket-reads.Learnt,
+      put-predicates-reads.Asked,
+      put-predicates-reads.Learnt,
+      term-start-reads.Asked,
+      term-start-reads.Learnt,
       put-tag-reads.Asked,
       put-tag-reads.Learnt,
     )

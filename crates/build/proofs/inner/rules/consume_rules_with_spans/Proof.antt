@@ -1,7 +1,7 @@
 -- The loop keeps RulesInv: the rules that are left are read from token i on, and their records and texts, put behind those in the buffers, make up those of all.
 -- A doc comment takes one token (`rules-doc-more`), a rule one at least (`rules-more`): the tokens left fall. At the end no rule is left (`rules-done`).
 use Rattle.build.proofs.Rules.{RulesInv, rules-start, rules-done, rules-doc-more, rules-room, rules-more}
-use Rattle.build.specs.Rules.{rulesOf}
+use Rattle.build.specs.Rules.{rulesRead}
 use native.Mathlib.Omega.{arith}
 use lib.ListN.{length}
 use Prim.Native.Nat.{_-_}
@@ -11,7 +11,7 @@ use Rattle.build.proofs.inner.rules.consume_rules_with_spans.Statement.
 use Rattle.build.proofs.inner.rules.consume_rules_with_spans.Tie as tie
 
 abbrev Inv-loop : tie.InvT-loop
-Inv-loop text tokens nodes₀ rules₀ store₀ level n i₀ index₀ used₀ free₀ nodes rules store i index used free = RulesInv level text (rulesOf level text) nodes₀ rules₀ store₀ i index used free nodes rules store
+Inv-loop text tokens nodes₀ rules₀ store₀ level n i₀ index₀ used₀ free₀ nodes rules store i index used free = RulesInv level text (rulesRead level text) nodes₀ rules₀ store₀ i index used free nodes rules store
 
 abbrev μ-loop : tie.MeasureT-loop
 μ-loop text tokens nodes₀ rules₀ store₀ level n i₀ index₀ used₀ free₀ nodes rules store i index used free = length (toks text) - i

@@ -1,5 +1,5 @@
 use borrow.Author.Needs.{needs}
-use Rattle.token.specs.Table.{part}
+use Rattle.token.specs.Table.{between}
 use Rattle.build.proofs.inner.store.put_bytes.Statement.{statement}
 use Rattle.build.proofs.inner.store.put_bytes.Tie as tie
 
@@ -13,14 +13,14 @@ part-put-end : tie.Need-part-put-end
 part-put-end c = search needs
 
 put-requires : tie.Need-put-requires
-unfolding part
+unfolding between
 put-requires c κs = c .before .before .before .before .pre .1
 
 same-length : tie.Need-same-length
 same-length c = search needs
 
 returns : tie.Need-returns
-unfolding part
+unfolding between
 returns c = c .before .before .put .ensures
 
 pub put-bytes-spec : {M : Type 1} → statement M

@@ -1,6 +1,6 @@
--- The slice of the text from a to z is the `part` of the contract, unfolded: what `put_unescaped` asks for and ensures of it is what is asked and ensured here.
+-- The slice of the text from a to z is the `between` of the contract, unfolded: what `put_unescaped` asks for and ensures of it is what is asked and ensured here.
 use borrow.Author.Needs.{needs}
-use Rattle.token.specs.Table.{part}
+use Rattle.token.specs.Table.{between}
 use Rattle.build.proofs.inner.store.put_string.Statement.{statement}
 use Rattle.build.proofs.inner.store.put_string.Tie as tie
 
@@ -14,7 +14,7 @@ part-put-unescaped-end : tie.Need-part-put-unescaped-end
 part-put-unescaped-end c = search needs
 
 put-unescaped-requires : tie.Need-put-unescaped-requires
-unfolding part
+unfolding between
 put-unescaped-requires c κs =
     let start = c .before .before .before .before in
     (start .pre .1 .0, start .pre .1 .1)
@@ -23,7 +23,7 @@ same-length : tie.Need-same-length
 same-length c = search needs
 
 returns : tie.Need-returns
-unfolding part
+unfolding between
 returns c =
     let at-put-unescaped = c .before .before in
     at-put-unescaped .put-unescaped .ensures

@@ -25,7 +25,7 @@ use Rattle.structure.proofs.inner.checks.check_term.Kinds as check-term
 use Rattle.structure.proofs.inner.checks.+check_expr+check_node+check_term.Lts-check_term as check-term-lts
 use Rattle.structure.proofs.inner.checks.bracket_of.Reads as bracket-of-reads
 use Rattle.structure.proofs.inner.checks.check_posts.Reads as check-posts-reads
-use Rattle.structure.proofs.inner.checks.signs_end.Reads as signs-end-reads
+use Rattle.structure.proofs.inner.checks.predicates_end.Reads as predicates-end-reads
 use Rattle.structure.proofs.inner.checks.tag_of.Reads as tag-of-reads
 use Rattle.structure.proofs.inner.leaves.check_leaf.Reads as check-leaf-reads
 use Rattle.structure.proofs.inner.tokens.expect.Reads as expect-reads
@@ -83,7 +83,7 @@ of-check-node N t = N (bracket-of-reads.Asked, bracket-of-reads.Learnt, check-le
 
 -- a need of `check-term`, or a place of its code, at the measure t
 abbrev of-check-term : ((k : check-term-lts.Claims) (p : In 2 check-term-kinds.ps) (q : Out 2 check-term-kinds.ps check-term-kinds.r) → Type 0) → ℕ → Type 0
-of-check-term N t = N (tag-of-reads.Asked, tag-of-reads.Learnt, start-at-reads.Asked, start-at-reads.Learnt, signs-end-reads.Asked, signs-end-reads.Learnt, check-node-below t, check-node.Post, check-posts-reads.Asked, check-posts-reads.Learnt) (check-term-at t) check-term.Post
+of-check-term N t = N (tag-of-reads.Asked, tag-of-reads.Learnt, start-at-reads.Asked, start-at-reads.Learnt, predicates-end-reads.Asked, predicates-end-reads.Learnt, check-node-below t, check-node.Post, check-posts-reads.Asked, check-posts-reads.Learnt) (check-term-at t) check-term.Post
 
 check-expr-check-term-requires : (t : ℕ) → of-check-expr check-expr-lts.Need-check-term-requires t
 check-expr-check-term-requires t c κs = (omega (arith, c .before .before .pre .0), c .before .before .pre .1)
@@ -287,11 +287,11 @@ check-term-returns t c =
     let start = at-tag-of .before .before .before in
     term-untied _ _ (start .pre .1 .0 .short) _ _ _ (at-tag-of .tag-of .ensures) (c .before .enum-told .given .1) _ (c .start-at .ensures)
 
-check-term-signs-end-requires : (t : ℕ) → of-check-term check-term-lts.Need-signs-end-requires t
+check-term-signs-end-requires : (t : ℕ) → of-check-term check-term-lts.Need-predicates-end-requires t
 check-term-signs-end-requires t c κs = c .before .before .before .before .before .before .pre .1 .0
 
 check-term-check-node-requires : (t : ℕ) → of-check-term check-term-lts.Need-check-node-requires t
-check-term-check-node-requires t c κs = let f = falls-term (c .before .before .before .before .before .before .before .args .level) _ _ _ _ _ _ (was-from (c .before .before .before .before .before .before .before .args .level) _ _ _ _ _ _ (c .before .before .before .before .tag-of .ensures) (c .before .before .opening .given .1)) (c .signs-end .ensures) in (omega (arith, c .before .before .before .before .before .before .before .pre .0), c .before .before .before .before .before .before .before .pre .1)
+check-term-check-node-requires t c κs = let f = falls-term (c .before .before .before .before .before .before .before .args .level) _ _ _ _ _ _ (was-from (c .before .before .before .before .before .before .before .args .level) _ _ _ _ _ _ (c .before .before .before .before .tag-of .ensures) (c .before .before .opening .given .1)) (c .predicates-end .ensures) in (omega (arith, c .before .before .before .before .before .before .before .pre .0), c .before .before .before .before .before .before .before .pre .1)
 
 check-term-enum-known-refusal : (t : ℕ) → of-check-term check-term-lts.Need-enum-known-refusal t
 check-term-enum-known-refusal t c = search needs
@@ -309,50 +309,50 @@ check-term-enum-known-tails-2 : (t : ℕ) → of-check-term check-term-lts.Need-
 check-term-enum-known-tails-2 t c = search needs
 
 check-term-add-t25 : (t : ℕ) → of-check-term check-term-lts.Need-add-t25 t
-check-term-add-t25 t c = let z = term-sums _ _ (c .before .before .before .before .before .before .before .before .before .before .before .before .before .before .before .pre .1 .0 .short) _ _ _ _ _ (was-from _ _ _ _ _ _ _ (c .before .before .before .before .before .before .before .before .before .before .before .before .tag-of .ensures) (c .before .before .before .before .before .before .before .before .before .before .opening .given .1)) _ (c .before .before .before .before .before .before .before .before .signs-end .ensures) _ _ _ _ (c .before .before .before .before .before .before .before .check-node .ensures) (c .before .before .before .before .before .next .given .1) _ (c .before .before .before .check-posts .ensures) _ _ (c .before .tails2 .given .1) (sizes _ _ (c .before .before .before .before .before .before .before .before .before .before .before .before .before .before .before .pre .1 .0) .1) in omega arith
+check-term-add-t25 t c = let z = term-sums _ _ (c .before .before .before .before .before .before .before .before .before .before .before .before .before .before .before .pre .1 .0 .short) _ _ _ _ _ (was-from _ _ _ _ _ _ _ (c .before .before .before .before .before .before .before .before .before .before .before .before .tag-of .ensures) (c .before .before .before .before .before .before .before .before .before .before .opening .given .1)) _ (c .before .before .before .before .before .before .before .before .predicates-end .ensures) _ _ _ _ (c .before .before .before .before .before .before .before .check-node .ensures) (c .before .before .before .before .before .next .given .1) _ (c .before .before .before .check-posts .ensures) _ _ (c .before .tails2 .given .1) (sizes _ _ (c .before .before .before .before .before .before .before .before .before .before .before .before .before .before .before .pre .1 .0) .1) in omega arith
 
 check-term-sub-t26 : (t : ℕ) → of-check-term check-term-lts.Need-sub-t26 t
-check-term-sub-t26 t c = c .before .before .before .before .before .before .before .before .signs-end .ensures .from
+check-term-sub-t26 t c = c .before .before .before .before .before .before .before .before .predicates-end .ensures .from
 
 check-term-add-t27 : (t : ℕ) → of-check-term check-term-lts.Need-add-t27 t
-check-term-add-t27 t c = let z = term-sums _ _ (c .before .before .before .before .before .before .before .before .before .before .before .before .before .before .before .pre .1 .0 .short) _ _ _ _ _ (was-from _ _ _ _ _ _ _ (c .before .before .before .before .before .before .before .before .before .before .before .before .tag-of .ensures) (c .before .before .before .before .before .before .before .before .before .before .opening .given .1)) _ (c .before .before .before .before .before .before .before .before .signs-end .ensures) _ _ _ _ (c .before .before .before .before .before .before .before .check-node .ensures) (c .before .before .before .before .before .next .given .1) _ (c .before .before .before .check-posts .ensures) _ _ (c .before .tails2 .given .1) (sizes _ _ (c .before .before .before .before .before .before .before .before .before .before .before .before .before .before .before .pre .1 .0) .1) in omega arith
+check-term-add-t27 t c = let z = term-sums _ _ (c .before .before .before .before .before .before .before .before .before .before .before .before .before .before .before .pre .1 .0 .short) _ _ _ _ _ (was-from _ _ _ _ _ _ _ (c .before .before .before .before .before .before .before .before .before .before .before .before .tag-of .ensures) (c .before .before .before .before .before .before .before .before .before .before .opening .given .1)) _ (c .before .before .before .before .before .before .before .before .predicates-end .ensures) _ _ _ _ (c .before .before .before .before .before .before .before .check-node .ensures) (c .before .before .before .before .before .next .given .1) _ (c .before .before .before .check-posts .ensures) _ _ (c .before .tails2 .given .1) (sizes _ _ (c .before .before .before .before .before .before .before .before .before .before .before .before .before .before .before .pre .1 .0) .1) in omega arith
 
 check-term-add-t28 : (t : ℕ) → of-check-term check-term-lts.Need-add-t28 t
-check-term-add-t28 t c = let z = term-sums _ _ (c .before .before .before .before .before .before .before .before .before .before .before .before .before .before .before .pre .1 .0 .short) _ _ _ _ _ (was-from _ _ _ _ _ _ _ (c .before .before .before .before .before .before .before .before .before .before .before .before .tag-of .ensures) (c .before .before .before .before .before .before .before .before .before .before .opening .given .1)) _ (c .before .before .before .before .before .before .before .before .signs-end .ensures) _ _ _ _ (c .before .before .before .before .before .before .before .check-node .ensures) (c .before .before .before .before .before .next .given .1) _ (c .before .before .before .check-posts .ensures) _ _ (c .before .tails2 .given .1) (sizes _ _ (c .before .before .before .before .before .before .before .before .before .before .before .before .before .before .before .pre .1 .0) .1) in omega arith
+check-term-add-t28 t c = let z = term-sums _ _ (c .before .before .before .before .before .before .before .before .before .before .before .before .before .before .before .pre .1 .0 .short) _ _ _ _ _ (was-from _ _ _ _ _ _ _ (c .before .before .before .before .before .before .before .before .before .before .before .before .tag-of .ensures) (c .before .before .before .before .before .before .before .before .before .before .opening .given .1)) _ (c .before .before .before .before .before .before .before .before .predicates-end .ensures) _ _ _ _ (c .before .before .before .before .before .before .before .check-node .ensures) (c .before .before .before .before .before .next .given .1) _ (c .before .before .before .check-posts .ensures) _ _ (c .before .tails2 .given .1) (sizes _ _ (c .before .before .before .before .before .before .before .before .before .before .before .before .before .before .before .pre .1 .0) .1) in omega arith
 
 check-term-add-t29 : (t : ℕ) → of-check-term check-term-lts.Need-add-t29 t
-check-term-add-t29 t c = let z = term-sums _ _ (c .before .before .before .before .before .before .before .before .before .before .before .before .before .before .before .pre .1 .0 .short) _ _ _ _ _ (was-from _ _ _ _ _ _ _ (c .before .before .before .before .before .before .before .before .before .before .before .before .tag-of .ensures) (c .before .before .before .before .before .before .before .before .before .before .opening .given .1)) _ (c .before .before .before .before .before .before .before .before .signs-end .ensures) _ _ _ _ (c .before .before .before .before .before .before .before .check-node .ensures) (c .before .before .before .before .before .next .given .1) _ (c .before .before .before .check-posts .ensures) _ _ (c .before .tails2 .given .1) (sizes _ _ (c .before .before .before .before .before .before .before .before .before .before .before .before .before .before .before .pre .1 .0) .1) in omega arith
+check-term-add-t29 t c = let z = term-sums _ _ (c .before .before .before .before .before .before .before .before .before .before .before .before .before .before .before .pre .1 .0 .short) _ _ _ _ _ (was-from _ _ _ _ _ _ _ (c .before .before .before .before .before .before .before .before .before .before .before .before .tag-of .ensures) (c .before .before .before .before .before .before .before .before .before .before .opening .given .1)) _ (c .before .before .before .before .before .before .before .before .predicates-end .ensures) _ _ _ _ (c .before .before .before .before .before .before .before .check-node .ensures) (c .before .before .before .before .before .next .given .1) _ (c .before .before .before .check-posts .ensures) _ _ (c .before .tails2 .given .1) (sizes _ _ (c .before .before .before .before .before .before .before .before .before .before .before .before .before .before .before .pre .1 .0) .1) in omega arith
 
 check-term-returns-2 : (t : ℕ) → of-check-term check-term-lts.Need-returns-2 t
 check-term-returns-2 t c =
     let at-check-node = c .before .before .before in
-    let at-signs-end = at-check-node .before in
-    let at-opening = at-signs-end .before .before in
+    let at-predicates-end = at-check-node .before in
+    let at-opening = at-predicates-end .before .before in
     let at-tag-of = at-opening .before .before in
     let start = at-tag-of .before .before .before in
-    term-refused _ _ (start .pre .1 .0 .short) _ _ _ _ _ (was-from _ _ _ _ _ _ _ (at-tag-of .tag-of .ensures) (at-opening .opening .given .1)) _ (at-signs-end .signs-end .ensures) _ _ (at-check-node .check-node .ensures) (c .before .refusal .given .1)
+    term-refused _ _ (start .pre .1 .0 .short) _ _ _ _ _ (was-from _ _ _ _ _ _ _ (at-tag-of .tag-of .ensures) (at-opening .opening .given .1)) _ (at-predicates-end .predicates-end .ensures) _ _ (at-check-node .check-node .ensures) (c .before .refusal .given .1)
 
 check-term-returns-3 : (t : ℕ) → of-check-term check-term-lts.Need-returns-3 t
 check-term-returns-3 t c =
     let at-check-posts = c .before .before .before in
     let at-next = at-check-posts .before .before in
     let at-check-node = at-next .before .before in
-    let at-signs-end = at-check-node .before in
-    let at-opening = at-signs-end .before .before in
+    let at-predicates-end = at-check-node .before in
+    let at-opening = at-predicates-end .before .before in
     let at-tag-of = at-opening .before .before in
     let start = at-tag-of .before .before .before in
-    term-unposted _ _ (start .pre .1 .0 .short) _ _ _ _ _ (was-from _ _ _ _ _ _ _ (at-tag-of .tag-of .ensures) (at-opening .opening .given .1)) _ (at-signs-end .signs-end .ensures) _ _ _ _ (at-check-node .check-node .ensures) (at-next .next .given .1) _ (at-check-posts .check-posts .ensures) _ (c .before .tails .given .1)
+    term-unposted _ _ (start .pre .1 .0 .short) _ _ _ _ _ (was-from _ _ _ _ _ _ _ (at-tag-of .tag-of .ensures) (at-opening .opening .given .1)) _ (at-predicates-end .predicates-end .ensures) _ _ _ _ (at-check-node .check-node .ensures) (at-next .next .given .1) _ (at-check-posts .check-posts .ensures) _ (c .before .tails .given .1)
 
 check-term-returns-4 : (t : ℕ) → of-check-term check-term-lts.Need-returns-4 t
 check-term-returns-4 t c =
     let at-check-posts = c .before .before .before in
     let at-next = at-check-posts .before .before in
     let at-check-node = at-next .before .before in
-    let at-signs-end = at-check-node .before in
-    let at-opening = at-signs-end .before .before in
+    let at-predicates-end = at-check-node .before in
+    let at-opening = at-predicates-end .before .before in
     let at-tag-of = at-opening .before .before in
     let start = at-tag-of .before .before .before in
-    term-good _ _ (start .pre .1 .0 .short) _ _ _ _ _ (was-from _ _ _ _ _ _ _ (at-tag-of .tag-of .ensures) (at-opening .opening .given .1)) _ (at-signs-end .signs-end .ensures) _ _ _ _ (at-check-node .check-node .ensures) (at-next .next .given .1) _ (at-check-posts .check-posts .ensures) _ _ (c .before .tails2 .given .1)
+    term-good _ _ (start .pre .1 .0 .short) _ _ _ _ _ (was-from _ _ _ _ _ _ _ (at-tag-of .tag-of .ensures) (at-opening .opening .given .1)) _ (at-predicates-end .predicates-end .ensures) _ _ _ _ (at-check-node .check-node .ensures) (at-next .next .given .1) _ (at-check-posts .check-posts .ensures) _ _ (c .before .tails2 .given .1)
 
 pub +check-expr+check-node+check-term-spec : {M : Type 1} → statement M
 +check-expr+check-node+check-term-spec =
@@ -426,8 +426,8 @@ pub +check-expr+check-node+check-term-spec : {M : Type 1} → statement M
       tag-of-reads.Learnt,
       start-at-reads.Asked,
       start-at-reads.Learnt,
-      signs-end-reads.Asked,
-      signs-end-reads.Learnt,
+      predicates-end-reads.Asked,
+      predicates-end-reads.Learnt,
       check-node-below t,
       check-node.Post,
       check-posts-reads.Asked,

@@ -1,6 +1,6 @@
 -- Three ways to one verdict. Where p + q is below the limit of its kind, `told` says of the node what `first_flat` asks for;
 -- a name goes to `first_name`, and whatever is left to `first_of`.
-use Rattle.table.proofs.Kids.{told}
+use Rattle.table.proofs.Children.{told}
 use lib.ListN.{getD}
 use native.Mathlib.Omega.{arith}
 use denote.Ref.{now}

@@ -1,6 +1,6 @@
 -- `one` and `two` are 0 or 1 (`told-low`), so a product is 0 or the number itself. Each return is a law of Kids: `last-out`, `left-out`,
 -- `told-first`. Children that passed the tests so far have entries among the first nodes (`right-in`, `left-in`).
-use Rattle.table.proofs.Kids.{last-out, right-in, left-out, left-in, told-first, told-low, small, choose-below, one-of}
+use Rattle.table.proofs.Children.{last-out, right-in, left-out, left-in, told-first, told-low, small, choose-below, one-of}
 use mathlib.Core.Path.{sym, _∙_, ap}
 use lib.ListN.{getD}
 use lib.Dec.{eqb}

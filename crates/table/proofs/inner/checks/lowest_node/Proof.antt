@@ -1,7 +1,7 @@
 -- The invariant: i is at most n, no node below i is false, and `firsts`, of 4,096 entries, has the first nodes of those; n - i falls.
 -- A turn's verdict is the first node to be stored (`firsts-more`), or makes i the lowest false node (`lowest-bad`).
 use borrow.Author.Needs.{needs}
-use Rattle.table.proofs.Kids.{limits-are}
+use Rattle.table.proofs.Children.{limits-are}
 use Rattle.table.proofs.Lowest.{lowest-none, lowest-more, lowest-bad}
 use Rattle.table.proofs.Verdicts.{firsts-none, firsts-more, verdict-at, verdict-none}
 use Rattle.table.proofs.Nodes.{first-le}

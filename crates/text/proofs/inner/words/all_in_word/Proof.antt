@@ -7,7 +7,7 @@ use lib.ListN.{length, drop}
 use borrow.Author.Tests.{not-true, not-false}
 use borrow.Author.Needs.{needs}
 use Rattle.text.specs.Words.{inWord}
-use Rattle.text.specs.Choice.{all}
+use Rattle.text.specs.Booleans.{all}
 use Rattle.text.proofs.Runs.{all-step, all-stop, all-end}
 use Rattle.text.proofs.inner.words.all_in_word.Tie as tie
 use Rattle.text.proofs.inner.words.all_in_word.Statement.{statement}

@@ -5,7 +5,7 @@ use lib.ListN.{drop}
 use borrow.Author.Tests.{lt-ltb, le-ltb}
 use borrow.Author.Needs.{needs}
 use Rattle.token.specs.Tokens.{minusToken}
-use Rattle.token.specs.Blanks.{zeros, digits}
+use Rattle.token.specs.Blanks.{zeros, digitRun}
 use Rattle.token.proofs.Places.{found, none}
 use Rattle.token.proofs.inner.openers.minus_at.Statement.{statement}
 use Rattle.token.proofs.inner.openers.minus_at.Tie as tie
@@ -26,14 +26,14 @@ returns : tie.Need-returns
 unfolding minusToken
 returns c =
     let args = c .before .before .before .before .args in
-    let xs = drop (args .at + 1) (args .s .now) in let h : zeros xs < digits xs = omega arith in
+    let xs = drop (args .at + 1) (args .s .now) in let h : zeros xs < digitRun xs = omega arith in
     rw (lt-ltb _ _ h) (found 21 _ _ _ (omega arith))
 
 returns-2 : tie.Need-returns-2
 unfolding minusToken
 returns-2 c =
     let args = c .before .before .before .before .args in
-    let xs = drop (args .at + 1) (args .s .now) in let h : digits xs ≤ zeros xs = omega arith in
+    let xs = drop (args .at + 1) (args .s .now) in let h : digitRun xs ≤ zeros xs = omega arith in
     rw (le-ltb _ _ h) (none _)
 
 pub minus-at-spec : {M : Type 1} → statement M

@@ -4,7 +4,7 @@ use mathlib.Core.Path.{sym, ap, _∙_}
 use native.Mathlib.Omega.{arith}
 use lib.Seq.{drop-drop}
 use borrow.Author.Needs.{needs}
-use Rattle.text.specs.Choice.{nextIs}
+use Rattle.text.specs.Booleans.{nextIs}
 use Rattle.token.specs.Tokens.{quoted}
 use Rattle.token.proofs.Places.{found, none}
 use Rattle.token.proofs.inner.openers.quoted_at.Statement.{statement}

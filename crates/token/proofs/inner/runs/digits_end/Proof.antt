@@ -6,13 +6,13 @@ use native.Mathlib.Omega.{arith}
 use lib.ListN.{length, drop}
 use borrow.Author.Tests.{eq-eqb, ne-eqb}
 use borrow.Author.Needs.{needs}
-use Rattle.token.specs.Blanks.{first, inDigits, digits}
+use Rattle.token.specs.Blanks.{first, inDigits, digitRun}
 use Rattle.token.proofs.Runs.{byte-step, byte-stop, run-over}
 use Rattle.token.proofs.inner.runs.digits_end.Statement.{statement}
 use Rattle.token.proofs.inner.runs.digits_end.Tie as tie
 
 abbrev Inv-loop : tie.InvT-loop
-Inv-loop t s at i₀ i = i + digits (drop i s) ≡ at + digits (drop at s)
+Inv-loop t s at i₀ i = i + digitRun (drop i s) ≡ at + digitRun (drop at s)
 
 abbrev μ-loop : tie.MeasureT-loop
 μ-loop t s at i₀ i = length s - i

@@ -1,0 +1,123 @@
+// What a text gets, phase by phase, and the room there is.
+use crate::Attempt;
+use crate::Reading;
+use build::inner::rules::consume_rules_with_spans;
+use structure::Counted;
+use structure::Fault;
+use structure::Level;
+use structure::Refusal;
+use structure::inner::rules::check_grammar;
+use structure::inner::values::faults;
+use table::inner::records::NODE_SIZE;
+use table::inner::records::RULE_SIZE;
+use token::Filled;
+use token::inner::fill;
+use token::inner::table::TOKEN_SIZE;
+ghost use mathlib.Core.Path.{_≡_};
+ghost use Prim.Native.Nat.{_/_, _≤_, _<_, min};
+ghost use lib.ListN.{length};
+ghost use Rattle.text.specs.Classes.{classes};
+ghost use Rattle.token.specs.Table.{roomOf, Lent};
+ghost use Rattle.reader.specs.Read.{roomForNodes, roomForRules, roomBy, judgedOf, attemptOf, Leaves, AttemptLeaves};
+
+// How many whole records there may be: the lower of what is lent and a limit.
+fn room_of(numbers: usize, size: usize, limit: usize) -> usize
+    requires { ⌜ 0 < size ⌝ }
+    ensures { λ r. ⌜ r ≡ min (numbers / size) limit ⌝ }
+{
+    let lent = numbers / size;
+    if lent < limit { lent } else { limit }
+}
+
+// The counts of what was read, if there is room for it.
+fn room_for(rules: usize, nodes: usize, bytes: usize, n: usize, r: usize, b: usize) -> Reading
+    ensures { λ r₁. ⌜ r₁ ≡ roomBy rules nodes bytes n r b ⌝ }
+{
+    if r < rules {
+        return Reading::RulesRoom;
+    }
+    if n < nodes {
+        return Reading::NodesRoom;
+    }
+    if b < bytes {
+        return Reading::StoreRoom;
+    }
+    Reading::Read(nodes, rules, bytes)
+}
+
+// What a text of tokens gets: structure, then values, then room.
+fn judge(text: &[u8], tokens: &[u32], level: Level, n: usize, r: usize, b: usize) -> Reading
+    requires { ⌜ Lent (now text) (now tokens) ⌝ }
+    ensures { λ x. ⌜ x ≡ judgedOf level (now (text .entry)) n r b ⌝ }
+{
+    let counted = check_grammar(text, tokens, level);
+    match counted {
+        Counted::Refused(refusal) => match refusal {
+            Refusal::NotAllowed(place) => Reading::NotAllowed(place),
+            Refusal::TooDeep(place) => Reading::TooDeep(place),
+        },
+        Counted::Rules {
+            rules,
+            nodes,
+            bytes,
+        } => {
+            let fault = faults(text, tokens, level);
+            match fault {
+                Fault::Sound => room_for(rules, nodes, bytes, n, r, b),
+                Fault::Over(place) => Reading::Over(place),
+                Fault::Zero(place) => Reading::Zero(place),
+                Fault::PeekRange(place) => Reading::PeekRange(place),
+                Fault::NotScalar(place) => Reading::NotScalar(place),
+                Fault::NotPlain(place) => Reading::NotPlain(place),
+            }
+        }
+    }
+}
+
+// Judges a text of tokens, and writes its rules if there is nothing to refuse.
+fn judge_and_build(
+    text: &[u8],
+    tokens: &[u32],
+    level: Level,
+    nodes: &mut [u32],
+    rules: &mut [u32],
+    store: &mut [u8],
+) -> Reading
+    requires { ⌜ Lent (now text) (now tokens) ⌝ }
+    ensures answer { λ r. ⌜ r ≡ judgedOf level (now (text .entry)) (roomForNodes (now (nodes .entry))) (roomForRules (now (rules .entry))) (length (now (store .entry))) ⌝ }
+    ensures left { λ r. ⌜ Leaves level (now (text .entry)) r (now (nodes .entry)) (now (rules .entry)) (now (store .entry)) (now (nodes .exit)) (now (rules .exit)) (now (store .exit)) ⌝ }
+{
+    let n = room_of(nodes.len(), NODE_SIZE, 4096);
+    let r = room_of(rules.len(), RULE_SIZE, 1024);
+    let answer = judge(text, tokens, level, n, r, store.len());
+    if let Reading::Read(_, _, _) = answer {
+        consume_rules_with_spans(text, tokens, nodes, rules, store, level);
+    }
+    answer
+}
+
+// Lists a text's tokens in a lent table, and goes on with those if they are all there.
+pub fn list_and_read(
+    t: &[u8; 256],
+    text: &[u8],
+    tokens: &mut [u32],
+    level: Level,
+    nodes: &mut [u32],
+    rules: &mut [u32],
+    store: &mut [u8],
+) -> Attempt
+    requires { ⌜ now t ≡ classes ⌝ }
+    requires { ⌜ length (now text) ≤ 65536 ⌝ }
+    ensures answer { λ r. ⌜ r ≡ attemptOf (roomOf (now (tokens .entry))) level (now (text .entry)) (roomForNodes (now (nodes .entry))) (roomForRules (now (rules .entry))) (length (now (store .entry))) ⌝ }
+    ensures left { λ r. ⌜ AttemptLeaves level (now (text .entry)) r (now (nodes .entry)) (now (rules .entry)) (now (store .entry)) (now (nodes .exit)) (now (rules .exit)) (now (store .exit)) ⌝ }
+{
+    let filled = fill(t, text, tokens);
+    match filled {
+        Filled::Full => Attempt::Full,
+        Filled::NoToken(place) => Attempt::Done(Reading::NoToken(place)),
+        Filled::All(n) => {
+            let m = n * TOKEN_SIZE;
+            Attempt::Done(judge_and_build(text, &tokens[..m], level, nodes, rules, store))
+        }
+    }
+}
