@@ -31,6 +31,8 @@ use Rattle.structure.specs.declared.Level.{Level}
 use Rattle.structure.specs.declared.Fault.{Fault}
 use Rattle.structure.specs.declared.Fault.the-variants as Fault
 use Rattle.structure.specs.declared.Refusal.{Refusal}
+use Rattle.structure.specs.declared.Why.{Why}
+use Rattle.structure.specs.declared.Why.the-variants.{TooLong, NotUtf8, NoToken, NotAllowed, TooDeep, Over, Zero, PeekRange, NotScalar, NotPlain, RulesRoom, NodesRoom, StoreRoom}
 use Rattle.structure.specs.declared.Refusal.the-variants as Refusal
 use Rattle.structure.specs.declared.Counted.{Counted}
 use Rattle.structure.specs.declared.Counted.the-variants as Counted
@@ -48,7 +50,7 @@ use Rattle.reader.specs.declared.Reading.the-variants as Reading
 use Rattle.reader.specs.declared.Attempt.{Attempt}
 use Rattle.reader.specs.declared.Attempt.the-variants as Attempt
 use Rattle.reader.proofs.Reading.{the-type}
-use Rattle.reader.specs.Read.{roomForNodes, roomForRules, roomBy, faulty, checkedBy, unreadable, ruledBy, judgedOf, listedOf, attemptOf, readOf, leftIn, Numbered, numbered, reported, Leaves, AttemptLeaves}
+use Rattle.reader.specs.Read.{roomForNodes, roomForRules, roomBy, faulty, checkedBy, refusedBy, ruledBy, judgedOf, listedOf, attemptOf, readOf, leftIn, Numbered, numberOf, numbered, reported, Leaves, AttemptLeaves}
 use Rattle.build.specs.Build.{Scalars}
 use Rattle.build.specs.Rules.{RulesRoom, RulesBuilt, ruledOf, rulesRead}
 use Rattle.build.proofs.Rules.{next-rule, no-rules}
@@ -56,16 +58,16 @@ use Rattle.build.proofs.Rules.{next-rule, no-rules}
 -- ---- room
 
 module _ (k c z n r b : ℕ) where
-  pub no-rules-room : r < k → Reading.RulesRoom ≡ roomBy k c z n r b
+  pub no-rules-room : r < k → refusedBy RulesRoom 0 ≡ roomBy k c z n r b
   unfolding roomBy
   no-rules-room h = rw (lt-leb k r h)
 
   module _ (h : k ≤ r) where
-    pub no-nodes-room : n < c → Reading.NodesRoom ≡ roomBy k c z n r b
+    pub no-nodes-room : n < c → refusedBy NodesRoom 0 ≡ roomBy k c z n r b
     unfolding roomBy
     no-nodes-room g = rw (le-leb k r h, lt-leb c n g)
 
-    pub no-store-room : c ≤ n → b < z → Reading.StoreRoom ≡ roomBy k c z n r b
+    pub no-store-room : c ≤ n → b < z → refusedBy StoreRoom 0 ≡ roomBy k c z n r b
     unfolding roomBy
     no-store-room g f = rw (le-leb k r h, le-leb c n g, lt-leb z b f)
 
@@ -97,9 +99,9 @@ counted-rules (rules us) r a b c e q = (us, refl, cc, cc, cc)
 counted-rules (unruled y) r a b c e q = let z : _≡_ {A = ℕ} 0 1 = cc in absurd (omega arith)
 
 module _ (level : Level) (s : List ℕ) (n r b : ℕ) (c : Counted) (e : c ≡ summaries (grammar level s)) where
-  pub judge-refused : (x y : Refusal) → c ≡ Counted.Refused x → x ≡ y → unreadable y ≡ judgedOf level s n r b
+  pub judge-refused : (x : Refusal) → c ≡ Counted.Refused x → Reading.Refused x ≡ judgedOf level s n r b
   unfolding judgedOf
-  judge-refused x y q w = sym (ap (λ (m : Ruled). ruledBy m (λ us. faulty (faults level s) (λ u. roomBy (length us) (counts us) (length (rulesStored us)) n r b))) (counted-refused (grammar level s) c x e q) ∙ ap unreadable w)
+  judge-refused x q = sym (ap (λ (m : Ruled). ruledBy m (λ us. faulty (faults level s) (λ u. roomBy (length us) (counts us) (length (rulesStored us)) n r b))) (counted-refused (grammar level s) c x e q))
 
   module _ (k l z : ℕ) (q : c ≡ Counted.Rules k l z) (f : Fault) (g : f ≡ faults level s) where
     pub judge-by : (y : Fault) → f ≡ y → faulty y (λ u. roomBy k l z n r b) ≡ judgedOf level s n r b
@@ -117,11 +119,7 @@ module _ (level : Level) (s : List ℕ) (n r b : ℕ) (c : Counted) (e : c ≡ s
 
 or-sound : (f : Fault) (g : Unit {0} → Fault) → orFault f g ≡ Fault.Sound → (f ≡ Fault.Sound) × (g tt ≡ Fault.Sound)
 or-sound Fault.Sound g e = (refl, e)
-or-sound (Fault.Over p) g e = let z : _≡_ {A = ℕ} 0 1 = cc in absurd (omega arith)
-or-sound (Fault.Zero p) g e = let z : _≡_ {A = ℕ} 0 1 = cc in absurd (omega arith)
-or-sound (Fault.PeekRange p) g e = let z : _≡_ {A = ℕ} 0 1 = cc in absurd (omega arith)
-or-sound (Fault.NotScalar p) g e = let z : _≡_ {A = ℕ} 0 1 = cc in absurd (omega arith)
-or-sound (Fault.NotPlain p) g e = let z : _≡_ {A = ℕ} 0 1 = cc in absurd (omega arith)
+or-sound (Fault.At r) g e = let z : _≡_ {A = ℕ} 0 1 = cc in absurd (omega arith)
 
 literal-good : (s : List ℕ) (i : ℕ) (c : Check) → literalFault s i c ≡ Fault.Sound → c ≡ Check.Good
 literal-good s i Check.Good e = refl
@@ -247,19 +245,7 @@ later = 2 ∷ 3 ∷ 4 ∷ 5 ∷ 6 ∷ 7 ∷ 8 ∷ 9 ∷ 10 ∷ 11 ∷ 12 ∷ 13 
 pub kept : (level : Level) (s ns rs st : List ℕ) (r : Reading) → 0 < tagOf the-type r → Leaves level s r ns rs st ns rs st
 unfolding leftIn
 kept level s ns rs st (Reading.Read x y z) h = absurd (omega arith)
-kept level s ns rs st Reading.TooLong h = record { nodes = refl; rules = refl; store = refl }
-kept level s ns rs st (Reading.NotUtf8 p) h = record { nodes = refl; rules = refl; store = refl }
-kept level s ns rs st (Reading.NoToken p) h = record { nodes = refl; rules = refl; store = refl }
-kept level s ns rs st (Reading.NotAllowed p) h = record { nodes = refl; rules = refl; store = refl }
-kept level s ns rs st (Reading.TooDeep p) h = record { nodes = refl; rules = refl; store = refl }
-kept level s ns rs st (Reading.Over p) h = record { nodes = refl; rules = refl; store = refl }
-kept level s ns rs st (Reading.Zero p) h = record { nodes = refl; rules = refl; store = refl }
-kept level s ns rs st (Reading.PeekRange p) h = record { nodes = refl; rules = refl; store = refl }
-kept level s ns rs st (Reading.NotScalar p) h = record { nodes = refl; rules = refl; store = refl }
-kept level s ns rs st (Reading.NotPlain p) h = record { nodes = refl; rules = refl; store = refl }
-kept level s ns rs st Reading.RulesRoom h = record { nodes = refl; rules = refl; store = refl }
-kept level s ns rs st Reading.NodesRoom h = record { nodes = refl; rules = refl; store = refl }
-kept level s ns rs st Reading.StoreRoom h = record { nodes = refl; rules = refl; store = refl }
+kept level s ns rs st (Reading.Refused r) h = record { nodes = refl; rules = refl; store = refl }
 
 module _ (level : Level) (s ns rs st : List ℕ) (x : Reading) (n r : ℕ) (e : x ≡ judgedOf level s n r (length st)) (p : n ≡ roomForNodes ns) (q : r ≡ roomForRules rs) where
   judged-is : x ≡ judgedOf level s (roomForNodes ns) (roomForRules rs) (length st)
@@ -326,12 +312,12 @@ module _ (s o₀ : List ℕ) (f : Filled) (e : f ≡ filledOf (roomOf o₀) s) w
   list-and-read-full level ns rs st n r b q = (sym (tried-over (roomOf o₀) level s n r b (filled-over (roomOf o₀) s (sym e ∙ q))), (refl, refl, refl))
 
   pub list-and-read-stopped : (level : Level) (ns rs st : List ℕ) (n r b p : ℕ) → f ≡ Filled.NoToken p
-      → (Attempt.Done (Reading.NoToken p) ≡ attemptOf (roomOf o₀) level s n r b) × AttemptLeaves level s (Attempt.Done (Reading.NoToken p)) ns rs st ns rs st
+      → (Attempt.Done (refusedBy NoToken p) ≡ attemptOf (roomOf o₀) level s n r b) × AttemptLeaves level s (Attempt.Done (refusedBy NoToken p)) ns rs st ns rs st
   unfolding listedOf
   list-and-read-stopped level ns rs st n r b p q =
       let w = filled-none (roomOf o₀) s p (sym e ∙ q) in
-      let z : Reading.NoToken p ≡ listedOf level s n r b = sym (ap (λ (x : Check). checkedBy x Reading.NoToken (λ u. judgedOf level s n r b)) (w .1)) in
-      (ap Attempt.Done z ∙ sym (tried-fits (roomOf o₀) level s n r b (w .0)), kept level s ns rs st (Reading.NoToken p) (omega arith))
+      let z : refusedBy NoToken p ≡ listedOf level s n r b = sym (ap (λ (x : Check). checkedBy x (refusedBy NoToken) (λ u. judgedOf level s n r b)) (w .1)) in
+      (ap Attempt.Done z ∙ sym (tried-fits (roomOf o₀) level s n r b (w .0)), kept level s ns rs st (refusedBy NoToken p) (omega arith))
 
   module _ (n : ℕ) (q : f ≡ Filled.All n) where
     all : (length (toks s) ≤ roomOf o₀) × (n ≡ length (toks s)) × (tokensOf s .fault ≡ Check.Good)
@@ -340,7 +326,7 @@ module _ (s o₀ : List ℕ) (f : Filled) (e : f ≡ filledOf (roomOf o₀) s) w
     pub list-and-read-filled : (level : Level) (x : Reading) (k r b : ℕ) → x ≡ judgedOf level s k r b → Attempt.Done x ≡ attemptOf (roomOf o₀) level s k r b
     unfolding listedOf
     list-and-read-filled level x k r b h =
-        let z : x ≡ listedOf level s k r b = h ∙ sym (ap (λ (y : Check). checkedBy y Reading.NoToken (λ u. judgedOf level s k r b)) (all .2)) in
+        let z : x ≡ listedOf level s k r b = h ∙ sym (ap (λ (y : Check). checkedBy y (refusedBy NoToken) (λ u. judgedOf level s k r b)) (all .2)) in
         ap Attempt.Done z ∙ sym (tried-fits (roomOf o₀) level s k r b (all .0))
 
     -- the product that is the used part's length is a small number
@@ -394,58 +380,63 @@ module _ (level : Level) (s ns rs st : List ℕ) where
   unfolding reported
   met e l = record { answer = e; report = ap numbered e; left = l }
 
-  pub read-long : 65536 < length s → Meets level s ns rs st Reading.TooLong ns rs st
+  pub read-long : 65536 < length s → Meets level s ns rs st (refusedBy TooLong 0) ns rs st
   unfolding readOf
-  read-long h = met (sym (choose-false (leb (length s) 65536) _ _ (lt-leb (length s) 65536 h))) (kept level s ns rs st Reading.TooLong (omega arith))
+  read-long h = met (sym (choose-false (leb (length s) 65536) _ _ (lt-leb (length s) 65536 h))) (kept level s ns rs st (refusedBy TooLong 0) (omega arith))
 
   module _ (h : length s ≤ 65536) (c : Check) (e : c ≡ firstBad s) where
     by-check : {y : Check} → c ≡ y
-        → checkedBy y Reading.NotUtf8 (λ u. listedOf level s (roomForNodes ns) (roomForRules rs) (length st)) ≡ readOf level s (roomForNodes ns) (roomForRules rs) (length st)
+        → checkedBy y (refusedBy NotUtf8) (λ u. listedOf level s (roomForNodes ns) (roomForRules rs) (length st)) ≡ readOf level s (roomForNodes ns) (roomForRules rs) (length st)
     unfolding readOf
     by-check q =
         sym (choose-true (leb (length s) 65536) _ _ (le-leb (length s) 65536 h)
-        ∙ ap (λ (x : Check). checkedBy x Reading.NotUtf8 (λ u. listedOf level s (roomForNodes ns) (roomForRules rs) (length st))) (sym e ∙ q))
+        ∙ ap (λ (x : Check). checkedBy x (refusedBy NotUtf8) (λ u. listedOf level s (roomForNodes ns) (roomForRules rs) (length st))) (sym e ∙ q))
 
-    pub read-bad : (p : ℕ) → c ≡ Check.Bad p → Meets level s ns rs st (Reading.NotUtf8 p) ns rs st
-    read-bad p q = met (by-check q) (kept level s ns rs st (Reading.NotUtf8 p) (omega arith))
+    pub read-bad : (p : ℕ) → c ≡ Check.Bad p → Meets level s ns rs st (refusedBy NotUtf8 p) ns rs st
+    read-bad p q = met (by-check q) (kept level s ns rs st (refusedBy NotUtf8 p) (omega arith))
 
     pub read-good : c ≡ Check.Good → (r : Reading) (ns′ rs′ st′ : List ℕ) → r ≡ listedOf level s (roomForNodes ns) (roomForRules rs) (length st) → Leaves level s r ns rs st ns′ rs′ st′
         → Meets level s ns rs st r ns′ rs′ st′
     read-good q r ns′ rs′ st′ w l = met (w ∙ by-check q) l
 
 -- number, place and counts decide the answer
+whyOf : ℕ → Why
+whyOf n =
+    choose (eqb n 1) (λ u. TooLong)
+    (λ u. choose (eqb n 2) (λ u. NotUtf8)
+    (λ u. choose (eqb n 3) (λ u. NoToken)
+    (λ u. choose (eqb n 4) (λ u. NotAllowed)
+    (λ u. choose (eqb n 9) (λ u. TooDeep)
+    (λ u. choose (eqb n 5) (λ u. Over)
+    (λ u. choose (eqb n 6) (λ u. Zero)
+    (λ u. choose (eqb n 7) (λ u. PeekRange)
+    (λ u. choose (eqb n 8) (λ u. NotScalar)
+    (λ u. choose (eqb n 13) (λ u. NotPlain)
+    (λ u. choose (eqb n 12) (λ u. RulesRoom) (λ u. choose (eqb n 10) (λ u. NodesRoom) (λ u. StoreRoom))))))))))))
+
+why-back : (w : Why) → (whyOf (numberOf w) ≡ w) × (eqb (numberOf w) 0 ≡ false)
+unfolding whyOf numberOf
+why-back TooLong = (refl, refl)
+why-back NotUtf8 = (refl, refl)
+why-back NoToken = (refl, refl)
+why-back NotAllowed = (refl, refl)
+why-back TooDeep = (refl, refl)
+why-back Over = (refl, refl)
+why-back Zero = (refl, refl)
+why-back PeekRange = (refl, refl)
+why-back NotScalar = (refl, refl)
+why-back NotPlain = (refl, refl)
+why-back RulesRoom = (refl, refl)
+why-back NodesRoom = (refl, refl)
+why-back StoreRoom = (refl, refl)
+
 decoded : Numbered → Reading
-decoded x =
-    choose (eqb (x .number) 0) (λ u. Reading.Read (x .nodes) (x .rules) (x .store))
-    (λ u. choose (eqb (x .number) 1) (λ u. Reading.TooLong)
-    (λ u. choose (eqb (x .number) 2) (λ u. Reading.NotUtf8 (x .place))
-    (λ u. choose (eqb (x .number) 3) (λ u. Reading.NoToken (x .place))
-    (λ u. choose (eqb (x .number) 4) (λ u. Reading.NotAllowed (x .place))
-    (λ u. choose (eqb (x .number) 9) (λ u. Reading.TooDeep (x .place))
-    (λ u. choose (eqb (x .number) 5) (λ u. Reading.Over (x .place))
-    (λ u. choose (eqb (x .number) 6) (λ u. Reading.Zero (x .place))
-    (λ u. choose (eqb (x .number) 7) (λ u. Reading.PeekRange (x .place))
-    (λ u. choose (eqb (x .number) 8) (λ u. Reading.NotScalar (x .place))
-    (λ u. choose (eqb (x .number) 13) (λ u. Reading.NotPlain (x .place))
-    (λ u. choose (eqb (x .number) 12) (λ u. Reading.RulesRoom)
-    (λ u. choose (eqb (x .number) 10) (λ u. Reading.NodesRoom) (λ u. Reading.StoreRoom)))))))))))))
+decoded x = choose (eqb (x .number) 0) (λ u. Reading.Read (x .nodes) (x .rules) (x .store)) (λ u. refusedBy (whyOf (x .number)) (x .place))
 
 decode : (r : Reading) → decoded (numbered r) ≡ r
 unfolding decoded numbered
 decode (Reading.Read n r b) = refl
-decode Reading.TooLong = refl
-decode (Reading.NotUtf8 p) = refl
-decode (Reading.NoToken p) = refl
-decode (Reading.NotAllowed p) = refl
-decode (Reading.TooDeep p) = refl
-decode (Reading.Over p) = refl
-decode (Reading.Zero p) = refl
-decode (Reading.PeekRange p) = refl
-decode (Reading.NotScalar p) = refl
-decode (Reading.NotPlain p) = refl
-decode Reading.RulesRoom = refl
-decode Reading.NodesRoom = refl
-decode Reading.StoreRoom = refl
+decode (Reading.Refused r) = let e = why-back (r .why) in rw (e .1) (ap (λ (w : Why). refusedBy w (r .place)) (e .0))
 
 pub numbered-one : (r s : Reading) → numbered r ≡ numbered s → r ≡ s
 numbered-one r s e = sym (decode r) ∙ ap decoded e ∙ decode s

@@ -21,11 +21,16 @@ use Rattle.reader.specs.declared.Reading.{Reading}
 use Rattle.reader.specs.declared.Reading.the-variants as Reading
 use Rattle.reader.specs.declared.Attempt.{Attempt}
 use Rattle.reader.specs.declared.Attempt.the-variants as Attempt
-use Rattle.structure.specs.declared.Refusal.{Refusal}
-use Rattle.structure.specs.declared.Refusal.the-variants as Refusal
+use Rattle.structure.specs.declared.Why.{Why}
+use Rattle.structure.specs.declared.Why.the-variants.{TooLong, NotUtf8, NoToken, NotAllowed, TooDeep, Over, Zero, PeekRange, NotScalar, NotPlain, RulesRoom, NodesRoom, StoreRoom}
+use Rattle.structure.specs.Refusals.{because}
 use Rattle.structure.specs.Values.{faults}
 use Rattle.structure.specs.Structure.{Ruled, rules, unruled, grammar}
 use Rattle.build.specs.Rules.{rulesRead}
+
+-- a text that is refused
+abbrev pub refusedBy : Why → ℕ → Reading
+refusedBy w p = Reading.Refused (because w p)
 
 -- room is the lower of what is lent and the limit; lent records are whole ones
 abbrev pub roomForNodes : List ℕ → ℕ
@@ -38,32 +43,23 @@ roomForRules rs = min (rulesIn rs) maxRules
 unfoldable pub roomBy : ℕ → ℕ → ℕ → ℕ → ℕ → ℕ → Reading
 roomBy k c z n r b =
     choose (leb k r)
-    (λ u. choose (leb c n) (λ u. choose (leb z b) (λ u. Reading.Read c k z) (λ u. Reading.StoreRoom)) (λ u. Reading.NodesRoom))
-    (λ u. Reading.RulesRoom)
+    (λ u. choose (leb c n) (λ u. choose (leb z b) (λ u. Reading.Read c k z) (λ u. refusedBy StoreRoom 0)) (λ u. refusedBy NodesRoom 0))
+    (λ u. refusedBy RulesRoom 0)
 
 abbrev pub roomFor : List (Rule Span) → ℕ → ℕ → ℕ → Reading
 roomFor us n r b = roomBy (length us) (counts us) (length (rulesStored us)) n r b
 
 abbrev pub faulty : Fault → (Unit {0} → Reading) → Reading
 faulty Fault.Sound f = f tt
-faulty (Fault.Over p) f = Reading.Over p
-faulty (Fault.Zero p) f = Reading.Zero p
-faulty (Fault.PeekRange p) f = Reading.PeekRange p
-faulty (Fault.NotScalar p) f = Reading.NotScalar p
-faulty (Fault.NotPlain p) f = Reading.NotPlain p
+faulty (Fault.At r) f = Reading.Refused r
 
 abbrev pub checkedBy : Check → (ℕ → Reading) → (Unit {0} → Reading) → Reading
 checkedBy (Check.Bad p) f g = f p
 checkedBy Check.Good f g = g tt
 
--- structure's two refusals: 4 and 9
-abbrev pub unreadable : Refusal → Reading
-unreadable (Refusal.NotAllowed p) = Reading.NotAllowed p
-unreadable (Refusal.TooDeep p) = Reading.TooDeep p
-
 abbrev pub ruledBy : Ruled → (List (Rule Span) → Reading) → Reading
 ruledBy (rules us) f = f us
-ruledBy (unruled r) f = unreadable r
+ruledBy (unruled r) f = Reading.Refused r
 
 -- 4 and 9; 5, 6, 7, 8 and 13; 12, 10, 11
 unfoldable pub judgedOf : Level → List ℕ → ℕ → ℕ → ℕ → Reading
@@ -71,7 +67,7 @@ judgedOf level s n r b = ruledBy (grammar level s) (λ us. faulty (faults level 
 
 -- 3 before those
 unfoldable pub listedOf : Level → List ℕ → ℕ → ℕ → ℕ → Reading
-listedOf level s n r b = checkedBy (tokensOf s .fault) Reading.NoToken (λ u. judgedOf level s n r b)
+listedOf level s n r b = checkedBy (tokensOf s .fault) (refusedBy NoToken) (λ u. judgedOf level s n r b)
 
 -- by a table of m tokens: it has to hold all before the first 3
 unfoldable pub attemptOf : ℕ → Level → List ℕ → ℕ → ℕ → ℕ → Attempt
@@ -80,24 +76,12 @@ attemptOf m level s n r b = choose (leb (length (tokensOf s .list)) m) (λ u. At
 -- 1 and 2 before those; each phase covers the whole text first
 unfoldable pub readOf : Level → List ℕ → ℕ → ℕ → ℕ → Reading
 readOf level s n r b =
-    choose (leb (length s) 65536) (λ u. checkedBy (firstBad s) Reading.NotUtf8 (λ u. listedOf level s n r b)) (λ u. Reading.TooLong)
+    choose (leb (length s) 65536) (λ u. checkedBy (firstBad s) (refusedBy NotUtf8) (λ u. listedOf level s n r b)) (λ u. refusedBy TooLong 0)
 
 -- a success changes only the used part, a refusal nothing
 unfoldable pub leftIn : Reading → List ℕ → List ℕ → List ℕ
 leftIn (Reading.Read n r b) x o = fronted x o
-leftIn Reading.TooLong x o = o
-leftIn (Reading.NotUtf8 p) x o = o
-leftIn (Reading.NoToken p) x o = o
-leftIn (Reading.NotAllowed p) x o = o
-leftIn (Reading.TooDeep p) x o = o
-leftIn (Reading.Over p) x o = o
-leftIn (Reading.Zero p) x o = o
-leftIn (Reading.PeekRange p) x o = o
-leftIn (Reading.NotScalar p) x o = o
-leftIn (Reading.NotPlain p) x o = o
-leftIn Reading.RulesRoom x o = o
-leftIn Reading.NodesRoom x o = o
-leftIn Reading.StoreRoom x o = o
+leftIn (Reading.Refused r) x o = o
 
 -- an answer in the paper's numbers: number, place, and the records and bytes used
 pub record Numbered : Type 0 where
@@ -110,21 +94,25 @@ pub record Numbered : Type 0 where
 abbrev pub refusal : ℕ → ℕ → Numbered
 refusal n p = record { number = n; place = p; nodes = 0; rules = 0; store = 0 }
 
+-- the number of each reason
+unfoldable pub numberOf : Why → ℕ
+numberOf TooLong = 1
+numberOf NotUtf8 = 2
+numberOf NoToken = 3
+numberOf NotAllowed = 4
+numberOf TooDeep = 9
+numberOf Over = 5
+numberOf Zero = 6
+numberOf PeekRange = 7
+numberOf NotScalar = 8
+numberOf NotPlain = 13
+numberOf RulesRoom = 12
+numberOf NodesRoom = 10
+numberOf StoreRoom = 11
+
 unfoldable pub numbered : Reading → Numbered
 numbered (Reading.Read n r b) = record { number = 0; place = 0; nodes = n; rules = r; store = b }
-numbered Reading.TooLong = refusal 1 0
-numbered (Reading.NotUtf8 p) = refusal 2 p
-numbered (Reading.NoToken p) = refusal 3 p
-numbered (Reading.NotAllowed p) = refusal 4 p
-numbered (Reading.TooDeep p) = refusal 9 p
-numbered (Reading.Over p) = refusal 5 p
-numbered (Reading.Zero p) = refusal 6 p
-numbered (Reading.PeekRange p) = refusal 7 p
-numbered (Reading.NotScalar p) = refusal 8 p
-numbered (Reading.NotPlain p) = refusal 13 p
-numbered Reading.RulesRoom = refusal 12 0
-numbered Reading.NodesRoom = refusal 10 0
-numbered Reading.StoreRoom = refusal 11 0
+numbered (Reading.Refused r) = refusal (numberOf (r .why)) (r .place)
 
 -- what is to be answered, in those numbers
 unfoldable pub reported : Level → List ℕ → ℕ → ℕ → ℕ → Numbered

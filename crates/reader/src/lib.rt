@@ -5,36 +5,47 @@
 pub mod inner;
 
 use structure::Level;
+use structure::Refusal;
+use structure::Why;
 use text::Check;
 ghost use mathlib.Core.Path.{_≡_};
 ghost use lib.ListN.{length};
 ghost use Rattle.table.specs.Tree.{rulesStored};
 ghost use Rattle.table.specs.Flat.{nodesOf, recordsOf};
-ghost use Rattle.reader.specs.Read.{roomForNodes, roomForRules, readOf, numbered, reported, leftIn};
+ghost use Rattle.reader.specs.Read.{roomForNodes, roomForRules, readOf, numberOf, numbered, reported, leftIn};
 ghost use Rattle.build.specs.Rules.{rulesRead};
 
 // The nodes, rules and store bytes used, or why nothing was read, and where.
 pub enum Reading {
     Read(usize, usize, usize),
-    TooLong,
-    NotUtf8(usize),
-    NoToken(usize),
-    NotAllowed(usize),
-    TooDeep(usize),
-    Over(usize),
-    Zero(usize),
-    PeekRange(usize),
-    NotScalar(usize),
-    NotPlain(usize),
-    RulesRoom,
-    NodesRoom,
-    StoreRoom,
+    Refused(Refusal),
 }
 
 // What a text got whose tokens were listed in a table; or there are more tokens than it holds.
 pub enum Attempt {
     Done(Reading),
     Full,
+}
+
+// The number of a reason, as callers are told it.
+pub fn number_of(why: Why) -> u64
+    ensures { λ r. ⌜ r ≡ numberOf why ⌝ }
+{
+    match why {
+        Why::TooLong => 1,
+        Why::NotUtf8 => 2,
+        Why::NoToken => 3,
+        Why::NotAllowed => 4,
+        Why::TooDeep => 9,
+        Why::Over => 5,
+        Why::Zero => 6,
+        Why::PeekRange => 7,
+        Why::NotScalar => 8,
+        Why::NotPlain => 13,
+        Why::RulesRoom => 12,
+        Why::NodesRoom => 10,
+        Why::StoreRoom => 11,
+    }
 }
 
 // Reads a text into tables: its rules in `rules`, their nodes in `nodes`, their texts in `store`.
@@ -52,11 +63,11 @@ pub fn read(
     ensures store { λ r. ⌜ now (store .exit) ≡ leftIn r (rulesStored (rulesRead level (now (text .entry)))) (now (store .entry)) ⌝ }
 {
     if 65536 < text.len() {
-        return Reading::TooLong;
+        return inner::phases::refused(Why::TooLong, 0);
     }
     let utf8 = text::first_bad(text);
     if let Check::Bad(place) = utf8 {
-        return Reading::NotUtf8(place);
+        return inner::phases::refused(Why::NotUtf8, place);
     }
     let t = text::inner::classes::classes();
     if text.len() <= 2048 {

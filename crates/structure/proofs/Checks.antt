@@ -16,7 +16,8 @@ use Rattle.table.specs.declared.Unary.the-variants.{PosPred, NegPred, Push}
 use Rattle.structure.specs.declared.Level.{Level}
 use Rattle.structure.specs.declared.Level.the-variants.{Tagged, Plain}
 use Rattle.structure.specs.declared.Refusal.{Refusal}
-use Rattle.structure.specs.declared.Refusal.the-variants.{NotAllowed}
+use Rattle.structure.specs.declared.Why.the-variants.{NotAllowed}
+use Rattle.structure.specs.Refusals.{because}
 use Rattle.structure.specs.declared.Checked.{Checked}
 use Rattle.structure.specs.declared.Checked.the-variants as Checked
 use Rattle.structure.specs.declared.Wanted.{Wanted}
@@ -101,7 +102,7 @@ module _ (level : Level) (s : List ℕ) (at : ℕ) where
   unfolding openingOf
   was-from r p k b e q = by-tag p k b (is s at 19) (is s (at + 1) 1) (tagNodes level) (tagBytes level (length (label s at))) untagged tagged (sym e ∙ q)
 
-  pub was-untied : (r : Opening) → r ≡ openingOf level s at → r ≡ Untied → (at < length (toks s)) × ((o : ℕ) → Run level s (term o at) ≡ refused (NotAllowed (start s (at + 1))))
+  pub was-untied : (r : Opening) → r ≡ openingOf level s at → r ≡ Untied → (at < length (toks s)) × ((o : ℕ) → Run level s (term o at) ≡ refused (because NotAllowed (start s (at + 1))))
   unfolding openingOf
   was-untied r e q =
       let (f, g) = no-tag (is s at 19) (is s (at + 1) 1) (tagNodes level) (tagBytes level (length (label s at))) (sym e ∙ q) in
@@ -326,7 +327,7 @@ module _ (level : Level) (s : List ℕ) (at : ℕ) where
   by-nothing false true true e = let z : _≡_ {A = ℕ} 0 1 = cc in absurd (omega arith)
   by-nothing false true false e = let z : _≡_ {A = ℕ} 0 1 = cc in absurd (omega arith)
 
-  pub was-unopened : (r : Bracket) → r ≡ bracketOf s at → r ≡ Unopened → (at < length (toks s)) × ((o : ℕ) → Run level s (node o at) ≡ refused (NotAllowed (start s (at + 1))))
+  pub was-unopened : (r : Bracket) → r ≡ bracketOf s at → r ≡ Unopened → (at < length (toks s)) × ((o : ℕ) → Run level s (node o at) ≡ refused (because NotAllowed (start s (at + 1))))
   unfolding bracketOf
   was-unopened r e q =
       let (f, g, h) = by-unopened (is s at 6) (spells push s at) (is s (at + 1) 6) (sym e ∙ q) in

@@ -14,7 +14,8 @@ use Rattle.table.specs.Tree.{Span, Tree, count, size, startsAt}
 use Rattle.table.specs.declared.Join.the-variants.{Seq}
 use Rattle.structure.specs.declared.Level.{Level}
 use Rattle.structure.specs.declared.Refusal.{Refusal}
-use Rattle.structure.specs.declared.Refusal.the-variants.{NotAllowed, TooDeep}
+use Rattle.structure.specs.declared.Why.the-variants.{NotAllowed, TooDeep}
+use Rattle.structure.specs.Refusals.{because}
 use Rattle.structure.specs.declared.Checked.{Checked}
 use Rattle.structure.specs.declared.Checked.the-variants as Checked
 use Rattle.structure.specs.declared.Wanted.{Wanted}
@@ -161,8 +162,8 @@ module _ (level : Level) (s : List ℕ) (w : length s ≤ 65536) (o at : ℕ) wh
 
   -- ---- a term
 
-  pub term-untied : (r : Opening) → r ≡ openingOf level s at → r ≡ Untied → (y : ℕ) → y ≡ start s (at + 1) → Checked.Refused (NotAllowed y) ≡ summary (Run level s (term o at))
-  term-untied r e q y z = ap (λ (n : ℕ). Checked.Refused (NotAllowed n)) z ∙ sum-refused (was-untied level s at r e q .1 o)
+  pub term-untied : (r : Opening) → r ≡ openingOf level s at → r ≡ Untied → (y : Refusal) → y ≡ because NotAllowed (start s (at + 1)) → Checked.Refused y ≡ summary (Run level s (term o at))
+  term-untied r e q y z = ap Checked.Refused z ∙ sum-refused (was-untied level s at r e q .1 o)
 
   module _ (p k b : ℕ) (v : Opened level s at p k b) (f : ℕ) (i : Signed s p f) where
     to-node : Run level s (term o at)
@@ -221,19 +222,19 @@ module _ (level : Level) (s : List ℕ) (w : length s ≤ 65536) (o at : ℕ) wh
   pub node-leaf : (a : Bracket) → a ≡ bracketOf s at → a ≡ Nothing → (r : Checked) → r ≡ summary (leafAt o s at) → r ≡ summary (Run level s (node o at))
   node-leaf a e q r h = h ∙ ap summary (sym (was-nothing level s at a e q o))
 
-  pub node-unopened : (a : Bracket) → a ≡ bracketOf s at → a ≡ Unopened → (y : ℕ) → y ≡ start s (at + 1) → Checked.Refused (NotAllowed y) ≡ summary (Run level s (node o at))
-  node-unopened a e q y z = ap (λ (n : ℕ). Checked.Refused (NotAllowed n)) z ∙ sum-refused (was-unopened level s at a e q .1 o)
+  pub node-unopened : (a : Bracket) → a ≡ bracketOf s at → a ≡ Unopened → (y : Refusal) → y ≡ because NotAllowed (start s (at + 1)) → Checked.Refused y ≡ summary (Run level s (node o at))
+  node-unopened a e q y z = ap Checked.Refused z ∙ sum-refused (was-unopened level s at a e q .1 o)
 
   module _ (p k : ℕ) (v : Bracketed level s at p k) where
-    pub node-deep : 1024 ≤ o → (y : ℕ) → y ≡ start s p → Checked.Refused (TooDeep y) ≡ summary (Run level s (node o at))
-    node-deep h y z = ap (λ (n : ℕ). Checked.Refused (TooDeep n)) z ∙ sum-refused (v .same o ∙ opened-true o s p _ (le-leb limit o h))
+    pub node-deep : 1024 ≤ o → (y : Refusal) → y ≡ because TooDeep (start s p) → Checked.Refused y ≡ summary (Run level s (node o at))
+    node-deep h y z = ap Checked.Refused z ∙ sum-refused (v .same o ∙ opened-true o s p _ (le-leb limit o h))
 
     module _ (h : o < 1024) (r : Checked) (e : r ≡ summary (Run level s (expr (o + 1) (p + 1)))) where
       pub node-refused : (x : Refusal) → r ≡ Checked.Refused x → Checked.Refused x ≡ summary (Run level s (node o at))
       node-refused x q = sum-refused (v .same o ∙ opened-false o s p _ (lt-leb limit o h) ∙ next-bad _ _ (bad _ r x e q))
 
       module _ (n k₁ b₁ : ℕ) (q : r ≡ Checked.Good n k₁ b₁) (c : Wanted) (f : c ≡ wanted s n 7) where
-        pub node-unclosed : c ≡ Missing → (y : ℕ) → y ≡ start s n → Checked.Refused (NotAllowed y) ≡ summary (Run level s (node o at))
+        pub node-unclosed : c ≡ Missing → (y : Refusal) → y ≡ because NotAllowed (start s n) → Checked.Refused y ≡ summary (Run level s (node o at))
         node-unclosed g y z =
             let (t, l, a, b) = good _ r n k₁ b₁ e q in
             sum-refused (v .same o ∙ opened-false o s p _ (lt-leb limit o h) ∙ next-good _ _ l ∙ wanted-off refused s n 7 _ c y f g z)

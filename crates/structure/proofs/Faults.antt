@@ -24,7 +24,10 @@ use Rattle.structure.proofs.Bytes.{inside-of}
 use Rattle.structure.specs.declared.Level.{Level}
 use Rattle.structure.specs.declared.Level.the-variants.{Tagged, Plain}
 use Rattle.structure.specs.declared.Fault.{Fault}
-use Rattle.structure.specs.declared.Fault.the-variants.{Sound, Over, Zero, PeekRange, NotScalar, NotPlain}
+use Rattle.structure.specs.declared.Fault.the-variants.{Sound, At}
+use Rattle.structure.specs.declared.Why.the-variants.{Over, Zero, PeekRange, NotScalar, NotPlain}
+use Rattle.structure.specs.declared.Refusal.{Refusal}
+use Rattle.structure.specs.Refusals.{because}
 use Rattle.structure.specs.Tokens.{spells}
 use Rattle.structure.specs.Values.{integerOf, opening, literalBytes, repeatFault, peekFault, literalFault, wordFault, numberFault, faultAt, orFault, faultsFrom, faults}
 use Rattle.structure.proofs.Steps.{choose-true, choose-false, sees, misses, another, or-first, or-second, or-neither}
@@ -49,8 +52,8 @@ module _ (s : List ℕ) (i : ℕ) (d r : Decimal) (e : d ≡ r) where
   pub peek-fits : (n : ℕ) → d ≡ Decimal.Is n → Sound ≡ peekFault s i r
   peek-fits n q = sym (ap (peekFault s i) (sym e ∙ q))
 
-  pub peek-over : d ≡ Decimal.Over → (y : ℕ) → y ≡ start s i → PeekRange y ≡ peekFault s i r
-  peek-over q y z = ap PeekRange z ∙ sym (ap (peekFault s i) (sym e ∙ q))
+  pub peek-over : d ≡ Decimal.Over → (y : Refusal) → y ≡ because PeekRange (start s i) → At y ≡ peekFault s i r
+  peek-over q y z = ap At z ∙ sym (ap (peekFault s i) (sym e ∙ q))
 
   pub peek-other : d ≡ Decimal.NotDigits → Sound ≡ peekFault s i r
   peek-other q = sym (ap (peekFault s i) (sym e ∙ q))
@@ -58,14 +61,14 @@ module _ (s : List ℕ) (i : ℕ) (d r : Decimal) (e : d ≡ r) where
   pub repeat-other : d ≡ Decimal.NotDigits → Sound ≡ repeatFault s i r
   repeat-other q = sym (ap (repeatFault s i) (sym e ∙ q))
 
-  pub repeat-over : d ≡ Decimal.Over → (y : ℕ) → y ≡ start s i → Over y ≡ repeatFault s i r
-  repeat-over q y z = ap Over z ∙ sym (ap (repeatFault s i) (sym e ∙ q))
+  pub repeat-over : d ≡ Decimal.Over → (y : Refusal) → y ≡ because Over (start s i) → At y ≡ repeatFault s i r
+  repeat-over q y z = ap At z ∙ sym (ap (repeatFault s i) (sym e ∙ q))
 
   some-count : (n : ℕ) → (n ≡ 0 → ⊥) → Sound ≡ repeatFault s i (Decimal.Is n)
   some-count zero h = absurd (h refl)
   some-count (suc n) h = refl
 
-  zero-count : (n : ℕ) → n ≡ 0 → repeatFault s i (Decimal.Is n) ≡ choose (is s (i + 1) 3) (λ u. Zero (start s i)) (λ u. Sound)
+  zero-count : (n : ℕ) → n ≡ 0 → repeatFault s i (Decimal.Is n) ≡ choose (is s (i + 1) 3) (λ u. At (because Zero (start s i))) (λ u. Sound)
   zero-count n h = ap (λ (k : ℕ). repeatFault s i (Decimal.Is k)) h
 
   module _ (n : ℕ) (q : d ≡ Decimal.Is n) where
@@ -73,8 +76,8 @@ module _ (s : List ℕ) (i : ℕ) (d r : Decimal) (e : d ≡ r) where
     repeat-some h = some-count n h ∙ sym (ap (repeatFault s i) (sym e ∙ q))
 
     module _ (h : n ≡ 0) (x : ℕ) (f : x ≡ kind s (i + 1)) where
-      pub repeat-zero : x ≡ 3 → (y : ℕ) → y ≡ start s i → Zero y ≡ repeatFault s i r
-      repeat-zero g y z = ap Zero z ∙ sym (ap (repeatFault s i) (sym e ∙ q) ∙ zero-count n h ∙ choose-true (is s (i + 1) 3) _ _ (sees s (i + 1) x 3 f g))
+      pub repeat-zero : x ≡ 3 → (y : Refusal) → y ≡ because Zero (start s i) → At y ≡ repeatFault s i r
+      repeat-zero g y z = ap At z ∙ sym (ap (repeatFault s i) (sym e ∙ q) ∙ zero-count n h ∙ choose-true (is s (i + 1) 3) _ _ (sees s (i + 1) x 3 f g))
 
       pub repeat-least : (x ≡ 3 → ⊥) → Sound ≡ repeatFault s i r
       repeat-least g = sym (ap (repeatFault s i) (sym e ∙ q) ∙ zero-count n h ∙ choose-false (is s (i + 1) 3) _ _ (misses s (i + 1) x 3 f g))
@@ -95,8 +98,8 @@ pub word-tagged : (level : Level) (s : List ℕ) (i : ℕ) → level ≡ Tagged 
 word-tagged level s i q = sym (ap (λ (l : Level). wordFault l s i) q)
 
 module _ (level : Level) (s : List ℕ) (i : ℕ) (q : level ≡ Plain) (b : Bool) (e : b ≡ spells pushLiteral s i) where
-  pub word-pushed : b ≡ true → (y : ℕ) → y ≡ start s i → NotPlain y ≡ wordFault level s i
-  word-pushed h y z = ap NotPlain z ∙ sym (ap (λ (l : Level). wordFault l s i) q ∙ choose-true (spells pushLiteral s i) _ _ (sym e ∙ h))
+  pub word-pushed : b ≡ true → (y : Refusal) → y ≡ because NotPlain (start s i) → At y ≡ wordFault level s i
+  word-pushed h y z = ap At z ∙ sym (ap (λ (l : Level). wordFault l s i) q ∙ choose-true (spells pushLiteral s i) _ _ (sym e ∙ h))
 
   pub word-plain : b ≡ false → Sound ≡ wordFault level s i
   word-plain h = sym (ap (λ (l : Level). wordFault l s i) q ∙ choose-false (spells pushLiteral s i) _ _ (sym e ∙ h))
@@ -114,10 +117,10 @@ module _ (s : List ℕ) (i n a z : ℕ) (e : n ≡ opening s i) (f : a ≡ start
   pub literal-sound : r ≡ Check.Good → Sound ≡ literalFault s i (badEscape (literalBytes s i))
   literal-sound q = sym (ap (literalFault s i) (ap badEscape (sym (inside-of s i n a z e f g)) ∙ sym h ∙ q))
 
-  pub literal-bad : (k : ℕ) → r ≡ Check.Bad k → NotScalar (a + k) ≡ literalFault s i (badEscape (literalBytes s i))
+  pub literal-bad : (k : ℕ) → r ≡ Check.Bad k → At (because NotScalar (a + k)) ≡ literalFault s i (badEscape (literalBytes s i))
   literal-bad k q =
       let y : a + k ≡ start s i + opening s i + k = omega arith in
-      ap NotScalar y ∙ sym (ap (literalFault s i) (ap badEscape (sym (inside-of s i n a z e f g)) ∙ sym h ∙ q))
+      ap (λ (n : ℕ). At (because NotScalar n)) y ∙ sym (ap (literalFault s i) (ap badEscape (sym (inside-of s i n a z e f g)) ∙ sym h ∙ q))
 
   pub literal-low : (k : ℕ) → r ≡ Check.Bad k → k < length s
   literal-low k q = let m = bad-in (between s a z) k (sym h ∙ q) in let l = part-short s a z in omega arith

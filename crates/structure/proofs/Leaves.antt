@@ -14,7 +14,9 @@ use Rattle.table.specs.declared.Unary.the-variants.{RepMax, RepMinMax}
 use Rattle.table.specs.declared.Sort.the-variants.{Str, Insens, Ident, PushLiteral}
 use Rattle.table.specs.declared.End.{End}
 use Rattle.table.specs.declared.End.the-variants.{Open, At}
-use Rattle.structure.specs.declared.Refusal.the-variants.{NotAllowed, TooDeep}
+use Rattle.structure.specs.declared.Why.the-variants.{NotAllowed, TooDeep}
+use Rattle.structure.specs.declared.Refusal.{Refusal}
+use Rattle.structure.specs.Refusals.{because}
 use Rattle.structure.specs.declared.Checked.{Checked}
 use Rattle.structure.specs.declared.Checked.the-variants as Checked
 use Rattle.structure.specs.declared.Wanted.{Wanted}
@@ -36,7 +38,7 @@ module _ (s : List ℕ) (at x : ℕ) (e : x ≡ kind s (at + 1)) where
   number-exact q = tail-past (choose-true (is s (at + 1) 3) _ _ (sees s (at + 1) x 3 e q)) (omega arith)
 
   module _ (q : x ≡ 3 → ⊥) (c : Wanted) (f : c ≡ wanted s (at + 1) 15) where
-    pub number-open : c ≡ Missing → (y : ℕ) → y ≡ start s (at + 1) → PostfixEnd.Bad (NotAllowed y) ≡ tailOf (fromNumber s at)
+    pub number-open : c ≡ Missing → (y : Refusal) → y ≡ because NotAllowed (start s (at + 1)) → PostfixEnd.Bad y ≡ tailOf (fromNumber s at)
     unfolding fromNumber
     number-open g y z = tail-bad (choose-false (is s (at + 1) 3) _ _ (misses s (at + 1) x 3 e q) ∙ wanted-off notPost s (at + 1) 15 _ c y f g z)
 
@@ -46,7 +48,7 @@ module _ (s : List ℕ) (at x : ℕ) (e : x ≡ kind s (at + 1)) where
       number-least l = tail-past (choose-false (is s (at + 1) 3) _ _ (misses s (at + 1) x 3 e q) ∙ wanted-on notPost s (at + 1) 15 _ c j f g ∙ choose-true (is s j 3) _ _ (sees s j w 3 h l)) refl
 
       module _ (l : w ≡ 3 → ⊥) (d : Wanted) (m : d ≡ wanted s j 20) where
-        pub number-comma : d ≡ Missing → (y : ℕ) → y ≡ start s j → PostfixEnd.Bad (NotAllowed y) ≡ tailOf (fromNumber s at)
+        pub number-comma : d ≡ Missing → (y : Refusal) → y ≡ because NotAllowed (start s j) → PostfixEnd.Bad y ≡ tailOf (fromNumber s at)
         unfolding fromNumber
         number-comma n y z =
             tail-bad (choose-false (is s (at + 1) 3) _ _ (misses s (at + 1) x 3 e q) ∙ wanted-on notPost s (at + 1) 15 _ c j f g ∙ choose-false (is s j 3) _ _ (misses s j w 3 h l)
@@ -59,19 +61,19 @@ module _ (s : List ℕ) (at x : ℕ) (e : x ≡ kind s (at + 1)) where
               choose-false (is s (at + 1) 3) _ _ (misses s (at + 1) x 3 e q) ∙ wanted-on notPost s (at + 1) 15 _ c j f g ∙ choose-false (is s j 3) _ _ (misses s j w 3 h l)
               ∙ wanted-on notPost s j 20 _ d k m n
 
-          pub number-unclosed : b ≡ Missing → (y : ℕ) → y ≡ start s k → PostfixEnd.Bad (NotAllowed y) ≡ tailOf (fromNumber s at)
+          pub number-unclosed : b ≡ Missing → (y : Refusal) → y ≡ because NotAllowed (start s k) → PostfixEnd.Bad y ≡ tailOf (fromNumber s at)
           number-unclosed p y z = tail-bad (rest ∙ wanted-off notPost s k 3 _ b y a p z)
 
           pub number-both : (i : ℕ) → b ≡ Here i → PostfixEnd.Past i ≡ tailOf (fromNumber s at)
           number-both i p = tail-past (rest ∙ wanted-on notPost s k 3 _ b i a p) refl
 
 module _ (s : List ℕ) (at : ℕ) (c : Wanted) (f : c ≡ wanted s at 15) where
-  pub comma-none : c ≡ Missing → (y : ℕ) → y ≡ start s at → PostfixEnd.Bad (NotAllowed y) ≡ tailOf (fromComma s at)
+  pub comma-none : c ≡ Missing → (y : Refusal) → y ≡ because NotAllowed (start s at) → PostfixEnd.Bad y ≡ tailOf (fromComma s at)
   unfolding fromComma
   comma-none g y z = tail-bad (wanted-off notPost s at 15 _ c y f g z)
 
   module _ (j : ℕ) (g : c ≡ Here j) (d : Wanted) (m : d ≡ wanted s j 20) where
-    pub comma-bare : d ≡ Missing → (y : ℕ) → y ≡ start s j → PostfixEnd.Bad (NotAllowed y) ≡ tailOf (fromComma s at)
+    pub comma-bare : d ≡ Missing → (y : Refusal) → y ≡ because NotAllowed (start s j) → PostfixEnd.Bad y ≡ tailOf (fromComma s at)
     unfolding fromComma
     comma-bare n y z = tail-bad (wanted-on notPost s at 15 _ c j f g ∙ wanted-off notPost s j 20 _ d y m n z)
 
@@ -80,7 +82,7 @@ module _ (s : List ℕ) (at : ℕ) (c : Wanted) (f : c ≡ wanted s at 15) where
       unfolding fromComma
       after-most = wanted-on notPost s at 15 _ c j f g ∙ wanted-on notPost s j 20 _ d k m n
 
-      pub comma-unclosed : b ≡ Missing → (y : ℕ) → y ≡ start s k → PostfixEnd.Bad (NotAllowed y) ≡ tailOf (fromComma s at)
+      pub comma-unclosed : b ≡ Missing → (y : Refusal) → y ≡ because NotAllowed (start s k) → PostfixEnd.Bad y ≡ tailOf (fromComma s at)
       comma-unclosed p y z = tail-bad (after-most ∙ wanted-off notPost s k 3 _ b y a p z)
 
       pub comma-most : (i : ℕ) → b ≡ Here i → PostfixEnd.Past i ≡ tailOf (fromComma s at)
@@ -158,11 +160,11 @@ unfolding sliceTo
 slice-to s at from i f e = to-by (isInteger s i) s at from i f (At (integer s i)) e
 
 module _ (s : List ℕ) (at i f : ℕ) (e : f ≡ pastInteger s i) (c : Wanted) (g : c ≡ wanted s f 22) where
-  pub slice-undotted : c ≡ Missing → (y : ℕ) → y ≡ start s f → Checked.Refused (NotAllowed y) ≡ summary (slice s at i)
+  pub slice-undotted : c ≡ Missing → (y : Refusal) → y ≡ because NotAllowed (start s f) → Checked.Refused y ≡ summary (slice s at i)
   slice-undotted h y z = let (from, p) = slice-from s at i f e in sum-refused (p ∙ wanted-off refused s f 22 _ c y g h z)
 
   module _ (j : ℕ) (h : c ≡ Here j) (t : ℕ) (k : t ≡ pastInteger s j) (d : Wanted) (l : d ≡ wanted s t 5) where
-    pub slice-unclosed : d ≡ Missing → (y : ℕ) → y ≡ start s t → Checked.Refused (NotAllowed y) ≡ summary (slice s at i)
+    pub slice-unclosed : d ≡ Missing → (y : Refusal) → y ≡ because NotAllowed (start s t) → Checked.Refused y ≡ summary (slice s at i)
     slice-unclosed m y z =
         let (from, p) = slice-from s at i f e in
         let (q, v, r) = slice-to s at from j t k in
@@ -175,22 +177,22 @@ module _ (s : List ℕ) (at i f : ℕ) (e : f ≡ pastInteger s i) (c : Wanted) 
         sum-leaf {p = q} {a = peekSlice from v} 0 (p ∙ wanted-on refused s f 22 _ c j g h ∙ r ∙ wanted-on refused s t 5 _ d n l m) refl
 
 module _ (o : ℕ) (s : List ℕ) (at : ℕ) (a : Wanted) (f : a ≡ wanted s (at + 1) 6) where
-  pub pushed-bare : a ≡ Missing → (y : ℕ) → y ≡ start s (at + 1) → Checked.Refused (NotAllowed y) ≡ summary (pushed o s at)
+  pub pushed-bare : a ≡ Missing → (y : Refusal) → y ≡ because NotAllowed (start s (at + 1)) → Checked.Refused y ≡ summary (pushed o s at)
   unfolding pushed
   pushed-bare g y z = sum-refused (wanted-off refused s (at + 1) 6 _ a y f g z)
 
   module _ (i : ℕ) (g : a ≡ Here i) where
-    pub pushed-deep : 1024 ≤ o → (y : ℕ) → y ≡ start s (at + 1) → Checked.Refused (TooDeep y) ≡ summary (pushed o s at)
+    pub pushed-deep : 1024 ≤ o → (y : Refusal) → y ≡ because TooDeep (start s (at + 1)) → Checked.Refused y ≡ summary (pushed o s at)
     unfolding pushed
-    pushed-deep h y z = ap (λ (n : ℕ). Checked.Refused (TooDeep n)) z ∙ sum-refused (wanted-on refused s (at + 1) 6 _ a i f g ∙ opened-true o s (at + 1) _ (le-leb limit o h))
+    pushed-deep h y z = ap Checked.Refused z ∙ sum-refused (wanted-on refused s (at + 1) 6 _ a i f g ∙ opened-true o s (at + 1) _ (le-leb limit o h))
 
     module _ (h : o < 1024) (b : Wanted) (l : b ≡ wanted s i 23) where
-      pub pushed-empty : b ≡ Missing → (y : ℕ) → y ≡ start s i → Checked.Refused (NotAllowed y) ≡ summary (pushed o s at)
+      pub pushed-empty : b ≡ Missing → (y : Refusal) → y ≡ because NotAllowed (start s i) → Checked.Refused y ≡ summary (pushed o s at)
       unfolding pushed
       pushed-empty m y z = sum-refused (wanted-on refused s (at + 1) 6 _ a i f g ∙ opened-false o s (at + 1) _ (lt-leb limit o h) ∙ wanted-off refused s i 23 _ b y l m z)
 
       module _ (j : ℕ) (m : b ≡ Here j) (c : Wanted) (k : c ≡ wanted s j 7) where
-        pub pushed-unclosed : c ≡ Missing → (y : ℕ) → y ≡ start s j → Checked.Refused (NotAllowed y) ≡ summary (pushed o s at)
+        pub pushed-unclosed : c ≡ Missing → (y : Refusal) → y ≡ because NotAllowed (start s j) → Checked.Refused y ≡ summary (pushed o s at)
         unfolding pushed
         pushed-unclosed n y z =
             sum-refused (wanted-on refused s (at + 1) 6 _ a i f g ∙ opened-false o s (at + 1) _ (lt-leb limit o h) ∙ wanted-on refused s i 23 _ b j l m ∙ wanted-off refused s j 7 _ c y k n z)
@@ -202,12 +204,12 @@ module _ (o : ℕ) (s : List ℕ) (at : ℕ) (a : Wanted) (f : a ≡ wanted s (a
             (wanted-on refused s (at + 1) 6 _ a i f g ∙ opened-false o s (at + 1) _ (lt-leb limit o h) ∙ wanted-on refused s i 23 _ b j l m ∙ wanted-on refused s j 7 _ c n k p) w
 
 module _ (s : List ℕ) (at : ℕ) (a : Wanted) (f : a ≡ wanted s (at + 1) 22) where
-  pub range-undotted : a ≡ Missing → (y : ℕ) → y ≡ start s (at + 1) → Checked.Refused (NotAllowed y) ≡ summary (ranged s at)
+  pub range-undotted : a ≡ Missing → (y : Refusal) → y ≡ because NotAllowed (start s (at + 1)) → Checked.Refused y ≡ summary (ranged s at)
   unfolding ranged
   range-undotted g y z = sum-refused (wanted-off refused s (at + 1) 22 _ a y f g z)
 
   module _ (i : ℕ) (g : a ≡ Here i) (b : Wanted) (l : b ≡ wanted s i 25) where
-    pub range-open : b ≡ Missing → (y : ℕ) → y ≡ start s i → Checked.Refused (NotAllowed y) ≡ summary (ranged s at)
+    pub range-open : b ≡ Missing → (y : Refusal) → y ≡ because NotAllowed (start s i) → Checked.Refused y ≡ summary (ranged s at)
     unfolding ranged
     range-open m y z = sum-refused (wanted-on refused s (at + 1) 22 _ a i f g ∙ wanted-off refused s i 25 _ b y l m z)
 
@@ -245,7 +247,7 @@ module _ (o : ℕ) (s : List ℕ) (at : ℕ) where
   module _ (x : ℕ) (e : x ≡ kind s at) where
     past-words : (is s at 18 ≡ false) → leafAt o s at
         ≡ choose (is s at 23) (λ u. got (leaf (across s at at) (text Str (string s at))) (at + 1))
-        (λ u. choose (is s at 24) (λ u. got (leaf (across s at at) (text Insens (string s at))) (at + 1)) (λ u. choose (is s at 25) (λ u. ranged s at) (λ u. refused (NotAllowed (start s at)))))
+        (λ u. choose (is s at 24) (λ u. got (leaf (across s at at) (text Insens (string s at))) (at + 1)) (λ u. choose (is s at 25) (λ u. ranged s at) (λ u. refused (because NotAllowed (start s at)))))
     unfolding leafAt
     past-words n = choose-false (spells pushLiteral s at) _ _ (spells-kind pushLiteral s at n) ∙ choose-false (slices s at) _ _ (slices-kind s at n) ∙ choose-false (is s at 18) _ _ n
 
@@ -263,7 +265,7 @@ module _ (o : ℕ) (s : List ℕ) (at : ℕ) where
         w ∙ ap summary (sym (past-words (another s at x 25 18 e q (λ h. omega arith)) ∙ choose-false (is s at 23) _ _ (another s at x 25 23 e q (λ h. omega arith)) ∙ choose-false (is s at 24) _ _ (another s at x 25 24 e q (λ h. omega arith))
         ∙ choose-true (is s at 25) _ _ (sees s at x 25 e q)))
 
-    pub leaf-none : (x ≡ 18 → ⊥) → (x ≡ 23 → ⊥) → (x ≡ 24 → ⊥) → (x ≡ 25 → ⊥) → (y : ℕ) → y ≡ start s at → Checked.Refused (NotAllowed y) ≡ summary (leafAt o s at)
+    pub leaf-none : (x ≡ 18 → ⊥) → (x ≡ 23 → ⊥) → (x ≡ 24 → ⊥) → (x ≡ 25 → ⊥) → (y : Refusal) → y ≡ because NotAllowed (start s at) → Checked.Refused y ≡ summary (leafAt o s at)
     leaf-none a b c d y z =
-        ap (λ (n : ℕ). Checked.Refused (NotAllowed n)) z
+        ap Checked.Refused z
         ∙ sum-refused (past-words (misses s at x 18 e a) ∙ choose-false (is s at 23) _ _ (misses s at x 23 e b) ∙ choose-false (is s at 24) _ _ (misses s at x 24 e c) ∙ choose-false (is s at 25) _ _ (misses s at x 25 e d))

@@ -14,7 +14,8 @@ use Rattle.token.proofs.Table.{word-is}
 use Rattle.table.specs.Tree.{Span, Tree, Rule, count, counts, stored, size, ruleStored, rulesStored}
 use Rattle.structure.specs.declared.Level.{Level}
 use Rattle.structure.specs.declared.Refusal.{Refusal}
-use Rattle.structure.specs.declared.Refusal.the-variants.{NotAllowed}
+use Rattle.structure.specs.declared.Why.the-variants.{NotAllowed}
+use Rattle.structure.specs.Refusals.{because}
 use Rattle.structure.specs.declared.Checked.{Checked}
 use Rattle.structure.specs.declared.Checked.the-variants as Checked
 use Rattle.structure.specs.declared.Counted.{Counted}
@@ -174,12 +175,12 @@ unfolding ruleSummary
 sum-ruled {u = u} {n = n} k b e q w = ap (λ (x : ℕ). Checked.Good n x b) q ∙ ap (Checked.Good n (count (u .tree))) w ∙ sym (ap ruleSummary e)
 
 module _ (level : Level) (s : List ℕ) (at : ℕ) (b : Bool) (e : b ≡ isName s at) where
-  pub rule-unnamed : b ≡ false → (y : ℕ) → y ≡ start s at → Checked.Refused (NotAllowed y) ≡ ruleSummary (ruleFrom level s at)
+  pub rule-unnamed : b ≡ false → (y : Refusal) → y ≡ because NotAllowed (start s at) → Checked.Refused y ≡ ruleSummary (ruleFrom level s at)
   unfolding ruleFrom
-  rule-unnamed q y z = ap (λ (n : ℕ). Checked.Refused (NotAllowed n)) z ∙ sum-unruled (choose-false (isName s at) _ _ (sym e ∙ q))
+  rule-unnamed q y z = ap Checked.Refused z ∙ sum-unruled (choose-false (isName s at) _ _ (sym e ∙ q))
 
   module _ (q : b ≡ true) (a : Wanted) (f : a ≡ wanted s (at + 1) 1) where
-    pub rule-untied : a ≡ Missing → (y : ℕ) → y ≡ start s (at + 1) → Checked.Refused (NotAllowed y) ≡ ruleSummary (ruleFrom level s at)
+    pub rule-untied : a ≡ Missing → (y : Refusal) → y ≡ because NotAllowed (start s (at + 1)) → Checked.Refused y ≡ ruleSummary (ruleFrom level s at)
     unfolding ruleFrom
     rule-untied g y z = sum-unruled (choose-true (isName s at) _ _ (sym e ∙ q) ∙ wanted-off noRule s (at + 1) 1 _ a y f g z)
 
@@ -194,7 +195,7 @@ module _ (level : Level) (s : List ℕ) (at : ℕ) (b : Bool) (e : b ≡ isName 
           (λ (x : ℕ). want noRule s x 2 (λ j. ruleOf (Run level s (expr 0 (pastBar s j))) (λ t n. want noRule s n 3 (λ m. ruling (record { name = word s at; mark = markAt s i; tree = t; place = across s at at }) m))))
           (sym h)
 
-      pub rule-unbraced : c ≡ Missing → (y : ℕ) → y ≡ start s p → Checked.Refused (NotAllowed y) ≡ ruleSummary (ruleFrom level s at)
+      pub rule-unbraced : c ≡ Missing → (y : Refusal) → y ≡ because NotAllowed (start s p) → Checked.Refused y ≡ ruleSummary (ruleFrom level s at)
       rule-unbraced m y z = sum-unruled (to-brace ∙ wanted-off noRule s p 2 _ c y l m z)
 
       module _ (j : ℕ) (m : c ≡ Here j) (t : ℕ) (o : t ≡ pastBar s j) (r : Checked) (u : r ≡ summary (Run level s (expr 0 t))) where
@@ -208,7 +209,7 @@ module _ (level : Level) (s : List ℕ) (at : ℕ) (b : Bool) (e : b ≡ isName 
         rule-refused x v = sum-unruled (to-body ∙ rule-bad _ _ (bad _ r x u v))
 
         module _ (n k b₁ : ℕ) (v : r ≡ Checked.Good n k b₁) (d : Wanted) (w : d ≡ wanted s n 3) where
-          pub rule-unclosed : d ≡ Missing → (y : ℕ) → y ≡ start s n → Checked.Refused (NotAllowed y) ≡ ruleSummary (ruleFrom level s at)
+          pub rule-unclosed : d ≡ Missing → (y : Refusal) → y ≡ because NotAllowed (start s n) → Checked.Refused y ≡ ruleSummary (ruleFrom level s at)
           rule-unclosed x y z = let (t₁, g₁, c₁, d₁) = good _ r n k b₁ u v in sum-unruled (to-body ∙ rule-good _ _ g₁ ∙ wanted-off noRule s n 3 _ d y w x z)
 
           pub rule-read : (z : ℕ) → d ≡ Here z → (y : ℕ) → y ≡ length (word s at) → Checked.Good z k (y + b₁) ≡ ruleSummary (ruleFrom level s at)
@@ -304,7 +305,7 @@ module _ (level : Level) (s : List ℕ) where
     pub bytes : c ≤ most * i
     pub same : summaries (grammar level s) ≡ plus a b c (summaries (rulesUpTo level s fuel i))
 
-  pub grammar-none : (i : ℕ) → i ≡ docs s → length (toks s) ≤ i → Counted.Refused (NotAllowed (length s)) ≡ summaries (grammar level s)
+  pub grammar-none : (i : ℕ) → i ≡ docs s → length (toks s) ≤ i → Counted.Refused (because NotAllowed (length s)) ≡ summaries (grammar level s)
   unfolding grammar summaries
   grammar-none i e h = sym (ap summaries (choose-true (leb (length (toks s)) (docs s)) _ _ (le-leb (length (toks s)) (docs s) (omega arith))))
 

@@ -14,7 +14,8 @@ use Rattle.token.specs.Table.{toks, tokOf, kind, start, is, word}
 use Rattle.table.specs.Tree.{Span, Tree}
 use Rattle.table.specs.declared.Unary.{Unary}
 use Rattle.structure.specs.declared.Refusal.{Refusal}
-use Rattle.structure.specs.declared.Refusal.the-variants.{NotAllowed, TooDeep}
+use Rattle.structure.specs.declared.Why.the-variants.{NotAllowed, TooDeep}
+use Rattle.structure.specs.Refusals.{because}
 use Rattle.structure.specs.Tokens.{same, spells}
 use Rattle.structure.specs.Structure.{Parsed, got, refused, next, want, limit, opened, Postfix, post, notPost, noPost, postsBy}
 
@@ -108,7 +109,7 @@ pub want-true : {A : Type 0} (fail : Refusal → A) (s : List ℕ) (i k : ℕ) (
 unfolding want
 want-true fail s i k f e = choose-true (is s i k) _ _ e
 
-pub want-false : {A : Type 0} (fail : Refusal → A) (s : List ℕ) (i k : ℕ) (f : ℕ → A) → is s i k ≡ false → want fail s i k f ≡ fail (NotAllowed (start s i))
+pub want-false : {A : Type 0} (fail : Refusal → A) (s : List ℕ) (i k : ℕ) (f : ℕ → A) → is s i k ≡ false → want fail s i k f ≡ fail (because NotAllowed (start s i))
 unfolding want
 want-false fail s i k f e = choose-false (is s i k) _ _ e
 
@@ -176,7 +177,7 @@ pub opened-got : (o : ℕ) (s : List ℕ) (i : ℕ) (f : Unit {0} → Parsed) {t
 unfolding opened
 opened-got o s i f e = split (leb limit o) _ _ (λ v e₀. no-tree e₀) (λ v e₀. (v, e₀)) e
 
-pub opened-true : (o : ℕ) (s : List ℕ) (i : ℕ) (f : Unit {0} → Parsed) → leb limit o ≡ true → opened o s i f ≡ refused (TooDeep (start s i))
+pub opened-true : (o : ℕ) (s : List ℕ) (i : ℕ) (f : Unit {0} → Parsed) → leb limit o ≡ true → opened o s i f ≡ refused (because TooDeep (start s i))
 unfolding opened
 opened-true o s i f e = choose-true (leb limit o) _ _ e
 

@@ -13,7 +13,8 @@ use Rattle.token.proofs.Lists.{Ordered, ordered}
 use Rattle.table.specs.Tree.{Span, Tree, count, size}
 use Rattle.table.specs.declared.Unary.{Unary}
 use Rattle.structure.specs.declared.Refusal.{Refusal}
-use Rattle.structure.specs.declared.Refusal.the-variants.{NotAllowed}
+use Rattle.structure.specs.declared.Why.the-variants.{NotAllowed}
+use Rattle.structure.specs.Refusals.{because}
 use Rattle.structure.specs.declared.Checked.{Checked}
 use Rattle.structure.specs.declared.Checked.the-variants as Checked
 use Rattle.structure.specs.declared.Wanted.{Wanted}
@@ -59,8 +60,8 @@ pub wanted-on : {A : Type 0} (fail : Refusal → A) (s : List ℕ) (i k : ℕ) (
 wanted-on fail s i k f r p e q = let w = was-here s i k r p e q in want-true fail s i k f (w .0) ∙ ap f (sym (w .1))
 
 -- where it doesn't, that is 4
-pub wanted-off : {A : Type 0} (fail : Refusal → A) (s : List ℕ) (i k : ℕ) (f : ℕ → A) (r : Wanted) (y : ℕ) → r ≡ wanted s i k → r ≡ Missing → y ≡ start s i → want fail s i k f ≡ fail (NotAllowed y)
-wanted-off fail s i k f r y e q z = want-false fail s i k f (was-missing s i k r e q) ∙ ap (λ (n : ℕ). fail (NotAllowed n)) (sym z)
+pub wanted-off : {A : Type 0} (fail : Refusal → A) (s : List ℕ) (i k : ℕ) (f : ℕ → A) (r : Wanted) (y : Refusal) → r ≡ wanted s i k → r ≡ Missing → y ≡ because NotAllowed (start s i) → want fail s i k f ≡ fail y
+wanted-off fail s i k f r y e q z = want-false fail s i k f (was-missing s i k r e q) ∙ ap fail (sym z)
 
 -- ---- postfixes
 

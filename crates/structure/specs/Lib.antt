@@ -1,4 +1,5 @@
 -- Structure: the definitions that the contracts of this crate cite.
+pub mod Refusals
 pub mod Tokens
 pub mod Values
 pub mod Structure

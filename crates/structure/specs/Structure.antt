@@ -20,7 +20,8 @@ use Rattle.table.specs.declared.End.the-variants.{Open, At}
 use Rattle.structure.specs.declared.Level.{Level}
 use Rattle.structure.specs.declared.Level.the-variants.{Tagged, Plain}
 use Rattle.structure.specs.declared.Refusal.{Refusal}
-use Rattle.structure.specs.declared.Refusal.the-variants.{NotAllowed, TooDeep}
+use Rattle.structure.specs.declared.Why.the-variants.{NotAllowed, TooDeep}
+use Rattle.structure.specs.Refusals.{because}
 use Rattle.structure.specs.Tokens.{across, spells, peek}
 use Rattle.structure.specs.Values.{number, isInteger, integer, string, character}
 
@@ -35,7 +36,7 @@ next (refused r) f = refused r
 
 -- a token of a kind is wanted here: go on after it, or 4
 unfoldable pub want : {A : Type 0} → (Refusal → A) → List ℕ → ℕ → ℕ → (ℕ → A) → A
-want fail s i k f = choose (is s i k) (λ u. f (i + 1)) (λ u. fail (NotAllowed (start s i)))
+want fail s i k f = choose (is s i k) (λ u. f (i + 1)) (λ u. fail (because NotAllowed (start s i)))
 
 -- 1,024 brackets may be open at once
 abbrev pub limit : ℕ
@@ -43,7 +44,7 @@ limit = 1024
 
 -- a `(` that makes one more open than that is 9
 unfoldable pub opened : ℕ → List ℕ → ℕ → (Unit {0} → Parsed) → Parsed
-opened o s i f = choose (leb limit o) (λ u. refused (TooDeep (start s i))) f
+opened o s i f = choose (leb limit o) (λ u. refused (because TooDeep (start s i))) f
 
 -- from where one tree starts to where another ends
 abbrev pub over : Tree Span → Tree Span → Span
@@ -132,7 +133,7 @@ leafAt o s at =
     (λ u. choose (is s at 18) (λ u. got (leaf (across s at at) (text Ident (word s at))) (at + 1))
     (λ u. choose (is s at 23) (λ u. got (leaf (across s at at) (text Str (string s at))) (at + 1))
     (λ u. choose (is s at 24) (λ u. got (leaf (across s at at) (text Insens (string s at))) (at + 1))
-    (λ u. choose (is s at 25) (λ u. ranged s at) (λ u. refused (NotAllowed (start s at))))))))
+    (λ u. choose (is s at 25) (λ u. ranged s at) (λ u. refused (because NotAllowed (start s at))))))))
 
 abbrev pub postsBy : Postfix → (Unary → ℕ → Parsed) → (Unit {0} → Parsed) → Parsed
 postsBy (post v n) f g = f v n
@@ -196,7 +197,7 @@ weight s c = 4 * (length (toks s) - place c) + rank c
 
 module _ (level : Level) (s : List ℕ) where
   unfoldable pub run : ℕ → Call → Parsed
-  run zero c = refused (NotAllowed 0)
+  run zero c = refused (because NotAllowed 0)
   run (suc k) c = body level s (run k) c
 
   -- what a call reads
@@ -254,7 +255,7 @@ ruleFrom level s at =
     (λ i. want noRule s (pastMark s i) 2
     (λ j. ruleOf (Run level s (expr 0 (pastBar s j)))
     (λ t n. want noRule s n 3 (λ m. ruling (record { name = word s at; mark = markAt s i; tree = t; place = across s at at }) m)))))
-    (λ u. noRule (NotAllowed (start s at)))
+    (λ u. noRule (because NotAllowed (start s at)))
 
 -- rules and `///` docs up to the last token; the first argument bounds how many
 unfoldable pub rulesUpTo : Level → List ℕ → ℕ → ℕ → Ruled
@@ -274,4 +275,4 @@ docs s = docsIn s (length (toks s)) 0
 -- any `//!` docs, then one or more of rule or `///` doc
 unfoldable pub grammar : Level → List ℕ → Ruled
 grammar level s =
-    choose (leb (length (toks s)) (docs s)) (λ u. unruled (NotAllowed (length s))) (λ u. rulesUpTo level s (length (toks s)) (docs s))
+    choose (leb (length (toks s)) (docs s)) (λ u. unruled (because NotAllowed (length s))) (λ u. rulesUpTo level s (length (toks s)) (docs s))

@@ -10,20 +10,33 @@ pub enum Level {
     Plain,
 }
 
-// Why structure refuses, and where: a token that isn't allowed, or one bracket too many.
-pub enum Refusal {
-    NotAllowed(usize),
-    TooDeep(usize),
+// Why a text is refused. The reader gives each reason its number.
+pub enum Why {
+    TooLong,
+    NotUtf8,
+    NoToken,
+    NotAllowed,
+    TooDeep,
+    Over,
+    Zero,
+    PeekRange,
+    NotScalar,
+    NotPlain,
+    RulesRoom,
+    NodesRoom,
+    StoreRoom,
 }
 
-// What is wrong with a token's value, and where.
+// A refusal: the reason and the place.
+pub struct Refusal {
+    pub why: Why,
+    pub place: usize,
+}
+
+// What is wrong with the values of tokens.
 pub enum Fault {
     Sound,
-    Over(usize),
-    Zero(usize),
-    PeekRange(usize),
-    NotScalar(usize),
-    NotPlain(usize),
+    At(Refusal),
 }
 
 // What was checked: the index of the next token, its nodes and its bytes in the store.

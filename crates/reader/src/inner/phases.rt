@@ -6,6 +6,7 @@ use structure::Counted;
 use structure::Fault;
 use structure::Level;
 use structure::Refusal;
+use structure::Why;
 use structure::inner::rules::check_grammar;
 use structure::inner::values::faults;
 use table::inner::records::NODE_SIZE;
@@ -18,7 +19,14 @@ ghost use Prim.Native.Nat.{_/_, _≤_, _<_, min};
 ghost use lib.ListN.{length};
 ghost use Rattle.text.specs.Classes.{classes};
 ghost use Rattle.token.specs.Table.{roomOf, Lent};
-ghost use Rattle.reader.specs.Read.{roomForNodes, roomForRules, roomBy, judgedOf, attemptOf, Leaves, AttemptLeaves};
+ghost use Rattle.reader.specs.Read.{refusedBy, roomForNodes, roomForRules, roomBy, judgedOf, attemptOf, Leaves, AttemptLeaves};
+
+// A refusal as what is read.
+pub fn refused(why: Why, place: usize) -> Reading
+    ensures { λ r. ⌜ r ≡ refusedBy why place ⌝ }
+{
+    Reading::Refused(Refusal { why, place })
+}
 
 // How many whole records there may be: the lower of what is lent and a limit.
 fn room_of(numbers: usize, size: usize, limit: usize) -> usize
@@ -34,13 +42,13 @@ fn room_for(rules: usize, nodes: usize, bytes: usize, n: usize, r: usize, b: usi
     ensures { λ r₁. ⌜ r₁ ≡ roomBy rules nodes bytes n r b ⌝ }
 {
     if r < rules {
-        return Reading::RulesRoom;
+        return refused(Why::RulesRoom, 0);
     }
     if n < nodes {
-        return Reading::NodesRoom;
+        return refused(Why::NodesRoom, 0);
     }
     if b < bytes {
-        return Reading::StoreRoom;
+        return refused(Why::StoreRoom, 0);
     }
     Reading::Read(nodes, rules, bytes)
 }
@@ -52,10 +60,7 @@ fn judge(text: &[u8], tokens: &[u32], level: Level, n: usize, r: usize, b: usize
 {
     let counted = check_grammar(text, tokens, level);
     match counted {
-        Counted::Refused(refusal) => match refusal {
-            Refusal::NotAllowed(place) => Reading::NotAllowed(place),
-            Refusal::TooDeep(place) => Reading::TooDeep(place),
-        },
+        Counted::Refused(refusal) => Reading::Refused(refusal),
         Counted::Rules {
             rules,
             nodes,
@@ -64,11 +69,7 @@ fn judge(text: &[u8], tokens: &[u32], level: Level, n: usize, r: usize, b: usize
             let fault = faults(text, tokens, level);
             match fault {
                 Fault::Sound => room_for(rules, nodes, bytes, n, r, b),
-                Fault::Over(place) => Reading::Over(place),
-                Fault::Zero(place) => Reading::Zero(place),
-                Fault::PeekRange(place) => Reading::PeekRange(place),
-                Fault::NotScalar(place) => Reading::NotScalar(place),
-                Fault::NotPlain(place) => Reading::NotPlain(place),
+                Fault::At(refusal) => Reading::Refused(refusal),
             }
         }
     }
@@ -114,7 +115,7 @@ pub fn list_and_read(
     let filled = fill(t, text, tokens);
     match filled {
         Filled::Full => Attempt::Full,
-        Filled::NoToken(place) => Attempt::Done(Reading::NoToken(place)),
+        Filled::NoToken(place) => Attempt::Done(refused(Why::NoToken, place)),
         Filled::All(n) => {
             let m = n * TOKEN_SIZE;
             Attempt::Done(judge_and_build(text, &tokens[..m], level, nodes, rules, store))

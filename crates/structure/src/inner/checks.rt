@@ -1,13 +1,15 @@
 // Expressions, terms and nodes, checked and counted. A term's tag, predicates and postfixes are gone
 // through by loops: only brackets nest.
+use super::tokens::not_allowed;
+use super::tokens::refused_at;
 use crate::Bracket;
 use crate::Checked;
 use crate::Level;
 use crate::Opening;
 use crate::PostfixEnd;
 use crate::PostfixEnds;
-use crate::Refusal;
 use crate::Wanted;
+use crate::Why;
 use token::inner::table::end_at;
 use token::inner::table::kind_at;
 use token::inner::table::start_at;
@@ -164,7 +166,7 @@ fn check_term(text: &[u8], tokens: &[u32], level: Level, at: usize, deep: usize)
         bytes: named,
     } = opening
     else {
-        return Checked::Refused(Refusal::NotAllowed(start_at(text, tokens, at + 1)));
+        return Checked::Refused(not_allowed(text, tokens, at + 1));
     };
     let first = predicates_end(text, tokens, from);
     match check_node(text, tokens, level, first, deep) {
@@ -195,20 +197,20 @@ fn check_node(text: &[u8], tokens: &[u32], level: Level, at: usize, deep: usize)
     let bracket = bracket_of(text, tokens, at);
     match bracket {
         Bracket::Nothing => super::leaves::check_leaf(text, tokens, at, deep),
-        Bracket::Unopened => Checked::Refused(Refusal::NotAllowed(start_at(text, tokens, at + 1))),
+        Bracket::Unopened => Checked::Refused(not_allowed(text, tokens, at + 1)),
         Bracket::Opens {
             at: open,
             nodes: around,
         } => {
             if 1024 <= deep {
-                return Checked::Refused(Refusal::TooDeep(start_at(text, tokens, open)));
+                return Checked::Refused(refused_at(Why::TooDeep, text, tokens, open));
             }
             match check_expr(text, tokens, level, open + 1, deep + 1) {
                 Checked::Refused(refusal) => Checked::Refused(refusal),
                 Checked::Good { next, nodes, bytes } => {
                     let close = super::tokens::expect(text, tokens, next, 7);
                     let Wanted::Here(n) = close else {
-                        return Checked::Refused(Refusal::NotAllowed(start_at(text, tokens, next)));
+                        return Checked::Refused(not_allowed(text, tokens, next));
                     };
                     Checked::Good {
                         next: n,

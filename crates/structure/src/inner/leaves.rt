@@ -1,10 +1,11 @@
 // Nodes that hold no expression, and postfixes.
+use super::tokens::not_allowed;
+use super::tokens::refused_at;
 use crate::Checked;
 use crate::PostfixEnd;
-use crate::Refusal;
 use crate::Wanted;
+use crate::Why;
 use token::inner::table::kind_at;
-use token::inner::table::start_at;
 ghost use mathlib.Core.Path.{_≡_};
 ghost use Prim.Native.Nat.{_+_, _<_};
 ghost use lib.ListN.{length};
@@ -24,18 +25,18 @@ fn number_end(text: &[u8], tokens: &[u32], at: usize) -> PostfixEnd
     }
     let comma = super::tokens::expect(text, tokens, i, 15);
     let Wanted::Here(j) = comma else {
-        return PostfixEnd::Bad(Refusal::NotAllowed(start_at(text, tokens, i)));
+        return PostfixEnd::Bad(not_allowed(text, tokens, i));
     };
     if kind_at(text, tokens, j) == 3 {
         return PostfixEnd::Past(j + 1);
     }
     let most = super::tokens::expect(text, tokens, j, 20);
     let Wanted::Here(k) = most else {
-        return PostfixEnd::Bad(Refusal::NotAllowed(start_at(text, tokens, j)));
+        return PostfixEnd::Bad(not_allowed(text, tokens, j));
     };
     let close = super::tokens::expect(text, tokens, k, 3);
     let Wanted::Here(n) = close else {
-        return PostfixEnd::Bad(Refusal::NotAllowed(start_at(text, tokens, k)));
+        return PostfixEnd::Bad(not_allowed(text, tokens, k));
     };
     PostfixEnd::Past(n)
 }
@@ -47,15 +48,15 @@ fn comma_end(text: &[u8], tokens: &[u32], at: usize) -> PostfixEnd
 {
     let comma = super::tokens::expect(text, tokens, at, 15);
     let Wanted::Here(j) = comma else {
-        return PostfixEnd::Bad(Refusal::NotAllowed(start_at(text, tokens, at)));
+        return PostfixEnd::Bad(not_allowed(text, tokens, at));
     };
     let most = super::tokens::expect(text, tokens, j, 20);
     let Wanted::Here(k) = most else {
-        return PostfixEnd::Bad(Refusal::NotAllowed(start_at(text, tokens, j)));
+        return PostfixEnd::Bad(not_allowed(text, tokens, j));
     };
     let close = super::tokens::expect(text, tokens, k, 3);
     let Wanted::Here(n) = close else {
-        return PostfixEnd::Bad(Refusal::NotAllowed(start_at(text, tokens, k)));
+        return PostfixEnd::Bad(not_allowed(text, tokens, k));
     };
     PostfixEnd::Past(n)
 }
@@ -103,12 +104,12 @@ fn check_slice(text: &[u8], tokens: &[u32], at: usize, i: usize) -> Checked
     let from = past_integer(text, tokens, i);
     let dots = super::tokens::expect(text, tokens, from, 22);
     let Wanted::Here(j) = dots else {
-        return Checked::Refused(Refusal::NotAllowed(start_at(text, tokens, from)));
+        return Checked::Refused(not_allowed(text, tokens, from));
     };
     let to = past_integer(text, tokens, j);
     let close = super::tokens::expect(text, tokens, to, 5);
     let Wanted::Here(n) = close else {
-        return Checked::Refused(Refusal::NotAllowed(start_at(text, tokens, to)));
+        return Checked::Refused(not_allowed(text, tokens, to));
     };
     Checked::Good {
         next: n,
@@ -125,18 +126,18 @@ fn check_push_literal(text: &[u8], tokens: &[u32], at: usize, deep: usize) -> Ch
 {
     let bracket = super::tokens::expect(text, tokens, at + 1, 6);
     let Wanted::Here(i) = bracket else {
-        return Checked::Refused(Refusal::NotAllowed(start_at(text, tokens, at + 1)));
+        return Checked::Refused(not_allowed(text, tokens, at + 1));
     };
     if 1024 <= deep {
-        return Checked::Refused(Refusal::TooDeep(start_at(text, tokens, at + 1)));
+        return Checked::Refused(refused_at(Why::TooDeep, text, tokens, at + 1));
     }
     let string = super::tokens::expect(text, tokens, i, 23);
     let Wanted::Here(j) = string else {
-        return Checked::Refused(Refusal::NotAllowed(start_at(text, tokens, i)));
+        return Checked::Refused(not_allowed(text, tokens, i));
     };
     let close = super::tokens::expect(text, tokens, j, 7);
     let Wanted::Here(n) = close else {
-        return Checked::Refused(Refusal::NotAllowed(start_at(text, tokens, j)));
+        return Checked::Refused(not_allowed(text, tokens, j));
     };
     let bytes = super::tokens::string_bytes(text, tokens, i);
     Checked::Good {
@@ -154,11 +155,11 @@ fn check_range(text: &[u8], tokens: &[u32], at: usize) -> Checked
 {
     let dots = super::tokens::expect(text, tokens, at + 1, 22);
     let Wanted::Here(i) = dots else {
-        return Checked::Refused(Refusal::NotAllowed(start_at(text, tokens, at + 1)));
+        return Checked::Refused(not_allowed(text, tokens, at + 1));
     };
     let last = super::tokens::expect(text, tokens, i, 25);
     let Wanted::Here(n) = last else {
-        return Checked::Refused(Refusal::NotAllowed(start_at(text, tokens, i)));
+        return Checked::Refused(not_allowed(text, tokens, i));
     };
     Checked::Good {
         next: n,
@@ -214,6 +215,6 @@ pub fn check_leaf(text: &[u8], tokens: &[u32], at: usize, deep: usize) -> Checke
             }
         }
         25 => check_range(text, tokens, at),
-        _ => Checked::Refused(Refusal::NotAllowed(start_at(text, tokens, at))),
+        _ => Checked::Refused(not_allowed(text, tokens, at)),
     }
 }

@@ -1,9 +1,11 @@
 // Rules and docs, checked and counted.
+use super::tokens::not_allowed;
 use crate::Checked;
 use crate::Counted;
 use crate::Level;
 use crate::Refusal;
 use crate::Wanted;
+use crate::Why;
 use token::inner::table::end_at;
 use token::inner::table::kind_at;
 use token::inner::table::start_at;
@@ -75,16 +77,16 @@ fn check_rule(text: &[u8], tokens: &[u32], level: Level, at: usize) -> Checked
     ensures { λ r. ⌜ r ≡ ruleSummary (ruleFrom level (now (text .entry)) at) ⌝ }
 {
     if !is_name(text, tokens, at) {
-        return Checked::Refused(Refusal::NotAllowed(start_at(text, tokens, at)));
+        return Checked::Refused(not_allowed(text, tokens, at));
     }
     let tie = super::tokens::expect(text, tokens, at + 1, 1);
     let Wanted::Here(i) = tie else {
-        return Checked::Refused(Refusal::NotAllowed(start_at(text, tokens, at + 1)));
+        return Checked::Refused(not_allowed(text, tokens, at + 1));
     };
     let open = past_mark(text, tokens, i);
     let brace = super::tokens::expect(text, tokens, open, 2);
     let Wanted::Here(j) = brace else {
-        return Checked::Refused(Refusal::NotAllowed(start_at(text, tokens, open)));
+        return Checked::Refused(not_allowed(text, tokens, open));
     };
     let body = past_bar(text, tokens, j);
     let inside = super::checks::check_expr(text, tokens, level, body, 0);
@@ -93,7 +95,7 @@ fn check_rule(text: &[u8], tokens: &[u32], level: Level, at: usize) -> Checked
         Checked::Good { next, nodes, bytes } => {
             let close = super::tokens::expect(text, tokens, next, 3);
             let Wanted::Here(n) = close else {
-                return Checked::Refused(Refusal::NotAllowed(start_at(text, tokens, next)));
+                return Checked::Refused(not_allowed(text, tokens, next));
             };
             let named = super::tokens::word_bytes(text, tokens, at);
             Checked::Good {
@@ -125,7 +127,10 @@ pub fn check_grammar(text: &[u8], tokens: &[u32], level: Level) -> Counted
     let n = token_count(text, tokens);
     let mut i = docs_end(text, tokens);
     if n <= i {
-        return Counted::Refused(Refusal::NotAllowed(text.len()));
+        return Counted::Refused(Refusal {
+            why: Why::NotAllowed,
+            place: text.len(),
+        });
     }
     let mut rules = 0;
     let mut count = 0;

@@ -1,5 +1,7 @@
 // What is asked of a token, by its index.
+use crate::Refusal;
 use crate::Wanted;
+use crate::Why;
 use token::inner::table::end_at;
 use token::inner::table::kind_at;
 use token::inner::table::start_at;
@@ -7,10 +9,31 @@ ghost use mathlib.Core.Path.{_≡_};
 ghost use Prim.Native.Nat.{_≤_, _<_};
 ghost use lib.ListN.{length};
 ghost use Rattle.literal.specs.Escapes.{unescaped};
-ghost use Rattle.token.specs.Table.{between, word, Lent};
+ghost use Rattle.token.specs.Table.{start, between, word, Lent};
+ghost use Rattle.structure.specs.declared.Why.the-variants.{NotAllowed};
+ghost use Rattle.structure.specs.Refusals.{because};
 ghost use Rattle.structure.specs.Tokens.{spells};
 ghost use Rattle.structure.specs.Values.{string};
 ghost use Rattle.structure.specs.Answers.{wanted};
+
+// A refusal at a token's start; past the last token, at the text's end.
+pub fn refused_at(why: Why, text: &[u8], tokens: &[u32], at: usize) -> Refusal
+    requires { ⌜ Lent (now text) (now tokens) ⌝ }
+    ensures { λ r. ⌜ r ≡ because why (start (now (text .entry)) at) ⌝ }
+{
+    Refusal {
+        why,
+        place: start_at(text, tokens, at),
+    }
+}
+
+// The token isn't allowed here.
+pub fn not_allowed(text: &[u8], tokens: &[u32], at: usize) -> Refusal
+    requires { ⌜ Lent (now text) (now tokens) ⌝ }
+    ensures { λ r. ⌜ r ≡ because NotAllowed (start (now (text .entry)) at) ⌝ }
+{
+    refused_at(Why::NotAllowed, text, tokens, at)
+}
 
 // A token of a kind is wanted here.
 pub fn expect(text: &[u8], tokens: &[u32], at: usize, k: u8) -> Wanted

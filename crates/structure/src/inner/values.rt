@@ -1,6 +1,9 @@
 // Values: the first fault among a text's tokens, from the left.
+use super::tokens::refused_at;
 use crate::Fault;
 use crate::Level;
+use crate::Refusal;
+use crate::Why;
 use text::Check;
 use text::Decimal;
 use token::inner::table::end_at;
@@ -24,7 +27,7 @@ fn word_fault(text: &[u8], tokens: &[u32], level: Level, at: usize) -> Fault
         Level::Tagged => Fault::Sound,
         Level::Plain => {
             if super::tokens::spelled(b"PUSH_LITERAL", text, tokens, at) {
-                return Fault::NotPlain(start_at(text, tokens, at));
+                return Fault::At(refused_at(Why::NotPlain, text, tokens, at));
             }
             Fault::Sound
         }
@@ -66,7 +69,7 @@ fn peek_fault(text: &[u8], tokens: &[u32], at: usize) -> Fault
     let value = integer_of(text, tokens, at);
     match value {
         Decimal::Is(_) => Fault::Sound,
-        Decimal::Over => Fault::PeekRange(start_at(text, tokens, at)),
+        Decimal::Over => Fault::At(refused_at(Why::PeekRange, text, tokens, at)),
         Decimal::NotDigits => Fault::Sound,
     }
 }
@@ -80,13 +83,13 @@ fn repeat_fault(text: &[u8], tokens: &[u32], at: usize) -> Fault
     let value = number_of(text, tokens, at);
     match value {
         Decimal::NotDigits => Fault::Sound,
-        Decimal::Over => Fault::Over(start_at(text, tokens, at)),
+        Decimal::Over => Fault::At(refused_at(Why::Over, text, tokens, at)),
         Decimal::Is(n) => {
             if n != 0 {
                 return Fault::Sound;
             }
             if kind_at(text, tokens, at + 1) == 3 {
-                return Fault::Zero(start_at(text, tokens, at));
+                return Fault::At(refused_at(Why::Zero, text, tokens, at));
             }
             Fault::Sound
         }
@@ -129,7 +132,10 @@ fn literal_fault(text: &[u8], tokens: &[u32], at: usize, skip: usize) -> Fault
     let bad = bad_escape_in(text, a, z - 1);
     match bad {
         Check::Good => Fault::Sound,
-        Check::Bad(k) => Fault::NotScalar(a + k),
+        Check::Bad(k) => Fault::At(Refusal {
+            why: Why::NotScalar,
+            place: a + k,
+        }),
     }
 }
 
@@ -166,20 +172,8 @@ pub fn faults(text: &[u8], tokens: &[u32], level: Level) -> Fault
                 before = kind_at(text, tokens, i);
                 i += 1;
             }
-            Fault::Over(place) => {
-                return Fault::Over(place);
-            }
-            Fault::Zero(place) => {
-                return Fault::Zero(place);
-            }
-            Fault::PeekRange(place) => {
-                return Fault::PeekRange(place);
-            }
-            Fault::NotScalar(place) => {
-                return Fault::NotScalar(place);
-            }
-            Fault::NotPlain(place) => {
-                return Fault::NotPlain(place);
+            Fault::At(refusal) => {
+                return Fault::At(refusal);
             }
         }
     }

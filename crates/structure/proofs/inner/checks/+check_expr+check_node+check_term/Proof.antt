@@ -30,7 +30,8 @@ use Rattle.structure.proofs.inner.checks.tag_of.Reads as tag-of-reads
 use Rattle.structure.proofs.inner.leaves.check_leaf.Reads as check-leaf-reads
 use Rattle.structure.proofs.inner.tokens.expect.Reads as expect-reads
 use Rattle.token.proofs.inner.table.kind_at.Reads as kind-at-reads
-use Rattle.token.proofs.inner.table.start_at.Reads as start-at-reads
+use Rattle.structure.proofs.inner.tokens.not_allowed.Reads as not-allowed-reads
+use Rattle.structure.proofs.inner.tokens.refused_at.Reads as refused-at-reads
 use Rattle.structure.proofs.inner.checks.+check_expr+check_node+check_term.{statement}
 use Rattle.structure.proofs.inner.checks.+check_expr+check_node+check_term.Tie.{close}
 
@@ -79,11 +80,11 @@ of-check-expr N t = N (check-term-below t, check-term.Post, kind-at-reads.Asked,
 
 -- a need of `check-node`, or a place of its code, at the measure t
 abbrev of-check-node : ((k : check-node-lts.Claims) (p : In 2 check-node-kinds.ps) (q : Out 2 check-node-kinds.ps check-node-kinds.r) → Type 0) → ℕ → Type 0
-of-check-node N t = N (bracket-of-reads.Asked, bracket-of-reads.Learnt, check-leaf-reads.Asked, check-leaf-reads.Learnt, start-at-reads.Asked, start-at-reads.Learnt, check-expr-below t, check-expr.Post, expect-reads.Asked, expect-reads.Learnt) (check-node-at t) check-node.Post
+of-check-node N t = N (bracket-of-reads.Asked, bracket-of-reads.Learnt, check-leaf-reads.Asked, check-leaf-reads.Learnt, not-allowed-reads.Asked, not-allowed-reads.Learnt, refused-at-reads.Asked, refused-at-reads.Learnt, check-expr-below t, check-expr.Post, expect-reads.Asked, expect-reads.Learnt) (check-node-at t) check-node.Post
 
 -- a need of `check-term`, or a place of its code, at the measure t
 abbrev of-check-term : ((k : check-term-lts.Claims) (p : In 2 check-term-kinds.ps) (q : Out 2 check-term-kinds.ps check-term-kinds.r) → Type 0) → ℕ → Type 0
-of-check-term N t = N (tag-of-reads.Asked, tag-of-reads.Learnt, start-at-reads.Asked, start-at-reads.Learnt, predicates-end-reads.Asked, predicates-end-reads.Learnt, check-node-below t, check-node.Post, check-posts-reads.Asked, check-posts-reads.Learnt) (check-term-at t) check-term.Post
+of-check-term N t = N (tag-of-reads.Asked, tag-of-reads.Learnt, not-allowed-reads.Asked, not-allowed-reads.Learnt, predicates-end-reads.Asked, predicates-end-reads.Learnt, check-node-below t, check-node.Post, check-posts-reads.Asked, check-posts-reads.Learnt) (check-term-at t) check-term.Post
 
 check-expr-check-term-requires : (t : ℕ) → of-check-expr check-expr-lts.Need-check-term-requires t
 check-expr-check-term-requires t c κs = (omega (arith, c .before .before .pre .0), c .before .before .pre .1)
@@ -174,24 +175,24 @@ check-node-check-leaf-requires t c κs = c .before .before .before .before .befo
 check-node-enum-told-2 : (t : ℕ) → of-check-node check-node-lts.Need-enum-told-2 t
 check-node-enum-told-2 t c = search needs
 
-check-node-add-start-at : (t : ℕ) → of-check-node check-node-lts.Need-add-start-at t
-check-node-add-start-at t c = let i = was-unopened (c .before .before .before .before .before .args .level) _ _ _ (c .before .before .bracket-of .ensures) (c .enum-told2 .given .1) .0 in let z = sizes _ _ (c .before .before .before .before .before .pre .1 .0) in omega arith
+check-node-add-not-allowed : (t : ℕ) → of-check-node check-node-lts.Need-add-not-allowed t
+check-node-add-not-allowed t c = let i = was-unopened (c .before .before .before .before .before .args .level) _ _ _ (c .before .before .bracket-of .ensures) (c .enum-told2 .given .1) .0 in let z = sizes _ _ (c .before .before .before .before .before .pre .1 .0) in omega arith
 
-check-node-start-at-requires : (t : ℕ) → of-check-node check-node-lts.Need-start-at-requires t
-check-node-start-at-requires t c κs = c .before .before .before .before .before .pre .1 .0
+check-node-not-allowed-requires : (t : ℕ) → of-check-node check-node-lts.Need-not-allowed-requires t
+check-node-not-allowed-requires t c κs = c .before .before .before .before .before .pre .1 .0
 
 check-node-enum-known-bracket : (t : ℕ) → of-check-node check-node-lts.Need-enum-known-bracket t
 check-node-enum-known-bracket t c = search needs
 
-check-node-start-at-requires-2 : (t : ℕ) → of-check-node check-node-lts.Need-start-at-requires-2 t
-check-node-start-at-requires-2 t c κs = c .before .before .before .before .before .before .before .pre .1 .0
+check-node-refused-at-requires : (t : ℕ) → of-check-node check-node-lts.Need-refused-at-requires t
+check-node-refused-at-requires t c κs = c .before .before .before .before .before .before .before .pre .1 .0
 
 check-node-returns : (t : ℕ) → of-check-node check-node-lts.Need-returns t
 check-node-returns t c =
     let at-bracket = c .before .before .before in
     let at-bracket-of = at-bracket .before .before in
     let start = at-bracket-of .before .before .before in
-    node-deep _ _ (start .pre .1 .0 .short) _ _ _ _ (was-open _ _ _ _ _ _ (at-bracket-of .bracket-of .ensures) (at-bracket .bracket .given .1)) (c .before .if1 .taken) _ (c .start-at2 .ensures)
+    node-deep _ _ (start .pre .1 .0 .short) _ _ _ _ (was-open _ _ _ _ _ _ (at-bracket-of .bracket-of .ensures) (at-bracket .bracket .given .1)) (c .before .if1 .taken) _ (c .refused-at .ensures)
 
 check-node-add-check-expr : (t : ℕ) → of-check-node check-node-lts.Need-add-check-expr t
 check-node-add-check-expr t c = let i = was-open (c .before .before .before .before .before .before .before .args .level) _ _ _ _ _ (c .before .before .before .before .bracket-of .ensures) (c .before .before .bracket .given .1) .within in let z = sizes _ _ (c .before .before .before .before .before .before .before .pre .1 .0) in omega arith
@@ -217,8 +218,8 @@ check-node-enum-known-close t c = search needs
 check-node-enum-told-3 : (t : ℕ) → of-check-node check-node-lts.Need-enum-told-3 t
 check-node-enum-told-3 t c = search needs
 
-check-node-start-at-requires-3 : (t : ℕ) → of-check-node check-node-lts.Need-start-at-requires-3 t
-check-node-start-at-requires-3 t c κs = c .before .before .before .before .before .before .before .before .before .before .before .before .before .before .pre .1 .0
+check-node-not-allowed-requires-2 : (t : ℕ) → of-check-node check-node-lts.Need-not-allowed-requires-2 t
+check-node-not-allowed-requires-2 t c κs = c .before .before .before .before .before .before .before .before .before .before .before .before .before .before .pre .1 .0
 
 check-node-returns-2 : (t : ℕ) → of-check-node check-node-lts.Need-returns-2 t
 check-node-returns-2 t c =
@@ -229,10 +230,10 @@ check-node-returns-2 t c =
     let at-bracket = at-if1 .before .before in
     let at-bracket-of = at-bracket .before .before in
     let start = at-bracket-of .before .before .before in
-    node-unclosed _ _ (start .pre .1 .0 .short) _ _ _ _ (was-open _ _ _ _ _ _ (at-bracket-of .bracket-of .ensures) (at-bracket .bracket .given .1)) (at-if1 .if1 .left) _ (at-check-expr .check-expr .ensures) _ _ _ (at-next .next .given .1) _ (at-expect .expect .ensures) (c .before .enum-told3 .given .1) _ (c .start-at3 .ensures)
+    node-unclosed _ _ (start .pre .1 .0 .short) _ _ _ _ (was-open _ _ _ _ _ _ (at-bracket-of .bracket-of .ensures) (at-bracket .bracket .given .1)) (at-if1 .if1 .left) _ (at-check-expr .check-expr .ensures) _ _ _ (at-next .next .given .1) _ (at-expect .expect .ensures) (c .before .enum-told3 .given .1) _ (c .not-allowed2 .ensures)
 
-check-node-add-t28 : (t : ℕ) → of-check-node check-node-lts.Need-add-t28 t
-check-node-add-t28 t c = let i = node-sum _ _ (c .before .before .before .before .before .before .before .before .before .before .before .before .before .before .before .pre .1 .0 .short) _ _ _ _ (was-open _ _ _ _ _ _ (c .before .before .before .before .before .before .before .before .before .before .before .before .bracket-of .ensures) (c .before .before .before .before .before .before .before .before .before .before .bracket .given .1)) (c .before .before .before .before .before .before .before .before .if1 .left) _ (c .before .before .before .before .before .before .before .check-expr .ensures) _ _ _ (c .before .before .before .before .before .next .given .1) _ (c .before .before .before .expect .ensures) (sizes _ _ (c .before .before .before .before .before .before .before .before .before .before .before .before .before .before .before .pre .1 .0) .1) in omega arith
+check-node-add-t26 : (t : ℕ) → of-check-node check-node-lts.Need-add-t26 t
+check-node-add-t26 t c = let i = node-sum _ _ (c .before .before .before .before .before .before .before .before .before .before .before .before .before .before .before .pre .1 .0 .short) _ _ _ _ (was-open _ _ _ _ _ _ (c .before .before .before .before .before .before .before .before .before .before .before .before .bracket-of .ensures) (c .before .before .before .before .before .before .before .before .before .before .bracket .given .1)) (c .before .before .before .before .before .before .before .before .if1 .left) _ (c .before .before .before .before .before .before .before .check-expr .ensures) _ _ _ (c .before .before .before .before .before .next .given .1) _ (c .before .before .before .expect .ensures) (sizes _ _ (c .before .before .before .before .before .before .before .before .before .before .before .before .before .before .before .pre .1 .0) .1) in omega arith
 
 check-node-returns-3 : (t : ℕ) → of-check-node check-node-lts.Need-returns-3 t
 check-node-returns-3 t c =
@@ -244,7 +245,7 @@ check-node-returns-4 : (t : ℕ) → of-check-node check-node-lts.Need-returns-4
 check-node-returns-4 t c =
     let at-bracket-of = c .before .before .before in
     let start = at-bracket-of .before .before .before in
-    node-unopened _ _ (start .pre .1 .0 .short) _ _ _ (at-bracket-of .bracket-of .ensures) (c .before .enum-told2 .given .1) _ (c .start-at .ensures)
+    node-unopened _ _ (start .pre .1 .0 .short) _ _ _ (at-bracket-of .bracket-of .ensures) (c .before .enum-told2 .given .1) _ (c .not-allowed .ensures)
 
 check-node-returns-5 : (t : ℕ) → of-check-node check-node-lts.Need-returns-5 t
 check-node-returns-5 t c =
@@ -275,20 +276,20 @@ check-term-enum-known-opening t c = search needs
 check-term-enum-told : (t : ℕ) → of-check-term check-term-lts.Need-enum-told t
 check-term-enum-told t c = search needs
 
-check-term-add-start-at : (t : ℕ) → of-check-term check-term-lts.Need-add-start-at t
-check-term-add-start-at t c = let i = was-untied _ _ _ _ (c .before .before .tag-of .ensures) (c .enum-told .given .1) .0 in let z = sizes _ _ (c .before .before .before .before .before .pre .1 .0) in omega arith
+check-term-add-not-allowed : (t : ℕ) → of-check-term check-term-lts.Need-add-not-allowed t
+check-term-add-not-allowed t c = let i = was-untied _ _ _ _ (c .before .before .tag-of .ensures) (c .enum-told .given .1) .0 in let z = sizes _ _ (c .before .before .before .before .before .pre .1 .0) in omega arith
 
-check-term-start-at-requires : (t : ℕ) → of-check-term check-term-lts.Need-start-at-requires t
-check-term-start-at-requires t c κs = c .before .before .before .before .before .pre .1 .0
+check-term-not-allowed-requires : (t : ℕ) → of-check-term check-term-lts.Need-not-allowed-requires t
+check-term-not-allowed-requires t c κs = c .before .before .before .before .before .pre .1 .0
 
 check-term-returns : (t : ℕ) → of-check-term check-term-lts.Need-returns t
 check-term-returns t c =
     let at-tag-of = c .before .before .before in
     let start = at-tag-of .before .before .before in
-    term-untied _ _ (start .pre .1 .0 .short) _ _ _ (at-tag-of .tag-of .ensures) (c .before .enum-told .given .1) _ (c .start-at .ensures)
+    term-untied _ _ (start .pre .1 .0 .short) _ _ _ (at-tag-of .tag-of .ensures) (c .before .enum-told .given .1) _ (c .not-allowed .ensures)
 
-check-term-signs-end-requires : (t : ℕ) → of-check-term check-term-lts.Need-predicates-end-requires t
-check-term-signs-end-requires t c κs = c .before .before .before .before .before .before .pre .1 .0
+check-term-predicates-end-requires : (t : ℕ) → of-check-term check-term-lts.Need-predicates-end-requires t
+check-term-predicates-end-requires t c κs = c .before .before .before .before .before .before .pre .1 .0
 
 check-term-check-node-requires : (t : ℕ) → of-check-term check-term-lts.Need-check-node-requires t
 check-term-check-node-requires t c κs = let f = falls-term (c .before .before .before .before .before .before .before .args .level) _ _ _ _ _ _ (was-from (c .before .before .before .before .before .before .before .args .level) _ _ _ _ _ _ (c .before .before .before .before .tag-of .ensures) (c .before .before .opening .given .1)) (c .predicates-end .ensures) in (omega (arith, c .before .before .before .before .before .before .before .pre .0), c .before .before .before .before .before .before .before .pre .1)
@@ -308,20 +309,20 @@ check-term-enum-known-tails t c = search needs
 check-term-enum-known-tails-2 : (t : ℕ) → of-check-term check-term-lts.Need-enum-known-tails-2 t
 check-term-enum-known-tails-2 t c = search needs
 
-check-term-add-t25 : (t : ℕ) → of-check-term check-term-lts.Need-add-t25 t
-check-term-add-t25 t c = let z = term-sums _ _ (c .before .before .before .before .before .before .before .before .before .before .before .before .before .before .before .pre .1 .0 .short) _ _ _ _ _ (was-from _ _ _ _ _ _ _ (c .before .before .before .before .before .before .before .before .before .before .before .before .tag-of .ensures) (c .before .before .before .before .before .before .before .before .before .before .opening .given .1)) _ (c .before .before .before .before .before .before .before .before .predicates-end .ensures) _ _ _ _ (c .before .before .before .before .before .before .before .check-node .ensures) (c .before .before .before .before .before .next .given .1) _ (c .before .before .before .check-posts .ensures) _ _ (c .before .tails2 .given .1) (sizes _ _ (c .before .before .before .before .before .before .before .before .before .before .before .before .before .before .before .pre .1 .0) .1) in omega arith
+check-term-add-t24 : (t : ℕ) → of-check-term check-term-lts.Need-add-t24 t
+check-term-add-t24 t c = let z = term-sums _ _ (c .before .before .before .before .before .before .before .before .before .before .before .before .before .before .before .pre .1 .0 .short) _ _ _ _ _ (was-from _ _ _ _ _ _ _ (c .before .before .before .before .before .before .before .before .before .before .before .before .tag-of .ensures) (c .before .before .before .before .before .before .before .before .before .before .opening .given .1)) _ (c .before .before .before .before .before .before .before .before .predicates-end .ensures) _ _ _ _ (c .before .before .before .before .before .before .before .check-node .ensures) (c .before .before .before .before .before .next .given .1) _ (c .before .before .before .check-posts .ensures) _ _ (c .before .tails2 .given .1) (sizes _ _ (c .before .before .before .before .before .before .before .before .before .before .before .before .before .before .before .pre .1 .0) .1) in omega arith
 
-check-term-sub-t26 : (t : ℕ) → of-check-term check-term-lts.Need-sub-t26 t
-check-term-sub-t26 t c = c .before .before .before .before .before .before .before .before .predicates-end .ensures .from
+check-term-sub-t25 : (t : ℕ) → of-check-term check-term-lts.Need-sub-t25 t
+check-term-sub-t25 t c = c .before .before .before .before .before .before .before .before .predicates-end .ensures .from
+
+check-term-add-t26 : (t : ℕ) → of-check-term check-term-lts.Need-add-t26 t
+check-term-add-t26 t c = let z = term-sums _ _ (c .before .before .before .before .before .before .before .before .before .before .before .before .before .before .before .pre .1 .0 .short) _ _ _ _ _ (was-from _ _ _ _ _ _ _ (c .before .before .before .before .before .before .before .before .before .before .before .before .tag-of .ensures) (c .before .before .before .before .before .before .before .before .before .before .opening .given .1)) _ (c .before .before .before .before .before .before .before .before .predicates-end .ensures) _ _ _ _ (c .before .before .before .before .before .before .before .check-node .ensures) (c .before .before .before .before .before .next .given .1) _ (c .before .before .before .check-posts .ensures) _ _ (c .before .tails2 .given .1) (sizes _ _ (c .before .before .before .before .before .before .before .before .before .before .before .before .before .before .before .pre .1 .0) .1) in omega arith
 
 check-term-add-t27 : (t : ℕ) → of-check-term check-term-lts.Need-add-t27 t
 check-term-add-t27 t c = let z = term-sums _ _ (c .before .before .before .before .before .before .before .before .before .before .before .before .before .before .before .pre .1 .0 .short) _ _ _ _ _ (was-from _ _ _ _ _ _ _ (c .before .before .before .before .before .before .before .before .before .before .before .before .tag-of .ensures) (c .before .before .before .before .before .before .before .before .before .before .opening .given .1)) _ (c .before .before .before .before .before .before .before .before .predicates-end .ensures) _ _ _ _ (c .before .before .before .before .before .before .before .check-node .ensures) (c .before .before .before .before .before .next .given .1) _ (c .before .before .before .check-posts .ensures) _ _ (c .before .tails2 .given .1) (sizes _ _ (c .before .before .before .before .before .before .before .before .before .before .before .before .before .before .before .pre .1 .0) .1) in omega arith
 
 check-term-add-t28 : (t : ℕ) → of-check-term check-term-lts.Need-add-t28 t
 check-term-add-t28 t c = let z = term-sums _ _ (c .before .before .before .before .before .before .before .before .before .before .before .before .before .before .before .pre .1 .0 .short) _ _ _ _ _ (was-from _ _ _ _ _ _ _ (c .before .before .before .before .before .before .before .before .before .before .before .before .tag-of .ensures) (c .before .before .before .before .before .before .before .before .before .before .opening .given .1)) _ (c .before .before .before .before .before .before .before .before .predicates-end .ensures) _ _ _ _ (c .before .before .before .before .before .before .before .check-node .ensures) (c .before .before .before .before .before .next .given .1) _ (c .before .before .before .check-posts .ensures) _ _ (c .before .tails2 .given .1) (sizes _ _ (c .before .before .before .before .before .before .before .before .before .before .before .before .before .before .before .pre .1 .0) .1) in omega arith
-
-check-term-add-t29 : (t : ℕ) → of-check-term check-term-lts.Need-add-t29 t
-check-term-add-t29 t c = let z = term-sums _ _ (c .before .before .before .before .before .before .before .before .before .before .before .before .before .before .before .pre .1 .0 .short) _ _ _ _ _ (was-from _ _ _ _ _ _ _ (c .before .before .before .before .before .before .before .before .before .before .before .before .tag-of .ensures) (c .before .before .before .before .before .before .before .before .before .before .opening .given .1)) _ (c .before .before .before .before .before .before .before .before .predicates-end .ensures) _ _ _ _ (c .before .before .before .before .before .before .before .check-node .ensures) (c .before .before .before .before .before .next .given .1) _ (c .before .before .before .check-posts .ensures) _ _ (c .before .tails2 .given .1) (sizes _ _ (c .before .before .before .before .before .before .before .before .before .before .before .before .before .before .before .pre .1 .0) .1) in omega arith
 
 check-term-returns-2 : (t : ℕ) → of-check-term check-term-lts.Need-returns-2 t
 check-term-returns-2 t c =
@@ -388,8 +389,10 @@ pub +check-expr+check-node+check-term-spec : {M : Type 1} → statement M
       bracket-of-reads.Learnt,
       check-leaf-reads.Asked,
       check-leaf-reads.Learnt,
-      start-at-reads.Asked,
-      start-at-reads.Learnt,
+      not-allowed-reads.Asked,
+      not-allowed-reads.Learnt,
+      refused-at-reads.Asked,
+      refused-at-reads.Learnt,
       check-expr-below t,
       check-expr.Post,
       expect-reads.Asked,
@@ -401,10 +404,10 @@ pub +check-expr+check-node+check-term-spec : {M : Type 1} → statement M
     (check-node-enum-told t)
     (check-node-check-leaf-requires t)
     (check-node-enum-told-2 t)
-    (check-node-add-start-at t)
-    (check-node-start-at-requires t)
+    (check-node-add-not-allowed t)
+    (check-node-not-allowed-requires t)
     (check-node-enum-known-bracket t)
-    (check-node-start-at-requires-2 t)
+    (check-node-refused-at-requires t)
     (check-node-returns t)
     (check-node-add-check-expr t)
     (check-node-add-check-expr-2 t)
@@ -414,9 +417,9 @@ pub +check-expr+check-node+check-term-spec : {M : Type 1} → statement M
     (check-node-expect-requires t)
     (check-node-enum-known-close t)
     (check-node-enum-told-3 t)
-    (check-node-start-at-requires-3 t)
+    (check-node-not-allowed-requires-2 t)
     (check-node-returns-2 t)
-    (check-node-add-t28 t)
+    (check-node-add-t26 t)
     (check-node-returns-3 t)
     (check-node-returns-4 t)
     (check-node-returns-5 t)
@@ -424,8 +427,8 @@ pub +check-expr+check-node+check-term-spec : {M : Type 1} → statement M
     λ t. check-term-lts.spec (
       tag-of-reads.Asked,
       tag-of-reads.Learnt,
-      start-at-reads.Asked,
-      start-at-reads.Learnt,
+      not-allowed-reads.Asked,
+      not-allowed-reads.Learnt,
       predicates-end-reads.Asked,
       predicates-end-reads.Learnt,
       check-node-below t,
@@ -438,21 +441,21 @@ pub +check-expr+check-node+check-term-spec : {M : Type 1} → statement M
     (check-term-tag-of-requires t)
     (check-term-enum-known-opening t)
     (check-term-enum-told t)
-    (check-term-add-start-at t)
-    (check-term-start-at-requires t)
+    (check-term-add-not-allowed t)
+    (check-term-not-allowed-requires t)
     (check-term-returns t)
-    (check-term-signs-end-requires t)
+    (check-term-predicates-end-requires t)
     (check-term-check-node-requires t)
     (check-term-enum-known-refusal t)
     (check-term-enum-known-next t)
     (check-term-check-posts-requires t)
     (check-term-enum-known-tails t)
     (check-term-enum-known-tails-2 t)
-    (check-term-add-t25 t)
-    (check-term-sub-t26 t)
+    (check-term-add-t24 t)
+    (check-term-sub-t25 t)
+    (check-term-add-t26 t)
     (check-term-add-t27 t)
     (check-term-add-t28 t)
-    (check-term-add-t29 t)
     (check-term-returns-2 t)
     (check-term-returns-3 t)
     (check-term-returns-4 t)

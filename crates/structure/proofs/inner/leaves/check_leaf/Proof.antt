@@ -28,8 +28,8 @@ add-t10 c = let i = post-in _ _ _ (c .before .before .kind-at .ensures) 24 (omeg
 check-range-requires : tie.Need-check-range-requires
 check-range-requires c κs = (c .before .before .before .before .pre, post-in _ _ _ (c .before .kind-at .ensures) 25 (omega arith) (c .match .keys4))
 
-start-at-requires : tie.Need-start-at-requires
-start-at-requires c κs = search needs
+not-allowed-requires : tie.Need-not-allowed-requires
+not-allowed-requires c κs = search needs
 
 returns : tie.Need-returns
 returns c = search needs
@@ -46,7 +46,7 @@ returns-4 c = leaf-range _ _ _ _ (c .before .before .kind-at .ensures) (c .befor
 returns-5 : tie.Need-returns-5
 returns-5 c =
     let at-kind-at = c .before .before in
-    leaf-none _ _ _ _ (at-kind-at .kind-at .ensures) (c .before .match .rest .0 .0 .0 .1) (c .before .match .rest .0 .0 .1) (c .before .match .rest .0 .1) (c .before .match .rest .1) _ (c .start-at .ensures)
+    leaf-none _ _ _ _ (at-kind-at .kind-at .ensures) (c .before .match .rest .0 .0 .0 .1) (c .before .match .rest .0 .0 .1) (c .before .match .rest .0 .1) (c .before .match .rest .1) _ (c .not-allowed .ensures)
 
 pub check-leaf-spec : {M : Type 1} → statement M
 check-leaf-spec =
@@ -59,7 +59,7 @@ check-leaf-spec =
     string-bytes-requires-2
     add-t10
     check-range-requires
-    start-at-requires
+    not-allowed-requires
     returns
     returns-2
     returns-3

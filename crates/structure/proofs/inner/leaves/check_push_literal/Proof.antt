@@ -19,26 +19,26 @@ enum-known-bracket c = search needs
 enum-told : tie.Need-enum-told
 enum-told c = search needs
 
-add-start-at : tie.Need-add-start-at
-add-start-at c = let z = sizes _ _ (c .before .before .before .before .before .pre .0) in let h = c .before .before .before .before .before .pre .1 in omega arith
+add-not-allowed : tie.Need-add-not-allowed
+add-not-allowed c = let z = sizes _ _ (c .before .before .before .before .before .pre .0) in let h = c .before .before .before .before .before .pre .1 in omega arith
 
-start-at-requires : tie.Need-start-at-requires
-start-at-requires c κs = search needs
+not-allowed-requires : tie.Need-not-allowed-requires
+not-allowed-requires c κs = search needs
 
 returns : tie.Need-returns
-returns c = pushed-bare _ _ _ _ (c .before .before .before .expect .ensures) (c .before .enum-told .given .1) _ (c .start-at .ensures)
+returns c = pushed-bare _ _ _ _ (c .before .before .before .expect .ensures) (c .before .enum-told .given .1) _ (c .not-allowed .ensures)
 
-add-start-at-2 : tie.Need-add-start-at-2
-add-start-at-2 c = let z = sizes _ _ (c .before .before .before .before .before .before .before .pre .0) in let h = c .before .before .before .before .before .before .before .pre .1 in omega arith
+add-refused-at : tie.Need-add-refused-at
+add-refused-at c = let z = sizes _ _ (c .before .before .before .before .before .before .before .pre .0) in let h = c .before .before .before .before .before .before .before .pre .1 in omega arith
 
-start-at-requires-2 : tie.Need-start-at-requires-2
-start-at-requires-2 c κs = search needs
+refused-at-requires : tie.Need-refused-at-requires
+refused-at-requires c κs = search needs
 
 returns-2 : tie.Need-returns-2
 returns-2 c =
     let at-bracket = c .before .before .before in
     let at-expect = at-bracket .before .before in
-    pushed-deep _ _ _ _ (at-expect .expect .ensures) _ (at-bracket .bracket .given .1) (c .before .if1 .taken) _ (c .start-at2 .ensures)
+    pushed-deep _ _ _ _ (at-expect .expect .ensures) _ (at-bracket .bracket .given .1) (c .before .if1 .taken) _ (c .refused-at .ensures)
 
 expect-requires-2 : tie.Need-expect-requires-2
 expect-requires-2 c κs = search needs
@@ -49,8 +49,8 @@ enum-known-string c = search needs
 enum-told-2 : tie.Need-enum-told-2
 enum-told-2 c = search needs
 
-start-at-requires-3 : tie.Need-start-at-requires-3
-start-at-requires-3 c κs = search needs
+not-allowed-requires-2 : tie.Need-not-allowed-requires-2
+not-allowed-requires-2 c κs = search needs
 
 returns-3 : tie.Need-returns-3
 returns-3 c =
@@ -58,7 +58,7 @@ returns-3 c =
     let at-if1 = at-expect2 .before in
     let at-bracket = at-if1 .before .before in
     let at-expect = at-bracket .before .before in
-    pushed-empty _ _ _ _ (at-expect .expect .ensures) _ (at-bracket .bracket .given .1) (at-if1 .if1 .left) _ (at-expect2 .expect2 .ensures) (c .before .enum-told2 .given .1) _ (c .start-at3 .ensures)
+    pushed-empty _ _ _ _ (at-expect .expect .ensures) _ (at-bracket .bracket .given .1) (at-if1 .if1 .left) _ (at-expect2 .expect2 .ensures) (c .before .enum-told2 .given .1) _ (c .not-allowed2 .ensures)
 
 expect-requires-3 : tie.Need-expect-requires-3
 expect-requires-3 c κs = search needs
@@ -69,8 +69,8 @@ enum-known-close c = search needs
 enum-told-3 : tie.Need-enum-told-3
 enum-told-3 c = search needs
 
-start-at-requires-4 : tie.Need-start-at-requires-4
-start-at-requires-4 c κs = search needs
+not-allowed-requires-3 : tie.Need-not-allowed-requires-3
+not-allowed-requires-3 c κs = search needs
 
 returns-4 : tie.Need-returns-4
 returns-4 c =
@@ -80,7 +80,7 @@ returns-4 c =
     let at-if1 = at-expect2 .before in
     let at-bracket = at-if1 .before .before in
     let at-expect = at-bracket .before .before in
-    pushed-unclosed _ _ _ _ (at-expect .expect .ensures) _ (at-bracket .bracket .given .1) (at-if1 .if1 .left) _ (at-expect2 .expect2 .ensures) _ (at-string .string .given .1) _ (at-expect3 .expect3 .ensures) (c .before .enum-told3 .given .1) _ (c .start-at4 .ensures)
+    pushed-unclosed _ _ _ _ (at-expect .expect .ensures) _ (at-bracket .bracket .given .1) (at-if1 .if1 .left) _ (at-expect2 .expect2 .ensures) _ (at-string .string .given .1) _ (at-expect3 .expect3 .ensures) (c .before .enum-told3 .given .1) _ (c .not-allowed3 .ensures)
 
 string-bytes-requires : tie.Need-string-bytes-requires
 string-bytes-requires c κs = search needs
@@ -104,21 +104,21 @@ check-push-literal-spec =
     expect-requires
     enum-known-bracket
     enum-told
-    add-start-at
-    start-at-requires
+    add-not-allowed
+    not-allowed-requires
     returns
-    add-start-at-2
-    start-at-requires-2
+    add-refused-at
+    refused-at-requires
     returns-2
     expect-requires-2
     enum-known-string
     enum-told-2
-    start-at-requires-3
+    not-allowed-requires-2
     returns-3
     expect-requires-3
     enum-known-close
     enum-told-3
-    start-at-requires-4
+    not-allowed-requires-3
     returns-4
     string-bytes-requires
     returns-5)

@@ -19,14 +19,14 @@ enum-known-dots c = search needs
 enum-told : tie.Need-enum-told
 enum-told c = search needs
 
-add-start-at : tie.Need-add-start-at
-add-start-at c = let z = sizes _ _ (c .before .before .before .before .before .pre .0) in let h = c .before .before .before .before .before .pre .1 in omega arith
+add-not-allowed : tie.Need-add-not-allowed
+add-not-allowed c = let z = sizes _ _ (c .before .before .before .before .before .pre .0) in let h = c .before .before .before .before .before .pre .1 in omega arith
 
-start-at-requires : tie.Need-start-at-requires
-start-at-requires c κs = search needs
+not-allowed-requires : tie.Need-not-allowed-requires
+not-allowed-requires c κs = search needs
 
 returns : tie.Need-returns
-returns c = range-undotted _ _ _ (c .before .before .before .expect .ensures) (c .before .enum-told .given .1) _ (c .start-at .ensures)
+returns c = range-undotted _ _ _ (c .before .before .before .expect .ensures) (c .before .enum-told .given .1) _ (c .not-allowed .ensures)
 
 expect-requires-2 : tie.Need-expect-requires-2
 expect-requires-2 c κs = search needs
@@ -37,15 +37,15 @@ enum-known-last c = search needs
 enum-told-2 : tie.Need-enum-told-2
 enum-told-2 c = search needs
 
-start-at-requires-2 : tie.Need-start-at-requires-2
-start-at-requires-2 c κs = search needs
+not-allowed-requires-2 : tie.Need-not-allowed-requires-2
+not-allowed-requires-2 c κs = search needs
 
 returns-2 : tie.Need-returns-2
 returns-2 c =
     let at-expect2 = c .before .before .before in
     let at-dots = at-expect2 .before .before in
     let at-expect = at-dots .before .before in
-    range-open _ _ _ (at-expect .expect .ensures) _ (at-dots .dots .given .1) _ (at-expect2 .expect2 .ensures) (c .before .enum-told2 .given .1) _ (c .start-at2 .ensures)
+    range-open _ _ _ (at-expect .expect .ensures) _ (at-dots .dots .given .1) _ (at-expect2 .expect2 .ensures) (c .before .enum-told2 .given .1) _ (c .not-allowed2 .ensures)
 
 returns-3 : tie.Need-returns-3
 returns-3 c =
@@ -62,12 +62,12 @@ check-range-spec =
     expect-requires
     enum-known-dots
     enum-told
-    add-start-at
-    start-at-requires
+    add-not-allowed
+    not-allowed-requires
     returns
     expect-requires-2
     enum-known-last
     enum-told-2
-    start-at-requires-2
+    not-allowed-requires-2
     returns-2
     returns-3)

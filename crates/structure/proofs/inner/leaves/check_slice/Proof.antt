@@ -17,14 +17,14 @@ enum-known-dots c = search needs
 enum-told : tie.Need-enum-told
 enum-told c = search needs
 
-start-at-requires : tie.Need-start-at-requires
-start-at-requires c κs = search needs
+not-allowed-requires : tie.Need-not-allowed-requires
+not-allowed-requires c κs = search needs
 
 returns : tie.Need-returns
 returns c =
     let at-expect = c .before .before .before in
     let at-past-integer = at-expect .before in
-    slice-undotted _ _ _ _ (at-past-integer .past-integer .ensures) _ (at-expect .expect .ensures) (c .before .enum-told .given .1) _ (c .start-at .ensures)
+    slice-undotted _ _ _ _ (at-past-integer .past-integer .ensures) _ (at-expect .expect .ensures) (c .before .enum-told .given .1) _ (c .not-allowed .ensures)
 
 past-integer-requires-2 : tie.Need-past-integer-requires-2
 past-integer-requires-2 c κs = search needs
@@ -38,8 +38,8 @@ enum-known-close c = search needs
 enum-told-2 : tie.Need-enum-told-2
 enum-told-2 c = search needs
 
-start-at-requires-2 : tie.Need-start-at-requires-2
-start-at-requires-2 c κs = search needs
+not-allowed-requires-2 : tie.Need-not-allowed-requires-2
+not-allowed-requires-2 c κs = search needs
 
 returns-2 : tie.Need-returns-2
 returns-2 c =
@@ -48,7 +48,7 @@ returns-2 c =
     let at-dots = at-past-integer2 .before .before in
     let at-expect = at-dots .before .before in
     let at-past-integer = at-expect .before in
-    slice-unclosed _ _ _ _ (at-past-integer .past-integer .ensures) _ (at-expect .expect .ensures) _ (at-dots .dots .given .1) _ (at-past-integer2 .past-integer2 .ensures) _ (at-expect2 .expect2 .ensures) (c .before .enum-told2 .given .1) _ (c .start-at2 .ensures)
+    slice-unclosed _ _ _ _ (at-past-integer .past-integer .ensures) _ (at-expect .expect .ensures) _ (at-dots .dots .given .1) _ (at-past-integer2 .past-integer2 .ensures) _ (at-expect2 .expect2 .ensures) (c .before .enum-told2 .given .1) _ (c .not-allowed2 .ensures)
 
 returns-3 : tie.Need-returns-3
 returns-3 c =
@@ -67,12 +67,12 @@ check-slice-spec =
     expect-requires
     enum-known-dots
     enum-told
-    start-at-requires
+    not-allowed-requires
     returns
     past-integer-requires-2
     expect-requires-2
     enum-known-close
     enum-told-2
-    start-at-requires-2
+    not-allowed-requires-2
     returns-2
     returns-3)

@@ -13,11 +13,11 @@ enum-known-comma c = search needs
 enum-told : tie.Need-enum-told
 enum-told c = search needs
 
-start-at-requires : tie.Need-start-at-requires
-start-at-requires c κs = search needs
+not-allowed-requires : tie.Need-not-allowed-requires
+not-allowed-requires c κs = search needs
 
 returns : tie.Need-returns
-returns c = comma-none _ _ _ (c .before .before .before .expect .ensures) (c .before .enum-told .given .1) _ (c .start-at .ensures)
+returns c = comma-none _ _ _ (c .before .before .before .expect .ensures) (c .before .enum-told .given .1) _ (c .not-allowed .ensures)
 
 expect-requires-2 : tie.Need-expect-requires-2
 expect-requires-2 c κs = search needs
@@ -28,15 +28,15 @@ enum-known-most c = search needs
 enum-told-2 : tie.Need-enum-told-2
 enum-told-2 c = search needs
 
-start-at-requires-2 : tie.Need-start-at-requires-2
-start-at-requires-2 c κs = search needs
+not-allowed-requires-2 : tie.Need-not-allowed-requires-2
+not-allowed-requires-2 c κs = search needs
 
 returns-2 : tie.Need-returns-2
 returns-2 c =
     let at-expect2 = c .before .before .before in
     let at-comma = at-expect2 .before .before in
     let at-expect = at-comma .before .before in
-    comma-bare _ _ _ (at-expect .expect .ensures) _ (at-comma .comma .given .1) _ (at-expect2 .expect2 .ensures) (c .before .enum-told2 .given .1) _ (c .start-at2 .ensures)
+    comma-bare _ _ _ (at-expect .expect .ensures) _ (at-comma .comma .given .1) _ (at-expect2 .expect2 .ensures) (c .before .enum-told2 .given .1) _ (c .not-allowed2 .ensures)
 
 expect-requires-3 : tie.Need-expect-requires-3
 expect-requires-3 c κs = search needs
@@ -47,8 +47,8 @@ enum-known-close c = search needs
 enum-told-3 : tie.Need-enum-told-3
 enum-told-3 c = search needs
 
-start-at-requires-3 : tie.Need-start-at-requires-3
-start-at-requires-3 c κs = search needs
+not-allowed-requires-3 : tie.Need-not-allowed-requires-3
+not-allowed-requires-3 c κs = search needs
 
 returns-3 : tie.Need-returns-3
 returns-3 c =
@@ -57,7 +57,7 @@ returns-3 c =
     let at-expect2 = at-most .before .before in
     let at-comma = at-expect2 .before .before in
     let at-expect = at-comma .before .before in
-    comma-unclosed _ _ _ (at-expect .expect .ensures) _ (at-comma .comma .given .1) _ (at-expect2 .expect2 .ensures) _ (at-most .most .given .1) _ (at-expect3 .expect3 .ensures) (c .before .enum-told3 .given .1) _ (c .start-at3 .ensures)
+    comma-unclosed _ _ _ (at-expect .expect .ensures) _ (at-comma .comma .given .1) _ (at-expect2 .expect2 .ensures) _ (at-most .most .given .1) _ (at-expect3 .expect3 .ensures) (c .before .enum-told3 .given .1) _ (c .not-allowed3 .ensures)
 
 returns-4 : tie.Need-returns-4
 returns-4 c =
@@ -75,16 +75,16 @@ comma-end-spec =
     expect-requires
     enum-known-comma
     enum-told
-    start-at-requires
+    not-allowed-requires
     returns
     expect-requires-2
     enum-known-most
     enum-told-2
-    start-at-requires-2
+    not-allowed-requires-2
     returns-2
     expect-requires-3
     enum-known-close
     enum-told-3
-    start-at-requires-3
+    not-allowed-requires-3
     returns-3
     returns-4)

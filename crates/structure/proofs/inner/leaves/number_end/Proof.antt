@@ -29,21 +29,21 @@ enum-known-comma c = search needs
 enum-told : tie.Need-enum-told
 enum-told c = search needs
 
-start-at-requires : tie.Need-start-at-requires
-start-at-requires c κs = search needs
+not-allowed-requires : tie.Need-not-allowed-requires
+not-allowed-requires c κs = search needs
 
 returns-2 : tie.Need-returns-2
 returns-2 c =
     let at-expect = c .before .before .before in
     let at-if1 = at-expect .before in
     let at-kind-at = at-if1 .before in
-    number-open _ _ _ (at-kind-at .kind-at .ensures) (at-if1 .if1 .left) _ (at-expect .expect .ensures) (c .before .enum-told .given .1) _ (c .start-at .ensures)
+    number-open _ _ _ (at-kind-at .kind-at .ensures) (at-if1 .if1 .left) _ (at-expect .expect .ensures) (c .before .enum-told .given .1) _ (c .not-allowed .ensures)
 
 kind-at-requires-2 : tie.Need-kind-at-requires-2
 kind-at-requires-2 c κs = search needs
 
-add-t16 : tie.Need-add-t16
-add-t16 c = let i = here-in _ _ 15 _ _ (omega arith) (c .before .before .before .before .before .expect .ensures) (c .before .before .before .comma .given .1) in let z = sizes _ _ (c .before .before .before .before .before .before .before .before .before .before .pre .0) in omega arith
+add-t15 : tie.Need-add-t15
+add-t15 c = let i = here-in _ _ 15 _ _ (omega arith) (c .before .before .before .before .before .expect .ensures) (c .before .before .before .comma .given .1) in let z = sizes _ _ (c .before .before .before .before .before .before .before .before .before .before .pre .0) in omega arith
 
 returns-3 : tie.Need-returns-3
 returns-3 c =
@@ -62,8 +62,8 @@ enum-known-most c = search needs
 enum-told-2 : tie.Need-enum-told-2
 enum-told-2 c = search needs
 
-start-at-requires-2 : tie.Need-start-at-requires-2
-start-at-requires-2 c κs = search needs
+not-allowed-requires-2 : tie.Need-not-allowed-requires-2
+not-allowed-requires-2 c κs = search needs
 
 returns-4 : tie.Need-returns-4
 returns-4 c =
@@ -74,7 +74,7 @@ returns-4 c =
     let at-expect = at-comma .before .before in
     let at-if1 = at-expect .before in
     let at-kind-at = at-if1 .before in
-    number-comma _ _ _ (at-kind-at .kind-at .ensures) (at-if1 .if1 .left) _ (at-expect .expect .ensures) _ (at-comma .comma .given .1) _ (at-kind-at2 .kind-at2 .ensures) (at-if2 .if2 .left) _ (at-expect2 .expect2 .ensures) (c .before .enum-told2 .given .1) _ (c .start-at2 .ensures)
+    number-comma _ _ _ (at-kind-at .kind-at .ensures) (at-if1 .if1 .left) _ (at-expect .expect .ensures) _ (at-comma .comma .given .1) _ (at-kind-at2 .kind-at2 .ensures) (at-if2 .if2 .left) _ (at-expect2 .expect2 .ensures) (c .before .enum-told2 .given .1) _ (c .not-allowed2 .ensures)
 
 expect-requires-3 : tie.Need-expect-requires-3
 expect-requires-3 c κs = search needs
@@ -85,8 +85,8 @@ enum-known-close c = search needs
 enum-told-3 : tie.Need-enum-told-3
 enum-told-3 c = search needs
 
-start-at-requires-3 : tie.Need-start-at-requires-3
-start-at-requires-3 c κs =
+not-allowed-requires-3 : tie.Need-not-allowed-requires-3
+not-allowed-requires-3 c κs =
     let start = c .before .before .before .before .before .before .before .before .before .before .before .before .before .before .before .before .before in
     start .pre .0
 
@@ -101,7 +101,7 @@ returns-5 c =
     let at-expect = at-comma .before .before in
     let at-if1 = at-expect .before in
     let at-kind-at = at-if1 .before in
-    number-unclosed _ _ _ (at-kind-at .kind-at .ensures) (at-if1 .if1 .left) _ (at-expect .expect .ensures) _ (at-comma .comma .given .1) _ (at-kind-at2 .kind-at2 .ensures) (at-if2 .if2 .left) _ (at-expect2 .expect2 .ensures) _ (at-most .most .given .1) _ (at-expect3 .expect3 .ensures) (c .before .enum-told3 .given .1) _ (c .start-at3 .ensures)
+    number-unclosed _ _ _ (at-kind-at .kind-at .ensures) (at-if1 .if1 .left) _ (at-expect .expect .ensures) _ (at-comma .comma .given .1) _ (at-kind-at2 .kind-at2 .ensures) (at-if2 .if2 .left) _ (at-expect2 .expect2 .ensures) _ (at-most .most .given .1) _ (at-expect3 .expect3 .ensures) (c .before .enum-told3 .given .1) _ (c .not-allowed3 .ensures)
 
 returns-6 : tie.Need-returns-6
 returns-6 c =
@@ -127,19 +127,19 @@ number-end-spec =
     expect-requires
     enum-known-comma
     enum-told
-    start-at-requires
+    not-allowed-requires
     returns-2
     kind-at-requires-2
-    add-t16
+    add-t15
     returns-3
     expect-requires-2
     enum-known-most
     enum-told-2
-    start-at-requires-2
+    not-allowed-requires-2
     returns-4
     expect-requires-3
     enum-known-close
     enum-told-3
-    start-at-requires-3
+    not-allowed-requires-3
     returns-5
     returns-6)

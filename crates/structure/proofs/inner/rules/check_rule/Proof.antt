@@ -13,11 +13,11 @@ use Rattle.structure.proofs.inner.rules.check_rule.Tie as tie
 is-name-requires : tie.Need-is-name-requires
 is-name-requires c κs = c .before .before .pre
 
-start-at-requires : tie.Need-start-at-requires
-start-at-requires c κs = c .before .before .before .before .pre
+not-allowed-requires : tie.Need-not-allowed-requires
+not-allowed-requires c κs = c .before .before .before .before .pre
 
 returns : tie.Need-returns
-returns c = rule-unnamed _ _ _ _ (c .before .before .is-name .ensures) (not-true _ (c .before .if1 .taken)) _ (c .start-at .ensures)
+returns c = rule-unnamed _ _ _ _ (c .before .before .is-name .ensures) (not-true _ (c .before .if1 .taken)) _ (c .not-allowed .ensures)
 
 add-expect : tie.Need-add-expect
 add-expect c = let i = name-in _ _ _ (c .before .is-name .ensures) (not-false _ (c .if1 .left)) in let z = sizes _ _ (c .before .before .before .before .pre) in omega arith
@@ -31,18 +31,18 @@ enum-known-tie c = search needs
 enum-told : tie.Need-enum-told
 enum-told c = search needs
 
-add-start-at : tie.Need-add-start-at
-add-start-at c = let i = name-in _ _ _ (c .before .before .before .before .is-name .ensures) (not-false _ (c .before .before .before .if1 .left)) in let z = sizes _ _ (c .before .before .before .before .before .before .before .pre) in omega arith
+add-not-allowed : tie.Need-add-not-allowed
+add-not-allowed c = let i = name-in _ _ _ (c .before .before .before .before .is-name .ensures) (not-false _ (c .before .before .before .if1 .left)) in let z = sizes _ _ (c .before .before .before .before .before .before .before .pre) in omega arith
 
-start-at-requires-2 : tie.Need-start-at-requires-2
-start-at-requires-2 c κs = c .before .before .before .before .before .before .before .pre
+not-allowed-requires-2 : tie.Need-not-allowed-requires-2
+not-allowed-requires-2 c κs = c .before .before .before .before .before .before .before .pre
 
 returns-2 : tie.Need-returns-2
 returns-2 c =
     let at-expect = c .before .before .before in
     let at-if1 = at-expect .before in
     let at-is-name = at-if1 .before in
-    rule-untied _ _ _ _ (at-is-name .is-name .ensures) (not-false _ (at-if1 .if1 .left)) _ (at-expect .expect .ensures) (c .before .enum-told .given .1) _ (c .start-at2 .ensures)
+    rule-untied _ _ _ _ (at-is-name .is-name .ensures) (not-false _ (at-if1 .if1 .left)) _ (at-expect .expect .ensures) (c .before .enum-told .given .1) _ (c .not-allowed2 .ensures)
 
 past-mark-requires : tie.Need-past-mark-requires
 past-mark-requires c κs = c .before .before .before .before .before .before .before .before .pre
@@ -56,8 +56,8 @@ enum-known-brace c = search needs
 enum-told-2 : tie.Need-enum-told-2
 enum-told-2 c = search needs
 
-start-at-requires-3 : tie.Need-start-at-requires-3
-start-at-requires-3 c κs = c .before .before .before .before .before .before .before .before .before .before .before .before .pre
+not-allowed-requires-3 : tie.Need-not-allowed-requires-3
+not-allowed-requires-3 c κs = c .before .before .before .before .before .before .before .before .before .before .before .before .pre
 
 returns-3 : tie.Need-returns-3
 returns-3 c =
@@ -67,7 +67,7 @@ returns-3 c =
     let at-expect = at-tie .before .before in
     let at-if1 = at-expect .before in
     let at-is-name = at-if1 .before in
-    rule-unbraced _ _ _ _ (at-is-name .is-name .ensures) (not-false _ (at-if1 .if1 .left)) _ (at-expect .expect .ensures) _ (at-tie .tie .given .1) _ (at-past-mark .past-mark .ensures) _ (at-expect2 .expect2 .ensures) (c .before .enum-told2 .given .1) _ (c .start-at3 .ensures)
+    rule-unbraced _ _ _ _ (at-is-name .is-name .ensures) (not-false _ (at-if1 .if1 .left)) _ (at-expect .expect .ensures) _ (at-tie .tie .given .1) _ (at-past-mark .past-mark .ensures) _ (at-expect2 .expect2 .ensures) (c .before .enum-told2 .given .1) _ (c .not-allowed3 .ensures)
 
 past-bar-requires : tie.Need-past-bar-requires
 past-bar-requires c κs = c .before .before .before .before .before .before .before .before .before .before .before .before .before .pre
@@ -90,8 +90,8 @@ enum-known-close c = search needs
 enum-told-3 : tie.Need-enum-told-3
 enum-told-3 c = search needs
 
-start-at-requires-4 : tie.Need-start-at-requires-4
-start-at-requires-4 c κs =
+not-allowed-requires-4 : tie.Need-not-allowed-requires-4
+not-allowed-requires-4 c κs =
     let start = c .before .before .before .before .before .before .before .before .before .before .before .before .before .before .before .before .before .before .before .before .before in
     start .pre
 
@@ -108,15 +108,15 @@ returns-4 c =
     let at-expect = at-tie .before .before in
     let at-if1 = at-expect .before in
     let at-is-name = at-if1 .before in
-    rule-unclosed _ _ _ _ (at-is-name .is-name .ensures) (not-false _ (at-if1 .if1 .left)) _ (at-expect .expect .ensures) _ (at-tie .tie .given .1) _ (at-past-mark .past-mark .ensures) _ (at-expect2 .expect2 .ensures) _ (at-brace .brace .given .1) _ (at-past-bar .past-bar .ensures) _ (at-check-expr .check-expr .ensures) _ _ _ (at-inside2 .inside2 .given .1) _ (at-expect3 .expect3 .ensures) (c .before .enum-told3 .given .1) _ (c .start-at4 .ensures)
+    rule-unclosed _ _ _ _ (at-is-name .is-name .ensures) (not-false _ (at-if1 .if1 .left)) _ (at-expect .expect .ensures) _ (at-tie .tie .given .1) _ (at-past-mark .past-mark .ensures) _ (at-expect2 .expect2 .ensures) _ (at-brace .brace .given .1) _ (at-past-bar .past-bar .ensures) _ (at-check-expr .check-expr .ensures) _ _ _ (at-inside2 .inside2 .given .1) _ (at-expect3 .expect3 .ensures) (c .before .enum-told3 .given .1) _ (c .not-allowed4 .ensures)
 
 word-bytes-requires : tie.Need-word-bytes-requires
 word-bytes-requires c κs =
     let start = c .before .before .before .before .before .before .before .before .before .before .before .before .before .before .before .before .before .before .before .before .before .before in
     start .pre
 
-add-t32 : tie.Need-add-t32
-add-t32 c =
+add-t28 : tie.Need-add-t28
+add-t28 c =
     let a = expr-ends _ _ (c .before .before .before .before .before .before .before .before .before .before .before .before .before .before .before .before .before .before .before .before .before .before .before .pre .short) _ _ _ _ _ _ (c .before .before .before .before .before .before .before .before .check-expr .ensures) (c .before .before .before .before .before .before .inside2 .given .1) in
     let b = a .small in
     let d = a .few in
@@ -161,20 +161,20 @@ check-rule-spec =
     tie.close
     (tie.spec
     is-name-requires
-    start-at-requires
+    not-allowed-requires
     returns
     add-expect
     expect-requires
     enum-known-tie
     enum-told
-    add-start-at
-    start-at-requires-2
+    add-not-allowed
+    not-allowed-requires-2
     returns-2
     past-mark-requires
     expect-requires-2
     enum-known-brace
     enum-told-2
-    start-at-requires-3
+    not-allowed-requires-3
     returns-3
     past-bar-requires
     check-expr-requires
@@ -183,9 +183,9 @@ check-rule-spec =
     expect-requires-3
     enum-known-close
     enum-told-3
-    start-at-requires-4
+    not-allowed-requires-4
     returns-4
     word-bytes-requires
-    add-t32
+    add-t28
     returns-5
     returns-6)

@@ -1,7 +1,7 @@
 -- Invariant (`FaultInv`): the first fault of the text is the first from token i on, the token before being of kind `before`. A sound token is
 -- passed, so that the tokens left fall; any fault is the first (`faults-stop`).
 use Rattle.structure.proofs.Faults.{FaultInv, faults-start, faults-more, faults-stop, faults-none}
-use Rattle.structure.specs.declared.Fault.the-variants.{Over, Zero, PeekRange, NotScalar, NotPlain}
+use Rattle.structure.specs.declared.Fault.the-variants.{At}
 use borrow.Author.Needs.{needs}
 use native.Mathlib.Omega.{arith}
 use lib.ListN.{length}
@@ -45,34 +45,10 @@ enum-known-fault : tie.Need-enum-known-fault Inv-loop μ-loop
 enum-known-fault c = search needs
 
 returns : tie.Need-returns Inv-loop μ-loop
-returns c = faults-stop _ _ _ _ (let z = c .before .before .before .before .before .before .token-count .ensures in let h = c .before .before .before .before .loop-test .taken in omega arith) (c .before .before .before .before .before .loop .inv) _ (c .before .before .before .fault-at .ensures) (Over _) (λ f. refl) (c .before .fault .given .1)
-
-enum-known-fault-2 : tie.Need-enum-known-fault-2 Inv-loop μ-loop
-enum-known-fault-2 c = search needs
+returns c = faults-stop _ _ _ _ (let z = c .before .before .before .before .before .before .token-count .ensures in let h = c .before .before .before .before .loop-test .taken in omega arith) (c .before .before .before .before .before .loop .inv) _ (c .before .before .before .fault-at .ensures) (At _) (λ f. refl) (c .before .fault .given .1)
 
 returns-2 : tie.Need-returns-2 Inv-loop μ-loop
-returns-2 c = faults-stop _ _ _ _ (let z = c .before .before .before .before .before .before .token-count .ensures in let h = c .before .before .before .before .loop-test .taken in omega arith) (c .before .before .before .before .before .loop .inv) _ (c .before .before .before .fault-at .ensures) (Zero _) (λ f. refl) (c .before .fault2 .given .1)
-
-enum-known-fault-3 : tie.Need-enum-known-fault-3 Inv-loop μ-loop
-enum-known-fault-3 c = search needs
-
-returns-3 : tie.Need-returns-3 Inv-loop μ-loop
-returns-3 c = faults-stop _ _ _ _ (let z = c .before .before .before .before .before .before .token-count .ensures in let h = c .before .before .before .before .loop-test .taken in omega arith) (c .before .before .before .before .before .loop .inv) _ (c .before .before .before .fault-at .ensures) (PeekRange _) (λ f. refl) (c .before .fault3 .given .1)
-
-enum-known-fault-4 : tie.Need-enum-known-fault-4 Inv-loop μ-loop
-enum-known-fault-4 c = search needs
-
-returns-4 : tie.Need-returns-4 Inv-loop μ-loop
-returns-4 c = faults-stop _ _ _ _ (let z = c .before .before .before .before .before .before .token-count .ensures in let h = c .before .before .before .before .loop-test .taken in omega arith) (c .before .before .before .before .before .loop .inv) _ (c .before .before .before .fault-at .ensures) (NotScalar _) (λ f. refl) (c .before .fault4 .given .1)
-
-enum-known-fault-5 : tie.Need-enum-known-fault-5 Inv-loop μ-loop
-enum-known-fault-5 c = search needs
-
-returns-5 : tie.Need-returns-5 Inv-loop μ-loop
-returns-5 c = faults-stop _ _ _ _ (let z = c .before .before .before .before .before .before .token-count .ensures in let h = c .before .before .before .before .loop-test .taken in omega arith) (c .before .before .before .before .before .loop .inv) _ (c .before .before .before .fault-at .ensures) (NotPlain _) (λ f. refl) (c .before .fault5 .given .1)
-
-returns-6 : tie.Need-returns-6 Inv-loop μ-loop
-returns-6 c = faults-none _ _ _ _ (let z = c .before .before .token-count .ensures in let h = c .loop-test .left in omega arith) (c .before .loop .inv)
+returns-2 c = faults-none _ _ _ _ (let z = c .before .before .token-count .ensures in let h = c .loop-test .left in omega arith) (c .before .loop .inv)
 
 pub faults-spec : {M : Type 1} → statement M
 faults-spec =
@@ -90,12 +66,4 @@ faults-spec =
     loop-again
     enum-known-fault
     returns
-    enum-known-fault-2
-    returns-2
-    enum-known-fault-3
-    returns-3
-    enum-known-fault-4
-    returns-4
-    enum-known-fault-5
-    returns-5
-    returns-6)
+    returns-2)

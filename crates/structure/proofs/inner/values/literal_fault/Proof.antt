@@ -31,8 +31,8 @@ enum-told c = search needs
 enum-known-bad : tie.Need-enum-known-bad
 enum-known-bad c = search needs
 
-add-t11 : tie.Need-add-t11
-add-t11 c = let k = literal-low _ _ _ _ _ (c .before .before .before .before .before .before .before .before .pre .1 .1) (ap (λ n. n + c .before .before .before .before .before .before .before .before .args .skip) (c .before .before .before .before .before .start-at .ensures)) (ap (λ n. n - 1) (c .before .before .before .before .end-at .ensures)) _ (c .before .before .before .bad-escape-in .ensures) _ (c .before .bad .given .1) in let p = spans _ _ (c .before .before .before .before .before .before .before .before .pre .1 .0) in let a = c .before .before .before .before .before .start-at .ensures in let h = c .before .before .before .before .before .before .before .before .pre .0 .short in let o = opens-small (c .before .before .before .before .before .before .before .before .args .text .now) (c .before .before .before .before .before .before .before .before .args .at) in let e = c .before .before .before .before .before .before .before .before .pre .1 .1 in omega arith
+add-t12 : tie.Need-add-t12
+add-t12 c = let k = literal-low _ _ _ _ _ (c .before .before .before .before .before .before .before .before .pre .1 .1) (ap (λ n. n + c .before .before .before .before .before .before .before .before .args .skip) (c .before .before .before .before .before .start-at .ensures)) (ap (λ n. n - 1) (c .before .before .before .before .end-at .ensures)) _ (c .before .before .before .bad-escape-in .ensures) _ (c .before .bad .given .1) in let p = spans _ _ (c .before .before .before .before .before .before .before .before .pre .1 .0) in let a = c .before .before .before .before .before .start-at .ensures in let h = c .before .before .before .before .before .before .before .before .pre .0 .short in let o = opens-small (c .before .before .before .before .before .before .before .before .args .text .now) (c .before .before .before .before .before .before .before .before .args .at) in let e = c .before .before .before .before .before .before .before .before .pre .1 .1 in omega arith
 
 returns : tie.Need-returns
 returns c =
@@ -61,6 +61,6 @@ literal-fault-spec =
     bad-escape-in-requires
     enum-told
     enum-known-bad
-    add-t11
+    add-t12
     returns
     returns-2)

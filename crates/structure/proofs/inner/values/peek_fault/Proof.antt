@@ -13,8 +13,8 @@ enum-told c = search needs
 enum-told-2 : tie.Need-enum-told-2
 enum-told-2 c = search needs
 
-start-at-requires : tie.Need-start-at-requires
-start-at-requires c κs = search needs
+refused-at-requires : tie.Need-refused-at-requires
+refused-at-requires c κs = search needs
 
 enum-told-3 : tie.Need-enum-told-3
 enum-told-3 c = search needs
@@ -23,7 +23,7 @@ returns : tie.Need-returns
 returns c = peek-fits _ _ _ _ (c .before .before .integer-of .ensures) _ (c .enum-told .given .1)
 
 returns-2 : tie.Need-returns-2
-returns-2 c = peek-over _ _ _ _ (c .before .before .before .integer-of .ensures) (c .before .enum-told2 .given .1) _ (c .start-at .ensures)
+returns-2 c = peek-over _ _ _ _ (c .before .before .before .integer-of .ensures) (c .before .enum-told2 .given .1) _ (c .refused-at .ensures)
 
 returns-3 : tie.Need-returns-3
 returns-3 c = peek-other _ _ _ _ (c .before .before .integer-of .ensures) (c .enum-told3 .given .1)
@@ -35,7 +35,7 @@ peek-fault-spec =
     integer-of-requires
     enum-told
     enum-told-2
-    start-at-requires
+    refused-at-requires
     enum-told-3
     returns
     returns-2

@@ -15,8 +15,8 @@ enum-told c = search needs
 enum-told-2 : tie.Need-enum-told-2
 enum-told-2 c = search needs
 
-start-at-requires : tie.Need-start-at-requires
-start-at-requires c κs = search needs
+refused-at-requires : tie.Need-refused-at-requires
+refused-at-requires c κs = search needs
 
 enum-known-value : tie.Need-enum-known-value
 enum-known-value c = search needs
@@ -30,8 +30,8 @@ add-kind-at c = let z = sizes _ _ (c .before .before .before .before .before .be
 kind-at-requires : tie.Need-kind-at-requires
 kind-at-requires c κs = search needs
 
-start-at-requires-2 : tie.Need-start-at-requires-2
-start-at-requires-2 c κs = search needs
+refused-at-requires-2 : tie.Need-refused-at-requires-2
+refused-at-requires-2 c κs = search needs
 
 returns-2 : tie.Need-returns-2
 returns-2 c =
@@ -39,13 +39,13 @@ returns-2 c =
     let at-if1 = at-kind-at .before in
     let at-value = at-if1 .before .before in
     let at-number-of = at-value .before .before in
-    repeat-zero _ _ _ _ (at-number-of .number-of .ensures) _ (at-value .value .given .1) (at-if1 .if1 .left) _ (at-kind-at .kind-at .ensures) (c .before .if2 .taken) _ (c .start-at2 .ensures)
+    repeat-zero _ _ _ _ (at-number-of .number-of .ensures) _ (at-value .value .given .1) (at-if1 .if1 .left) _ (at-kind-at .kind-at .ensures) (c .before .if2 .taken) _ (c .refused-at2 .ensures)
 
 returns-3 : tie.Need-returns-3
 returns-3 c = repeat-other _ _ _ _ (c .before .before .number-of .ensures) (c .enum-told .given .1)
 
 returns-4 : tie.Need-returns-4
-returns-4 c = repeat-over _ _ _ _ (c .before .before .before .number-of .ensures) (c .before .enum-told2 .given .1) _ (c .start-at .ensures)
+returns-4 c = repeat-over _ _ _ _ (c .before .before .before .number-of .ensures) (c .before .enum-told2 .given .1) _ (c .refused-at .ensures)
 
 returns-5 : tie.Need-returns-5
 returns-5 c =
@@ -61,12 +61,12 @@ repeat-fault-spec =
     number-of-requires
     enum-told
     enum-told-2
-    start-at-requires
+    refused-at-requires
     enum-known-value
     returns
     add-kind-at
     kind-at-requires
-    start-at-requires-2
+    refused-at-requires-2
     returns-2
     returns-3
     returns-4

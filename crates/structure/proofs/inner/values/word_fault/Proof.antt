@@ -16,14 +16,14 @@ slice-aggregate-spelled c = search needs
 spelled-requires : tie.Need-spelled-requires
 spelled-requires c κs = search needs
 
-start-at-requires : tie.Need-start-at-requires
-start-at-requires c κs = search needs
+refused-at-requires : tie.Need-refused-at-requires
+refused-at-requires c κs = search needs
 
 returns : tie.Need-returns
 returns c =
     let at-spelled = c .before .before in
     let at-enum-told2 = at-spelled .before .before in
-    word-pushed _ _ _ (at-enum-told2 .enum-told2 .given .1) _ (at-spelled .spelled .ensures) (c .before .if1 .taken) _ (c .start-at .ensures)
+    word-pushed _ _ _ (at-enum-told2 .enum-told2 .given .1) _ (at-spelled .spelled .ensures) (c .before .if1 .taken) _ (c .refused-at .ensures)
 
 returns-2 : tie.Need-returns-2
 returns-2 c = search needs
@@ -39,7 +39,7 @@ word-fault-spec =
     enum-told-2
     slice-aggregate-spelled
     spelled-requires
-    start-at-requires
+    refused-at-requires
     returns
     returns-2
     returns-3)
