@@ -23,7 +23,8 @@ use Rattle.text.specs.Booleans.{choose, and}
 use Rattle.token.specs.Table.{toks, start, end, is, between, word}
 use Rattle.token.specs.Tokens.{pushLiteral}
 use Rattle.token.proofs.Table.{low, spans, word-is, part-length}
-use Rattle.structure.specs.declared.Refusal.the-variants.{NotAllowed}
+use Rattle.structure.specs.declared.Why.the-variants.{NotAllowed}
+use Rattle.structure.specs.Refusals.{because}
 use Rattle.structure.specs.Tokens.{across, same, spells, peek}
 use Rattle.structure.specs.Values.{isInteger, integer, opening, literalBytes, string, character}
 use Rattle.structure.specs.Structure.{Parsed, got, refused, sliceTo, slice, pushed, ranged, leafAt}
@@ -301,7 +302,7 @@ module _ {table store : List ℕ} {used free : ℕ} (s : List ℕ) where
             pub ranged-read : is s at 24 ≡ false → (is s at 25 ≡ true) × (leafAt o s at ≡ ranged s at)
             unfolding leafAt
             ranged-read y =
-                let e : choose (is s at 25) (λ u. ranged s at) (λ u. refused (NotAllowed (start s at))) ≡ got (g .tree) (g .end) = rw (v, w, k, x, y) at (g .read) in
+                let e : choose (is s at 25) (λ u. ranged s at) (λ u. refused (because NotAllowed (start s at))) ≡ got (g .tree) (g .end) = rw (v, w, k, x, y) at (g .read) in
                 let z : is s at 25 ≡ true = split (is s at 25) _ _ (λ q _. q) (λ q f. no-tree f) e in
                 (z, rw (v, w, k, x, y, z))
 
