@@ -28,7 +28,7 @@ use Rattle.build.specs.declared.Placed.{Placed}
 use Rattle.build.specs.declared.RuleEnd.{RuleEnd}
 use Rattle.build.specs.Build.{TreeRoom, Built}
 use Rattle.records.specs.Records.{written, ruleWritten, RuleFits}
-use Rattle.build.specs.Rules.{RuleRoom, RuleBuilt, RulesRoom, RulesBuilt}
+use Rattle.build.specs.Rules.{RuleRoom, RuleBuilt, GrammarRoom, RulesBuilt}
 use Rattle.records.proofs.Patches.{length-written, length-rule-written, sets-on, written-on, rule-written-on}
 
 -- ---- one rule
@@ -209,7 +209,7 @@ module _ (level : Level) (s : List ℕ) where
       }) q
 
   module _ (us : List (Rule Span)) (nodes₀ rows₀ store₀ : List ℕ) (i index used free : ℕ) (nodes rows store : List ℕ) (v : RulesInv us nodes₀ rows₀ store₀ i index used free nodes rows store) where
-    pub rules-done : length (toks s) ≤ i → RulesRoom (grammar level s) us nodes₀ rows₀ store₀ → RulesBuilt us nodes₀ rows₀ store₀ nodes rows store
+    pub rules-done : length (toks s) ≤ i → GrammarRoom (grammar level s) us nodes₀ rows₀ store₀ → RulesBuilt us nodes₀ rows₀ store₀ nodes rows store
     unfolding written ruleWritten nodesFrom recordsFrom rulesStored
     rules-done h g =
         let e : v .left ≡ [] = no-rules (v .left) [] (sym (v .rest) ∙ rules-end level s (v .fuel) i h) in
@@ -251,7 +251,7 @@ module _ (level : Level) (s : List ℕ) where
             go zero f l = absurd (omega arith)
             go (suc k) f l = (k, l, next-rule k i (v .left) h (misses s i x 27 e q) f)
 
-        pub rules-room : RulesRoom (grammar level s) us nodes₀ rows₀ store₀ → RuleRoom (ruleFrom level s i) nodes rows store index used free
+        pub rules-room : GrammarRoom (grammar level s) us nodes₀ rows₀ store₀ → RuleRoom (ruleFrom level s i) nodes rows store index used free
         unfolding counts rulesStored
         rules-room g =
             let (k, l, n) = upcoming in

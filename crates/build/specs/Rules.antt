@@ -44,7 +44,7 @@ pub record RuleBuilt (m : Ruling) (nodes rules store : List ℕ) (index used fre
   pub texts : store′ ≡ sets store free (ruleStored rule)
 
 -- m is rules, and there is room for their records and texts
-pub record RulesRoom (m : Ruled) (us : List (Rule Span)) (nodes rules store : List ℕ) : Type 0 where
+pub record GrammarRoom (m : Ruled) (us : List (Rule Span)) (nodes rules store : List ℕ) : Type 0 where
   pub read : m ≡ Structure.rules us
   pub rows : ruleSize * length us ≤ length rules
   pub room : nodeSize * counts us ≤ length nodes

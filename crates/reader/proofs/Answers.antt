@@ -32,8 +32,8 @@ use Rattle.structure.specs.declared.Fault.{Fault}
 use Rattle.structure.specs.declared.Fault.the-variants as Fault
 use Rattle.structure.specs.declared.Refusal.{Refusal}
 use Rattle.structure.specs.declared.Why.{Why}
+use Rattle.structure.specs.Refusals.{because}
 use Rattle.structure.specs.declared.Why.the-variants.{TooLong, NotUtf8, NoToken, NotAllowed, TooDeep, Over, Zero, PeekRange, NotScalar, NotPlain, RulesRoom, NodesRoom, StoreRoom}
-use Rattle.structure.specs.declared.Refusal.the-variants as Refusal
 use Rattle.structure.specs.declared.Counted.{Counted}
 use Rattle.structure.specs.declared.Counted.the-variants as Counted
 use Rattle.structure.specs.Values.{literalBytes, literalFault, faultAt, orFault, faultsFrom, faults}
@@ -52,7 +52,7 @@ use Rattle.reader.specs.declared.Attempt.the-variants as Attempt
 use Rattle.reader.proofs.Reading.{the-type}
 use Rattle.reader.specs.Read.{roomForNodes, roomForRules, roomBy, faulty, checkedBy, refusedBy, ruledBy, judgedOf, listedOf, attemptOf, readOf, leftIn, Numbered, numberOf, numbered, reported, Leaves, AttemptLeaves}
 use Rattle.build.specs.Build.{Scalars}
-use Rattle.build.specs.Rules.{RulesRoom, RulesBuilt, ruledOf, rulesRead}
+use Rattle.build.specs.Rules.{GrammarRoom, RulesBuilt, ruledOf, rulesRead}
 use Rattle.build.proofs.Rules.{next-rule, no-rules}
 
 -- ---- room
@@ -193,23 +193,15 @@ module _ (level : Level) (s : List ℕ) where
 
 faulty-read : (f : Fault) (g : Unit {0} → Reading) {x y z : ℕ} → faulty f g ≡ Reading.Read x y z → (f ≡ Fault.Sound) × (g tt ≡ Reading.Read x y z)
 faulty-read Fault.Sound g e = (refl, e)
-faulty-read (Fault.Over p) g e = let z : _≡_ {A = ℕ} 0 1 = cc in absurd (omega arith)
-faulty-read (Fault.Zero p) g e = let z : _≡_ {A = ℕ} 0 1 = cc in absurd (omega arith)
-faulty-read (Fault.PeekRange p) g e = let z : _≡_ {A = ℕ} 0 1 = cc in absurd (omega arith)
-faulty-read (Fault.NotScalar p) g e = let z : _≡_ {A = ℕ} 0 1 = cc in absurd (omega arith)
-faulty-read (Fault.NotPlain p) g e = let z : _≡_ {A = ℕ} 0 1 = cc in absurd (omega arith)
-
-unreadable-read : (r : Refusal) {x y z : ℕ} {P : Type 0} → unreadable r ≡ Reading.Read x y z → P
-unreadable-read (Refusal.NotAllowed p) e = let z : _≡_ {A = ℕ} 0 1 = cc in absurd (omega arith)
-unreadable-read (Refusal.TooDeep p) e = let z : _≡_ {A = ℕ} 0 1 = cc in absurd (omega arith)
+faulty-read (Fault.At r) g e = let z : _≡_ {A = ℕ} 0 1 = cc in absurd (omega arith)
 
 ruled-read : (m : Ruled) (f : List (Rule Span) → Reading) {x y z : ℕ} → ruledBy m f ≡ Reading.Read x y z → (m ≡ rules (ruledOf m)) × (f (ruledOf m) ≡ Reading.Read x y z)
 ruled-read (rules us) f e = (refl, e)
-ruled-read (unruled r) f e = unreadable-read r e
+ruled-read (unruled r) f e = let z : _≡_ {A = ℕ} 0 1 = cc in absurd (omega arith)
 
 module _ (level : Level) (s ns rs st : List ℕ) where
   pub build-ready : length s ≤ 65536 → {x y z : ℕ} → judgedOf level s (roomForNodes ns) (roomForRules rs) (length st) ≡ Reading.Read x y z
-      → Scalars s × RulesRoom (grammar level s) (rulesRead level s) ns rs st
+      → Scalars s × GrammarRoom (grammar level s) (rulesRead level s) ns rs st
   unfolding judgedOf
   build-ready h e =
       let (m, e₁) = ruled-read (grammar level s) _ e in
@@ -222,40 +214,20 @@ module _ (level : Level) (s ns rs st : List ℕ) where
   unfolding leftIn
   read-left x y z ns′ rs′ st′ b = record { nodes = b .nodes-is; rules = b .rules-is; store = b .store-is }
 
-and-right : (b c : Bool) → and b c ≡ true → c ≡ true
-and-right true c h = h
-and-right false c h = let z : _≡_ {A = ℕ} 0 1 = cc in absurd (omega arith)
-
--- a case that is none of the first kind
-abbrev positives : List ℕ → Bool
-positives [] = true
-positives (k ∷ ks) = and (ltb 0 k) (positives ks)
-
-positive : (k : ℕ) (ks : List ℕ) {x : ℕ} → positives (k ∷ ks) ≡ true → OneOf (k ∷ ks) x → 0 < x
-positive k [] t h = let l = ltb-true 0 k (and-left (ltb 0 k) true t) in omega arith
-positive k (j ∷ ks) t h = ⊎-elim
-    (λ e. let l = ltb-true 0 k (and-left (ltb 0 k) (positives (j ∷ ks)) t) in omega arith)
-    (λ m. positive j ks (and-right (ltb 0 k) (positives (j ∷ ks)) t) m) h
-
--- the cases after the second
-abbrev pub later : List ℕ
-later = 2 ∷ 3 ∷ 4 ∷ 5 ∷ 6 ∷ 7 ∷ 8 ∷ 9 ∷ 10 ∷ 11 ∷ 12 ∷ 13 ∷ []
-
 -- a refusal changes nothing
-pub kept : (level : Level) (s ns rs st : List ℕ) (r : Reading) → 0 < tagOf the-type r → Leaves level s r ns rs st ns rs st
+pub kept : (level : Level) (s ns rs st : List ℕ) (r : Refusal) → Leaves level s (Reading.Refused r) ns rs st ns rs st
 unfolding leftIn
-kept level s ns rs st (Reading.Read x y z) h = absurd (omega arith)
-kept level s ns rs st (Reading.Refused r) h = record { nodes = refl; rules = refl; store = refl }
+kept level s ns rs st r = record { nodes = refl; rules = refl; store = refl }
 
 module _ (level : Level) (s ns rs st : List ℕ) (x : Reading) (n r : ℕ) (e : x ≡ judgedOf level s n r (length st)) (p : n ≡ roomForNodes ns) (q : r ≡ roomForRules rs) where
   judged-is : x ≡ judgedOf level s (roomForNodes ns) (roomForRules rs) (length st)
   judged-is = e ∙ ap (λ (k : ℕ). judgedOf level s k r (length st)) p ∙ ap (λ (k : ℕ). judgedOf level s (roomForNodes ns) k (length st)) q
 
-  pub build-kept : OneOf (1 ∷ later) (tagOf the-type x) → (x ≡ judgedOf level s (roomForNodes ns) (roomForRules rs) (length st)) × Leaves level s x ns rs st ns rs st
-  build-kept h = (judged-is, kept level s ns rs st x (positive 1 later refl h))
+  pub build-kept : (y : Refusal) → x ≡ Reading.Refused y → (x ≡ judgedOf level s (roomForNodes ns) (roomForRules rs) (length st)) × Leaves level s x ns rs st ns rs st
+  build-kept y w = (judged-is, rw w (kept level s ns rs st y))
 
   module _ {a b c : ℕ} (w : x ≡ Reading.Read a b c) where
-    pub build-room : length s ≤ 65536 → Scalars s × RulesRoom (grammar level s) (rulesRead level s) ns rs st
+    pub build-room : length s ≤ 65536 → Scalars s × GrammarRoom (grammar level s) (rulesRead level s) ns rs st
     build-room h = build-ready level s ns rs st h (sym judged-is ∙ w)
 
     pub build-read : (ns′ rs′ st′ : List ℕ) → RulesBuilt (rulesRead level s) ns rs st ns′ rs′ st′
@@ -311,13 +283,13 @@ module _ (s o₀ : List ℕ) (f : Filled) (e : f ≡ filledOf (roomOf o₀) s) w
   pub list-and-read-full : (level : Level) (ns rs st : List ℕ) (n r b : ℕ) → f ≡ Filled.Full → (Attempt.Full ≡ attemptOf (roomOf o₀) level s n r b) × AttemptLeaves level s Attempt.Full ns rs st ns rs st
   list-and-read-full level ns rs st n r b q = (sym (tried-over (roomOf o₀) level s n r b (filled-over (roomOf o₀) s (sym e ∙ q))), (refl, refl, refl))
 
-  pub list-and-read-stopped : (level : Level) (ns rs st : List ℕ) (n r b p : ℕ) → f ≡ Filled.NoToken p
-      → (Attempt.Done (refusedBy NoToken p) ≡ attemptOf (roomOf o₀) level s n r b) × AttemptLeaves level s (Attempt.Done (refusedBy NoToken p)) ns rs st ns rs st
+  pub list-and-read-stopped : (level : Level) (ns rs st : List ℕ) (n r b p : ℕ) → f ≡ Filled.NoToken p → (y : Reading) → y ≡ refusedBy NoToken p
+      → (Attempt.Done y ≡ attemptOf (roomOf o₀) level s n r b) × AttemptLeaves level s (Attempt.Done y) ns rs st ns rs st
   unfolding listedOf
-  list-and-read-stopped level ns rs st n r b p q =
+  list-and-read-stopped level ns rs st n r b p q y h =
       let w = filled-none (roomOf o₀) s p (sym e ∙ q) in
       let z : refusedBy NoToken p ≡ listedOf level s n r b = sym (ap (λ (x : Check). checkedBy x (refusedBy NoToken) (λ u. judgedOf level s n r b)) (w .1)) in
-      (ap Attempt.Done z ∙ sym (tried-fits (roomOf o₀) level s n r b (w .0)), kept level s ns rs st (refusedBy NoToken p) (omega arith))
+      (ap Attempt.Done (h ∙ z) ∙ sym (tried-fits (roomOf o₀) level s n r b (w .0)), rw h (kept level s ns rs st (because NoToken p)))
 
   module _ (n : ℕ) (q : f ≡ Filled.All n) where
     all : (length (toks s) ≤ roomOf o₀) × (n ≡ length (toks s)) × (tokensOf s .fault ≡ Check.Good)
@@ -380,9 +352,9 @@ module _ (level : Level) (s ns rs st : List ℕ) where
   unfolding reported
   met e l = record { answer = e; report = ap numbered e; left = l }
 
-  pub read-long : 65536 < length s → Meets level s ns rs st (refusedBy TooLong 0) ns rs st
+  pub read-long : 65536 < length s → (y : Reading) → y ≡ refusedBy TooLong 0 → Meets level s ns rs st y ns rs st
   unfolding readOf
-  read-long h = met (sym (choose-false (leb (length s) 65536) _ _ (lt-leb (length s) 65536 h))) (kept level s ns rs st (refusedBy TooLong 0) (omega arith))
+  read-long h y w = met (w ∙ sym (choose-false (leb (length s) 65536) _ _ (lt-leb (length s) 65536 h))) (rw w (kept level s ns rs st (because TooLong 0)))
 
   module _ (h : length s ≤ 65536) (c : Check) (e : c ≡ firstBad s) where
     by-check : {y : Check} → c ≡ y
@@ -392,8 +364,8 @@ module _ (level : Level) (s ns rs st : List ℕ) where
         sym (choose-true (leb (length s) 65536) _ _ (le-leb (length s) 65536 h)
         ∙ ap (λ (x : Check). checkedBy x (refusedBy NotUtf8) (λ u. listedOf level s (roomForNodes ns) (roomForRules rs) (length st))) (sym e ∙ q))
 
-    pub read-bad : (p : ℕ) → c ≡ Check.Bad p → Meets level s ns rs st (refusedBy NotUtf8 p) ns rs st
-    read-bad p q = met (by-check q) (kept level s ns rs st (refusedBy NotUtf8 p) (omega arith))
+    pub read-bad : (p : ℕ) → c ≡ Check.Bad p → (y : Reading) → y ≡ refusedBy NotUtf8 p → Meets level s ns rs st y ns rs st
+    read-bad p q y w = met (w ∙ by-check q) (rw w (kept level s ns rs st (because NotUtf8 p)))
 
     pub read-good : c ≡ Check.Good → (r : Reading) (ns′ rs′ st′ : List ℕ) → r ≡ listedOf level s (roomForNodes ns) (roomForRules rs) (length st) → Leaves level s r ns rs st ns′ rs′ st′
         → Meets level s ns rs st r ns′ rs′ st′

@@ -16,7 +16,7 @@ ghost use Rattle.token.specs.Table.{Lent};
 ghost use Rattle.structure.specs.Structure.{ruleFrom, grammar};
 ghost use Rattle.build.specs.Rules.{rulesRead};
 ghost use Rattle.build.specs.Build.{Scalars};
-ghost use Rattle.build.specs.Rules.{RuleRoom, RuleBuilt, RulesRoom, RulesBuilt};
+ghost use Rattle.build.specs.Rules.{RuleRoom, RuleBuilt, GrammarRoom, RulesBuilt};
 
 // Writes a rule: its name, its tree, then its record.
 fn consume_rule(
@@ -62,7 +62,7 @@ pub fn consume_rules_with_spans(
 )
     requires { ⌜ Lent (now text) (now tokens) ⌝ }
     requires { ⌜ Scalars (now text) ⌝ }
-    requires { ⌜ RulesRoom (grammar level (now text)) (rulesRead level (now text)) (now nodes) (now rules) (now store) ⌝ }
+    requires { ⌜ GrammarRoom (grammar level (now text)) (rulesRead level (now text)) (now nodes) (now rules) (now store) ⌝ }
     ensures { λ _. ⌜ RulesBuilt (rulesRead level (now (text .entry))) (now (nodes .entry)) (now (rules .entry)) (now (store .entry)) (now (nodes .exit)) (now (rules .exit)) (now (store .exit)) ⌝ }
 {
     let n = token_count(text, tokens);

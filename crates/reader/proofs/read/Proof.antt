@@ -10,8 +10,11 @@ use Rattle.reader.proofs.inner.listings.read_listed.Reads as read-liste
 use Rattle.text.proofs.first_bad.Reads as first-bad-reads
 use Rattle.text.proofs.inner.classes.classes.Reads as classes-reads
 
+refused-requires : tie.Need-refused-requires
+refused-requires c κs = search needs
+
 returns : tie.Need-returns
-returns c = let m = read-long _ _ _ _ _ (c .if1 .taken) in (m .answer, (m .report, (m .left .nodes, (m .left .rules, m .left .store))))
+returns c = let m = read-long _ _ _ _ _ (c .before .if1 .taken) _ (c .refused .ensures) in (m .answer, (m .report, (m .left .nodes, (m .left .rules, m .left .store))))
 
 first-bad-requires : tie.Need-first-bad-requires
 first-bad-requires c κs = search needs
@@ -19,12 +22,15 @@ first-bad-requires c κs = search needs
 enum-known-utf8 : tie.Need-enum-known-utf8
 enum-known-utf8 c = search needs
 
+refused-requires-2 : tie.Need-refused-requires-2
+refused-requires-2 c κs = search needs
+
 returns-2 : tie.Need-returns-2
 returns-2 c =
-    let at-utf8 = c .before in
+    let at-utf8 = c .before .before in
     let at-first-bad = at-utf8 .before .before in
     let at-if1 = at-first-bad .before in
-    let m = read-bad _ _ _ _ _ (at-if1 .if1 .left) _ (at-first-bad .first-bad .ensures) _ (at-utf8 .utf8 .given .1) in (m .answer, (m .report, (m .left .nodes, (m .left .rules, m .left .store))))
+    let m = read-bad _ _ _ _ _ (at-if1 .if1 .left) _ (at-first-bad .first-bad .ensures) _ (at-utf8 .utf8 .given .1) _ (c .refused2 .ensures) in (m .answer, (m .report, (m .left .nodes, (m .left .rules, m .left .store))))
 
 enum-told : tie.Need-enum-told
 enum-told c = search needs
@@ -76,9 +82,11 @@ pub read-spec : {M : Type 1} → statement M
 read-spec =
     tie.close
     (tie.spec
+    refused-requires
     returns
     first-bad-requires
     enum-known-utf8
+    refused-requires-2
     returns-2
     enum-told
     classes-requires

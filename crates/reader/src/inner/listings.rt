@@ -2,9 +2,11 @@
 // call, so that a size too large costs time, and each size has a function of its own, so that a small text
 // needs little stack.
 use super::phases::list_and_read;
+use super::phases::refused;
 use crate::Attempt;
 use crate::Reading;
 use structure::Level;
+use structure::Why;
 ghost use mathlib.Core.Path.{_≡_};
 ghost use Prim.Native.Nat.{_≤_};
 ghost use lib.ListN.{length};
@@ -103,6 +105,6 @@ pub fn read_listed(
     let large = try_large(t, text, level, nodes, rules, store);
     match large {
         Attempt::Done(reading) => reading,
-        Attempt::Full => Reading::TooLong,
+        Attempt::Full => refused(Why::TooLong, 0),
     }
 }

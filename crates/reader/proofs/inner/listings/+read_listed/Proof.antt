@@ -10,6 +10,7 @@ use borrow.Fn.PlainCycle.{Measures, is, falls, and}
 use Rattle.reader.proofs.inner.listings.read_listed.Reads as read-listed
 use Rattle.reader.proofs.inner.listings.read_listed.Kinds as read-listed-kinds
 use Rattle.reader.proofs.inner.listings.+read_listed.Lts-read_listed as read-listed-lts
+use Rattle.reader.proofs.inner.phases.refused.Reads as refused-reads
 use Rattle.reader.proofs.inner.listings.try_large.Reads as try-large-reads
 use Rattle.reader.proofs.inner.listings.try_middle.Reads as try-middle-reads
 use Rattle.reader.proofs.inner.listings.try_small.Reads as try-small-reads
@@ -29,7 +30,7 @@ read-listed-below t =
 
 -- a need of `read-listed`, or a place of its code, at the measure t
 abbrev of-read-listed : ((k : read-listed-lts.Claims) (p : In 5 read-listed-kinds.ps) (q : Out 5 read-listed-kinds.ps read-listed-kinds.r) → Type 0) → ℕ → Type 0
-of-read-listed N t = N (try-small-reads.Asked, try-small-reads.Learnt, read-listed-below t, read-listed.Post, try-middle-reads.Asked, try-middle-reads.Learnt, try-large-reads.Asked, try-large-reads.Learnt) (read-listed-at t) read-listed.Post
+of-read-listed N t = N (try-small-reads.Asked, try-small-reads.Learnt, read-listed-below t, read-listed.Post, try-middle-reads.Asked, try-middle-reads.Learnt, try-large-reads.Asked, try-large-reads.Learnt, refused-reads.Asked, refused-reads.Learnt) (read-listed-at t) read-listed.Post
 
 read-listed-try-small-requires : (t : ℕ) → of-read-listed read-listed-lts.Need-try-small-requires t
 read-listed-try-small-requires t c κs =
@@ -138,6 +139,9 @@ read-listed-enum-known-large t c = search needs
 read-listed-enum-told-3 : (t : ℕ) → of-read-listed read-listed-lts.Need-enum-told-3 t
 read-listed-enum-told-3 t c = search needs
 
+read-listed-refused-requires : (t : ℕ) → of-read-listed read-listed-lts.Need-refused-requires t
+read-listed-refused-requires t c κs = search needs
+
 read-listed-same-length-13 : (t : ℕ) → of-read-listed read-listed-lts.Need-same-length-13 t
 read-listed-same-length-13 t c = search needs
 
@@ -164,9 +168,9 @@ read-listed-same-length-18 t c = search needs
 
 read-listed-returns-6 : (t : ℕ) → of-read-listed read-listed-lts.Need-returns-6 t
 read-listed-returns-6 t c =
-    let at-try-large = c .before .before .before .before .before .before .before .before in
+    let at-try-large = c .before .before .before .before .before .before .before .before .before in
     let start = at-try-large .before .before .before .before .before .before .before .before .before .before in
-    absurd (tried-all 65536 _ _ _ _ _ (start .pre .1 .1) (at-try-large .try-large .ensures .0) (c .enum-told3 .given .1))
+    absurd (tried-all 65536 _ _ _ _ _ (start .pre .1 .1) (at-try-large .try-large .ensures .0) (c .before .enum-told3 .given .1))
 
 pub +read-listed-spec : {M : Type 1} → statement M
 +read-listed-spec = close μ-read-listed λ t. read-listed-lts.spec (
@@ -178,6 +182,8 @@ pub +read-listed-spec : {M : Type 1} → statement M
   try-middle-reads.Learnt,
   try-large-reads.Asked,
   try-large-reads.Learnt,
+  refused-reads.Asked,
+  refused-reads.Learnt,
 )
     (read-listed-at t)
     read-listed.Post
@@ -208,6 +214,7 @@ pub +read-listed-spec : {M : Type 1} → statement M
     (read-listed-try-large-requires t)
     (read-listed-enum-known-large t)
     (read-listed-enum-told-3 t)
+    (read-listed-refused-requires t)
     (read-listed-same-length-13 t)
     (read-listed-same-length-14 t)
     (read-listed-same-length-15 t)

@@ -27,6 +27,9 @@ consume-rules-with-spans-requires c κs =
     let g = build-room _ _ _ _ _ _ _ _ (at-judge .judge .ensures) (at-room-of .room-of .ensures) (at-room-of2 .room-of2 .ensures) (at-enum-told .enum-told .given .1) (start .pre .short) in
     (start .pre, (g .0, g .1))
 
+enum-told-2 : tie.Need-enum-told-2
+enum-told-2 c = search needs
+
 same-length : tie.Need-same-length
 same-length c = search needs
 
@@ -46,7 +49,10 @@ returns c =
     build-read _ _ _ _ _ _ _ _ (at-judge .judge .ensures) (at-room-of .room-of .ensures) (at-room-of2 .room-of2 .ensures) (at-enum-told .enum-told .given .1) _ _ _ (at-consume-rules-with-spans .consume-rules-with-spans .ensures)
 
 returns-2 : tie.Need-returns-2
-returns-2 c = build-kept _ _ _ _ _ _ _ _ (c .before .judge .ensures) (c .before .before .before .room-of .ensures) (c .before .before .room-of2 .ensures) (c .match .keys2)
+returns-2 c =
+    let at-judge = c .before .before in
+    let at-room-of2 = at-judge .before in
+    build-kept _ _ _ _ _ _ _ _ (at-judge .judge .ensures) (at-room-of2 .before .room-of .ensures) (at-room-of2 .room-of2 .ensures) _ (c .enum-told2 .given .1)
 
 pub judge-and-build-spec : {M : Type 1} → statement M
 judge-and-build-spec =
@@ -57,6 +63,7 @@ judge-and-build-spec =
     judge-requires
     enum-told
     consume-rules-with-spans-requires
+    enum-told-2
     same-length
     same-length-2
     same-length-3

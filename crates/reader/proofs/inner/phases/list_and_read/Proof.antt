@@ -20,6 +20,9 @@ enum-told c = search needs
 enum-known-filled : tie.Need-enum-known-filled
 enum-known-filled c = search needs
 
+refused-requires : tie.Need-refused-requires
+refused-requires c κs = search needs
+
 enum-known-filled-2 : tie.Need-enum-known-filled-2
 enum-known-filled-2 c = search needs
 
@@ -66,10 +69,10 @@ same-length-2 c = search needs
 
 returns-2 : tie.Need-returns-2
 returns-2 c =
-    let at-filled = c .before in
+    let at-filled = c .before .before in
     let at-fill = at-filled .before .before .before .before in
     let start = at-fill .before .before .before .before .before .before .before in
-    list-and-read-stopped (now (start .args .text)) (now (start .args .tokens)) _ (at-fill .fill .ensures .0) _ _ _ _ _ _ _ _ (at-filled .filled .given .1)
+    list-and-read-stopped (now (start .args .text)) (now (start .args .tokens)) _ (at-fill .fill .ensures .0) _ _ _ _ _ _ _ _ (at-filled .filled .given .1) _ (c .refused .ensures)
 
 same-length-3 : tie.Need-same-length-3
 same-length-3 c = search needs
@@ -98,6 +101,7 @@ list-and-read-spec =
     fill-requires
     enum-told
     enum-known-filled
+    refused-requires
     enum-known-filled-2
     mul-m
     slice-reshare-prefix-judge-and-build
