@@ -49,7 +49,7 @@ use Rattle.reader.specs.declared.Reading.{Reading}
 use Rattle.reader.specs.declared.Reading.the-variants as Reading
 use Rattle.reader.specs.declared.Attempt.{Attempt}
 use Rattle.reader.specs.declared.Attempt.the-variants as Attempt
-use Rattle.reader.proofs.Reading.{the-type}
+use Rattle.reader.proofs.Counts.{judged-counts}
 use Rattle.reader.specs.Read.{roomForNodes, roomForRules, roomBy, faulty, checkedBy, refusedBy, ruledBy, judgedOf, listedOf, attemptOf, readOf, leftIn, Numbered, numberOf, numbered, reported, Leaves, AttemptLeaves}
 use Rattle.build.specs.Build.{Scalars}
 use Rattle.build.specs.Rules.{GrammarRoom, RulesBuilt, ruledOf, rulesRead}
@@ -74,16 +74,7 @@ module _ (k c z n r b : ℕ) where
     pub room : c ≤ n → z ≤ b → Reading.Read c k z ≡ roomBy k c z n r b
     unfolding roomBy
     room g f = rw (le-leb k r h, le-leb c n g, le-leb z b f)
-
-  -- what is read has room
-  pub has-room : {x y w : ℕ} → roomBy k c z n r b ≡ Reading.Read x y w → (k ≤ r) × (c ≤ n) × (z ≤ b)
-  unfolding roomBy
-  has-room =
-      split (leb k r) _ _
-      (λ e. split (leb c n) _ _
-      (λ f. split (leb z b) _ _ (λ g q. (leb-true k r e, leb-true c n f, leb-true z b g)) (λ g q. let z : _≡_ {A = ℕ} 0 1 = cc in absurd (omega arith)))
-      (λ f q. let z : _≡_ {A = ℕ} 0 1 = cc in absurd (omega arith)))
-      (λ e q. let z : _≡_ {A = ℕ} 0 1 = cc in absurd (omega arith))
+    -- what is read has room
 
 -- ---- structure, values, room
 
@@ -191,24 +182,15 @@ module _ (level : Level) (s : List ℕ) where
 
 -- ---- what is read is built
 
-faulty-read : (f : Fault) (g : Unit {0} → Reading) {x y z : ℕ} → faulty f g ≡ Reading.Read x y z → (f ≡ Fault.Sound) × (g tt ≡ Reading.Read x y z)
-faulty-read Fault.Sound g e = (refl, e)
-faulty-read (Fault.At r) g e = let z : _≡_ {A = ℕ} 0 1 = cc in absurd (omega arith)
-
-ruled-read : (m : Ruled) (f : List (Rule Span) → Reading) {x y z : ℕ} → ruledBy m f ≡ Reading.Read x y z → (m ≡ rules (ruledOf m)) × (f (ruledOf m) ≡ Reading.Read x y z)
-ruled-read (rules us) f e = (refl, e)
-ruled-read (unruled r) f e = let z : _≡_ {A = ℕ} 0 1 = cc in absurd (omega arith)
-
 module _ (level : Level) (s ns rs st : List ℕ) where
   pub build-ready : length s ≤ 65536 → {x y z : ℕ} → judgedOf level s (roomForNodes ns) (roomForRules rs) (length st) ≡ Reading.Read x y z
       → Scalars s × GrammarRoom (grammar level s) (rulesRead level s) ns rs st
-  unfolding judgedOf
   build-ready h e =
-      let (m, e₁) = ruled-read (grammar level s) _ e in
-      let (f, e₂) = faulty-read (faults level s) _ e₁ in
-      let (a, b, c) = has-room (length (rulesRead level s)) (counts (rulesRead level s)) (length (rulesStored (rulesRead level s))) (roomForNodes ns) (roomForRules rs) (length st) e₂ in
-      let d = small level s h (rulesRead level s) m in
-      (sound-scalars level s f, record { read = m; rows = omega arith; room = omega arith; few = omega arith; fits = c; low = omega arith })
+      let c = judged-counts level s (roomForNodes ns) (roomForRules rs) (length st) e in
+      let a = c .nodes-fit in
+      let b = c .rules-fit in
+      let d = small level s h (rulesRead level s) (c .read) in
+      (sound-scalars level s (c .sound), record { read = c .read; rows = omega arith; room = omega arith; few = omega arith; fits = c .store-fits; low = omega arith })
 
   pub read-left : (x y z : ℕ) (ns′ rs′ st′ : List ℕ) → RulesBuilt (rulesRead level s) ns rs st ns′ rs′ st′ → Leaves level s (Reading.Read x y z) ns rs st ns′ rs′ st′
   unfolding leftIn

@@ -1,2 +1,3 @@
--- The laws of the reader's phases.
+-- The laws of the reader's phases, and what a reading that succeeded has.
 pub mod Answers
+pub mod Counts
