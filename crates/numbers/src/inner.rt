@@ -1,6 +1,7 @@
 // What each function answers, in the numbers that a caller in C is given; and the other way, what it gives.
 use printer::Printed;
 use reader::Reading;
+use reader::number_of;
 use replies::Finding;
 use replies::Row;
 use replies::Tally;
@@ -32,19 +33,10 @@ pub fn read_numbers(reading: Reading) -> [u64; 5]
 {
     match reading {
         Reading::Read(n, r, b) => [0, 0, n as u64, r as u64, b as u64],
-        Reading::TooLong => [1, 0, 0, 0, 0],
-        Reading::NotUtf8(place) => [2, place as u64, 0, 0, 0],
-        Reading::NoToken(place) => [3, place as u64, 0, 0, 0],
-        Reading::NotAllowed(place) => [4, place as u64, 0, 0, 0],
-        Reading::TooDeep(place) => [9, place as u64, 0, 0, 0],
-        Reading::Over(place) => [5, place as u64, 0, 0, 0],
-        Reading::Zero(place) => [6, place as u64, 0, 0, 0],
-        Reading::PeekRange(place) => [7, place as u64, 0, 0, 0],
-        Reading::NotScalar(place) => [8, place as u64, 0, 0, 0],
-        Reading::NotPlain(place) => [13, place as u64, 0, 0, 0],
-        Reading::RulesRoom => [12, 0, 0, 0, 0],
-        Reading::NodesRoom => [10, 0, 0, 0, 0],
-        Reading::StoreRoom => [11, 0, 0, 0, 0],
+        Reading::Refused(refusal) => {
+            let why = refusal.why;
+            [number_of(why), refusal.place as u64, 0, 0, 0]
+        }
     }
 }
 
