@@ -73,7 +73,7 @@ unfolding Build.suffixOf
 build-opened = tt
 
 unfoldable pub reader-opened : Unit {0}
-unfolding Read.roomBy Read.listedOf Read.judgedOf Read.readOf Read.leftIn Read.numbered
+unfolding Read.roomBy Read.listedOf Read.judgedOf Read.readOf Read.leftIn Read.numberOf Read.numbered
 reader-opened = tt
 
 unfoldable pub links-opened : Unit {0}

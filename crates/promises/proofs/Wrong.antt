@@ -3,7 +3,6 @@ use Prim.Native.Nat.{ℕ}
 use mathlib.Core.Path.{_≡_, refl, sym, ap, _∙_}
 use mathlib.Core.List.{List, [], _∷_, map}
 use native.Mathlib.Omega.{arith}
-use lib.Dec.{leb}
 use lib.ListN.{length, getD}
 use Rattle.table.specs.Tree.{Span, Tree, Rule, Nowhere, count, counts, rulesStored}
 use Rattle.table.specs.Flat.{nodesOf, recordsOf}
@@ -13,19 +12,10 @@ use Rattle.printer.specs.Answers.{printOf, printIn}
 use Rattle.structure.specs.declared.Level.{Level}
 use Rattle.structure.specs.declared.Level.the-variants.{Tagged}
 use Rattle.reader.specs.declared.Reading.{Reading}
-use Rattle.structure.specs.declared.Fault.{Fault}
-use Rattle.structure.specs.declared.Fault.the-variants as Fault
-use Rattle.structure.specs.declared.Refusal.the-variants as Refusal
-use Rattle.structure.specs.Structure.{Ruled, rules, unruled, grammar}
-use Rattle.structure.specs.Values.{faults}
-use Rattle.text.specs.declared.Check.{Check}
-use Rattle.text.specs.declared.Check.the-variants as Check
-use Rattle.text.specs.Utf8.{firstBad}
-use Rattle.text.proofs.Tests.{choose-by}
-use Rattle.token.specs.Lists.{tokensOf}
 use Rattle.reader.specs.declared.Reading.the-variants as Reading
-use Rattle.reader.specs.Read.{numbered, readOf, listedOf, judgedOf, roomBy, roomFor, faulty, ruledBy, checkedBy}
-use Rattle.build.specs.Rules.{rulesRead, ruledOf}
+use Rattle.reader.specs.Read.{numbered, readOf}
+use Rattle.reader.proofs.Counts.{read-counts}
+use Rattle.build.specs.Rules.{rulesRead}
 use Rattle.promises.specs.Twelve.{ascii, treesOf}
 use Rattle.promises.proofs.Opened.{opened}
 
@@ -148,43 +138,6 @@ never-brackets none =
 
 -- ---- a made-up number of used records: the counts are those of the defined rules
 
-module _ (level : Level) (s : List ℕ) (n r b x y z : ℕ) where
-  abbrev pub Counts : List (Rule Span) → Type 0
-  Counts us = (x ≡ counts us) × (y ≡ length us) × (z ≡ length (rulesStored us))
-
-  by-room : (us : List (Rule Span)) → roomFor us n r b ≡ Reading.Read x y z → Counts us
-  unfolding roomBy
-  by-room us =
-      choose-by (λ (k : Reading). k ≡ Reading.Read x y z → Counts us) (leb (length us) r) _ _
-      (λ _. choose-by (λ (k : Reading). k ≡ Reading.Read x y z → Counts us) (leb (counts us) n) _ _
-      (λ _. choose-by (λ (k : Reading). k ≡ Reading.Read x y z → Counts us) (leb (length (rulesStored us)) b) _ _
-      (λ _ e. (cc, cc, cc)) (λ _ e. let k : _≡_ {A = ℕ} 0 1 = cc in absurd (omega arith)))
-      (λ _ e. let k : _≡_ {A = ℕ} 0 1 = cc in absurd (omega arith)))
-      (λ _ e. let k : _≡_ {A = ℕ} 0 1 = cc in absurd (omega arith))
-
-  by-faults : (us : List (Rule Span)) (f : Fault) → faulty f (λ u. roomFor us n r b) ≡ Reading.Read x y z → Counts us
-  by-faults us Fault.Sound e = by-room us e
-  by-faults us (Fault.Over p) e = let k : _≡_ {A = ℕ} 0 1 = cc in absurd (omega arith)
-  by-faults us (Fault.Zero p) e = let k : _≡_ {A = ℕ} 0 1 = cc in absurd (omega arith)
-  by-faults us (Fault.PeekRange p) e = let k : _≡_ {A = ℕ} 0 1 = cc in absurd (omega arith)
-  by-faults us (Fault.NotScalar p) e = let k : _≡_ {A = ℕ} 0 1 = cc in absurd (omega arith)
-  by-faults us (Fault.NotPlain p) e = let k : _≡_ {A = ℕ} 0 1 = cc in absurd (omega arith)
-
-  by-rules : (u : Ruled) → ruledBy u (λ us. faulty (faults level s) (λ u. roomFor us n r b)) ≡ Reading.Read x y z → Counts (ruledOf u)
-  by-rules (rules us) e = by-faults us (faults level s) e
-  by-rules (unruled (Refusal.NotAllowed p)) e = let k : _≡_ {A = ℕ} 0 1 = cc in absurd (omega arith)
-  by-rules (unruled (Refusal.TooDeep p)) e = let k : _≡_ {A = ℕ} 0 1 = cc in absurd (omega arith)
-
-  by-check : (c : Check) (f : ℕ → Reading) → ((p : ℕ) → f p ≡ Reading.Read x y z → ⊥) → (g : Unit {0} → Reading) → checkedBy c f g ≡ Reading.Read x y z → g tt ≡ Reading.Read x y z
-  by-check Check.Good f never g e = e
-  by-check (Check.Bad p) f never g e = absurd (never p e)
-
-  pub made-up : readOf level s n r b ≡ Reading.Read x y z → Counts (rulesRead level s)
-  unfolding readOf listedOf judgedOf
-  made-up =
-      choose-by (λ (k : Reading). k ≡ Reading.Read x y z → Counts (rulesRead level s)) (leb (length s) 65536) _ _
-      (λ _ e.
-      by-rules (grammar level s)
-      (by-check (tokensOf s .fault) Reading.NoToken (λ p h. let k : _≡_ {A = ℕ} 0 1 = cc in absurd (omega arith)) _
-      (by-check (firstBad s) Reading.NotUtf8 (λ p h. let k : _≡_ {A = ℕ} 0 1 = cc in absurd (omega arith)) _ e)))
-      (λ _ e. let k : _≡_ {A = ℕ} 0 1 = cc in absurd (omega arith))
+pub made-up : (level : Level) (s : List ℕ) (n r b x y z : ℕ) → readOf level s n r b ≡ Reading.Read x y z
+    → (x ≡ counts (rulesRead level s)) × (y ≡ length (rulesRead level s)) × (z ≡ length (rulesStored (rulesRead level s)))
+made-up level s n r b x y z e = let c = read-counts level s n r b e in (c .nodes-are, c .rules-are, c .store-is)

@@ -1,3 +1,4 @@
--- The laws of the reader's phases, and what a reading that succeeded has.
+-- The laws of the reader's phases, what a reading that succeeded has, and why one is refused.
 pub mod Answers
 pub mod Counts
+pub mod Reasons

@@ -11,3 +11,4 @@ pub mod Cycle
 pub mod Rules
 pub mod Faults
 pub mod Cases
+pub mod Reasons

@@ -23,7 +23,7 @@ use Rattle.structure.specs.declared.Level.the-variants.{Tagged, Plain}
 use Rattle.structure.specs.declared.Fault.{Fault}
 use Rattle.structure.specs.declared.Fault.the-variants.{Sound, At}
 use Rattle.structure.specs.declared.Why.the-variants.{Over, Zero, PeekRange, NotScalar, NotPlain}
-use Rattle.structure.specs.Refusals.{because}
+use Rattle.structure.specs.Refusals.{faultBy}
 use Rattle.structure.specs.Tokens.{spells}
 
 abbrev pub valueOf : Decimal → ℕ
@@ -77,25 +77,25 @@ character s i = charBy (escapeOf (literalBytes s i)) (literalBytes s i)
 -- a repeat number: over 4,294,967,295, or 0 where it is an exact count or a maximum, since `}` follows
 abbrev pub repeatFault : List ℕ → ℕ → Decimal → Fault
 repeatFault s i Decimal.NotDigits = Sound
-repeatFault s i Decimal.Over = At (because Over (start s i))
-repeatFault s i (Decimal.Is zero) = choose (is s (i + 1) 3) (λ u. At (because Zero (start s i))) (λ u. Sound)
+repeatFault s i Decimal.Over = faultBy Over (start s i)
+repeatFault s i (Decimal.Is zero) = choose (is s (i + 1) 3) (λ u. faultBy Zero (start s i)) (λ u. Sound)
 repeatFault s i (Decimal.Is (suc n)) = Sound
 
 -- a PEEK number outside i32
 abbrev pub peekFault : List ℕ → ℕ → Decimal → Fault
 peekFault s i (Decimal.Is n) = Sound
-peekFault s i Decimal.Over = At (because PeekRange (start s i))
+peekFault s i Decimal.Over = faultBy PeekRange (start s i)
 peekFault s i Decimal.NotDigits = Sound
 
 -- an escape of a surrogate or above U+10FFFF, at its backslash
 abbrev pub literalFault : List ℕ → ℕ → Check → Fault
 literalFault s i Check.Good = Sound
-literalFault s i (Check.Bad k) = At (because NotScalar (start s i + opening s i + k))
+literalFault s i (Check.Bad k) = faultBy NotScalar (start s i + opening s i + k)
 
 -- plain only: PUSH_LITERAL
 abbrev pub wordFault : Level → List ℕ → ℕ → Fault
 wordFault Tagged s i = Sound
-wordFault Plain s i = choose (spells pushLiteral s i) (λ u. At (because NotPlain (start s i))) (λ u. Sound)
+wordFault Plain s i = choose (spells pushLiteral s i) (λ u. faultBy NotPlain (start s i)) (λ u. Sound)
 
 -- a number after `[` or `..` stands in a PEEK slice
 abbrev pub numberFault : List ℕ → ℕ → ℕ → Fault
