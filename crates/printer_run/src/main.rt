@@ -3,13 +3,13 @@
 // on lines of its own the text. A small letter at a line's front asks for the full text, a capital for the
 // short one.
 use forms::Style;
-use printer::Printed;
 ghost use Prim.Native.Nat.{_≤_};
 ghost use Rattle.io.specs.Counts.{Counts};
 
-fn answer(number: usize, place: usize, used: usize, out: &[u8]) {
-    vectors::write_number(number);
-    vectors::write_number(place);
+fn answer(told: &[u64; 3], out: &[u8]) {
+    let used = told[2] as usize;
+    vectors::write_number(told[0] as usize);
+    vectors::write_number(told[1] as usize);
     vectors::write_number(used);
     vectors::write_number(vectors::bytes_alone(out, used));
     vectors::write(b"\n");
@@ -27,17 +27,8 @@ fn run_print(
     room: usize,
     out: &mut [u8],
 ) {
-    if out.len() < room {
-        return;
-    }
-    let printed = printer::print(style, nodes, rules, store, &mut out[..room]);
-    match printed {
-        Printed::Used(n) => answer(0, 0, n, out),
-        Printed::Shape => answer(20, 0, 0, out),
-        Printed::Node(i) => answer(21, i, 0, out),
-        Printed::Rule(k) => answer(22, k, 0, out),
-        Printed::NoRoom => answer(23, 0, 0, out),
-    }
+    let told = lending::print_within(style, nodes, rules, store, room, out);
+    answer(&told, out);
 }
 
 fn turn(i: usize) -> u32 {

@@ -3,7 +3,6 @@
 // many times, and what in hex. It is written again with what came of it: number, place, the nodes,
 // rules and store bytes used, how many numbers or bytes of each whole buffer still stand at what was
 // there before, then what was used of each (of the longer ones a sum).
-use reader::Reading;
 use structure::Level;
 use table::inner::records::NODE_SIZE;
 use table::inner::records::RULE_SIZE;
@@ -28,29 +27,22 @@ fn write_bytes(s: &[u8]) {
     vectors::write_hex(s);
 }
 
-fn answer(
-    number: usize,
-    place: usize,
-    used: usize,
-    count: usize,
-    bytes: usize,
-    nodes: &[u32],
-    rules: &[u32],
-    store: &[u8],
-) {
-    vectors::write_number(number);
-    vectors::write_number(place);
-    vectors::write_number(used);
-    vectors::write_number(count);
-    vectors::write_number(bytes);
-    if 5000 < used {
+// Number, place and counts; what stands behind what was used; what was used.
+fn answer(told: &[u64; 5], nodes: &[u32], rules: &[u32], store: &[u8]) {
+    vectors::write_number(told[0] as usize);
+    vectors::write_number(told[1] as usize);
+    vectors::write_number(told[2] as usize);
+    vectors::write_number(told[3] as usize);
+    vectors::write_number(told[4] as usize);
+    if 5000 < told[2] {
         return;
     }
-    if 5000 < count {
+    if 5000 < told[3] {
         return;
     }
-    let n = NODE_SIZE * used;
-    let m = RULE_SIZE * count;
+    let n = NODE_SIZE * told[2] as usize;
+    let m = RULE_SIZE * told[3] as usize;
+    let bytes = told[4] as usize;
     if nodes.len() < n {
         return;
     }
@@ -66,50 +58,6 @@ fn answer(
     write_numbers(&nodes[..n]);
     write_numbers(&rules[..m]);
     write_bytes(&store[..bytes]);
-}
-
-fn run_read(
-    text: &[u8],
-    level: Level,
-    n: usize,
-    m: usize,
-    k: usize,
-    nodes: &mut [u32],
-    rules: &mut [u32],
-    store: &mut [u8],
-) {
-    if nodes.len() < n {
-        return;
-    }
-    if rules.len() < m {
-        return;
-    }
-    if store.len() < k {
-        return;
-    }
-    let reading = reader::read(
-        text,
-        level,
-        &mut nodes[..n],
-        &mut rules[..m],
-        &mut store[..k],
-    );
-    match reading {
-        Reading::Read(a, b, c) => answer(0, 0, a, b, c, nodes, rules, store),
-        Reading::TooLong => answer(1, 0, 0, 0, 0, nodes, rules, store),
-        Reading::NotUtf8(p) => answer(2, p, 0, 0, 0, nodes, rules, store),
-        Reading::NoToken(p) => answer(3, p, 0, 0, 0, nodes, rules, store),
-        Reading::NotAllowed(p) => answer(4, p, 0, 0, 0, nodes, rules, store),
-        Reading::TooDeep(p) => answer(9, p, 0, 0, 0, nodes, rules, store),
-        Reading::Over(p) => answer(5, p, 0, 0, 0, nodes, rules, store),
-        Reading::Zero(p) => answer(6, p, 0, 0, 0, nodes, rules, store),
-        Reading::PeekRange(p) => answer(7, p, 0, 0, 0, nodes, rules, store),
-        Reading::NotScalar(p) => answer(8, p, 0, 0, 0, nodes, rules, store),
-        Reading::NotPlain(p) => answer(13, p, 0, 0, 0, nodes, rules, store),
-        Reading::RulesRoom => answer(12, 0, 0, 0, 0, nodes, rules, store),
-        Reading::NodesRoom => answer(10, 0, 0, 0, 0, nodes, rules, store),
-        Reading::StoreRoom => answer(11, 0, 0, 0, 0, nodes, rules, store),
-    }
 }
 
 fn level_of(b: u8) -> Level {
@@ -144,7 +92,7 @@ fn run_line(line: &[u8]) {
         return;
     }
     let long = vectors::pieces(line, f, &mut text);
-    run_read(
+    let told = lending::read_within(
         &text[..long],
         level_of(line[at]),
         n,
@@ -154,6 +102,7 @@ fn run_line(line: &[u8]) {
         &mut rules,
         &mut store,
     );
+    answer(&told, &nodes, &rules, &store);
     vectors::write(b"\n");
 }
 

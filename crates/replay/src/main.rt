@@ -18,8 +18,6 @@
 //
 // The input is read in blocks of 65,536 bytes, and no line lies in two of them: empty lines fill a block up.
 use forms::Style;
-use printer::Printed;
-use reader::Reading;
 use structure::Level;
 use table::inner::records::NODE_SIZE;
 use table::inner::records::RULE_SIZE;
@@ -72,7 +70,6 @@ fn answer_read(
     rules: &[u32],
     store: &[u8],
 ) {
-    write_five(0, 0, used, count, bytes);
     if 5000 < used {
         return;
     }
@@ -96,56 +93,22 @@ fn answer_read(
     write_changed(vectors::bytes_alone(store, bytes) != store.len() - bytes);
 }
 
-fn answer_refused(number: usize, place: usize, nodes: &[u32], rules: &[u32], store: &[u8]) {
-    write_five(number, place, 0, 0, 0);
+fn answer_refused(nodes: &[u32], rules: &[u32], store: &[u8]) {
     write_changed(vectors::numbers_alone(nodes, 0) != nodes.len());
     write_changed(vectors::numbers_alone(rules, 0) != rules.len());
     write_changed(vectors::bytes_alone(store, 0) != store.len());
 }
 
-fn run_read(
-    text: &[u8],
-    level: Level,
-    long: bool,
-    n: usize,
-    m: usize,
-    k: usize,
-    nodes: &mut [u32],
-    rules: &mut [u32],
-    store: &mut [u8],
-) {
-    if nodes.len() < n {
+fn answer_text(told: &[u64; 5], long: bool, nodes: &[u32], rules: &[u32], store: &[u8]) {
+    let used = told[2] as usize;
+    let count = told[3] as usize;
+    let bytes = told[4] as usize;
+    write_five(told[0] as usize, told[1] as usize, used, count, bytes);
+    if told[0] == 0 {
+        answer_read(used, count, bytes, long, nodes, rules, store);
         return;
     }
-    if rules.len() < m {
-        return;
-    }
-    if store.len() < k {
-        return;
-    }
-    let reading = reader::read(
-        text,
-        level,
-        &mut nodes[..n],
-        &mut rules[..m],
-        &mut store[..k],
-    );
-    match reading {
-        Reading::Read(a, b, c) => answer_read(a, b, c, long, nodes, rules, store),
-        Reading::TooLong => answer_refused(1, 0, nodes, rules, store),
-        Reading::NotUtf8(p) => answer_refused(2, p, nodes, rules, store),
-        Reading::NoToken(p) => answer_refused(3, p, nodes, rules, store),
-        Reading::NotAllowed(p) => answer_refused(4, p, nodes, rules, store),
-        Reading::TooDeep(p) => answer_refused(9, p, nodes, rules, store),
-        Reading::Over(p) => answer_refused(5, p, nodes, rules, store),
-        Reading::Zero(p) => answer_refused(6, p, nodes, rules, store),
-        Reading::PeekRange(p) => answer_refused(7, p, nodes, rules, store),
-        Reading::NotScalar(p) => answer_refused(8, p, nodes, rules, store),
-        Reading::NotPlain(p) => answer_refused(13, p, nodes, rules, store),
-        Reading::RulesRoom => answer_refused(12, 0, nodes, rules, store),
-        Reading::NodesRoom => answer_refused(10, 0, nodes, rules, store),
-        Reading::StoreRoom => answer_refused(11, 0, nodes, rules, store),
-    }
+    answer_refused(nodes, rules, store);
 }
 
 fn run_next(text: &[u8], at: usize) {
@@ -165,39 +128,16 @@ fn write_three(number: usize, place: usize, used: usize) {
     vectors::write_number(used);
 }
 
-fn answer_printed(used: usize, out: &[u8]) {
-    write_three(0, 0, used);
+fn answer_printed(told: &[u64; 3], out: &[u8]) {
+    let used = told[2] as usize;
+    write_three(told[0] as usize, told[1] as usize, used);
     if out.len() < used {
         return;
     }
-    write_bytes(&out[..used]);
+    if told[0] == 0 {
+        write_bytes(&out[..used]);
+    }
     write_changed(vectors::bytes_alone(out, used) != out.len() - used);
-}
-
-fn answer_unprinted(number: usize, place: usize, out: &[u8]) {
-    write_three(number, place, 0);
-    write_changed(vectors::bytes_alone(out, 0) != out.len());
-}
-
-fn run_print(
-    style: Style,
-    nodes: &[u32],
-    rules: &[u32],
-    store: &[u8],
-    room: usize,
-    out: &mut [u8],
-) {
-    if out.len() < room {
-        return;
-    }
-    let printed = printer::print(style, nodes, rules, store, &mut out[..room]);
-    match printed {
-        Printed::Used(n) => answer_printed(n, out),
-        Printed::Shape => answer_unprinted(20, 0, out),
-        Printed::Node(i) => answer_unprinted(21, i, out),
-        Printed::Rule(k) => answer_unprinted(22, k, out),
-        Printed::NoRoom => answer_unprinted(23, 0, out),
-    }
 }
 
 fn text_of(s: &[u8], long: bool, out: &mut [u8]) -> usize
@@ -235,10 +175,9 @@ fn run_text(line: &[u8], from: usize, level: Level, long: bool) {
     let m = vectors::number(&line[e..f]) as usize;
     let k = vectors::number(&line[g..h]) as usize;
     let used = text_of(&line[a..b], long, &mut text);
-    run_read(
+    let told = lending::read_within(
         &text[..used],
         level,
-        long,
         n,
         m,
         k,
@@ -246,6 +185,7 @@ fn run_text(line: &[u8], from: usize, level: Level, long: bool) {
         &mut rules,
         &mut store,
     );
+    answer_text(&told, long, &nodes, &rules, &store);
 }
 
 fn run_lister(line: &[u8], from: usize, at: usize, long: bool) {
@@ -274,7 +214,8 @@ fn run_tables(style: Style, line: &[u8], from: usize, room: usize) {
     let n = vectors::numbers(&line[a..b], &mut nodes);
     let m = vectors::numbers(&line[c..d], &mut rules);
     let k = vectors::unhex(&line[e..f], &mut store);
-    run_print(style, &nodes[..n], &rules[..m], &store[..k], room, &mut out);
+    let told = lending::print_within(style, &nodes[..n], &rules[..m], &store[..k], room, &mut out);
+    answer_printed(&told, &out);
 }
 
 fn write_wide(v: u64) {

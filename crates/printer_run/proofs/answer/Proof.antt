@@ -1,13 +1,22 @@
--- The text is written only where `used` is at most the output's length, so it lies in the output; nothing has to be known of `used`.
-use lib.Seq.{length-take-le}
-use mathlib.Core.Path.{sym}
+-- No more is cut than the output has.
 use native.Mathlib.Omega.{arith}
+use mathlib.Core.Path.{sym}
+use lib.Seq.{length-take-le}
 use borrow.Author.Needs.{needs}
 use Rattle.printer_run.proofs.answer.Statement.{statement}
 use Rattle.printer_run.proofs.answer.Tie as tie
 
+element-copy-out-used : tie.Need-element-copy-out-used
+element-copy-out-used c = search needs
+
+element-copy-out-write-number : tie.Need-element-copy-out-write-number
+element-copy-out-write-number c = search needs
+
 write-number-requires : tie.Need-write-number-requires
 write-number-requires c κs = search needs
+
+element-copy-out-write-number-2 : tie.Need-element-copy-out-write-number-2
+element-copy-out-write-number-2 c = search needs
 
 write-number-requires-2 : tie.Need-write-number-requires-2
 write-number-requires-2 c κs = search needs
@@ -43,7 +52,10 @@ pub answer-spec : {M : Type 1} → statement M
 answer-spec =
     tie.close
     (tie.spec
+    element-copy-out-used
+    element-copy-out-write-number
     write-number-requires
+    element-copy-out-write-number-2
     write-number-requires-2
     write-number-requires-3
     bytes-alone-requires

@@ -7,32 +7,62 @@ use borrow.Author.Needs.{needs}
 use Rattle.reader_run.proofs.answer.Statement.{statement}
 use Rattle.reader_run.proofs.answer.Tie as tie
 
+element-copy-out-write-number : tie.Need-element-copy-out-write-number
+element-copy-out-write-number c = search needs
+
 write-number-requires : tie.Need-write-number-requires
 write-number-requires c κs = search needs
+
+element-copy-out-write-number-2 : tie.Need-element-copy-out-write-number-2
+element-copy-out-write-number-2 c = search needs
 
 write-number-requires-2 : tie.Need-write-number-requires-2
 write-number-requires-2 c κs = search needs
 
+element-copy-out-write-number-3 : tie.Need-element-copy-out-write-number-3
+element-copy-out-write-number-3 c = search needs
+
 write-number-requires-3 : tie.Need-write-number-requires-3
 write-number-requires-3 c κs = search needs
+
+element-copy-out-write-number-4 : tie.Need-element-copy-out-write-number-4
+element-copy-out-write-number-4 c = search needs
 
 write-number-requires-4 : tie.Need-write-number-requires-4
 write-number-requires-4 c κs = search needs
 
+element-copy-out-write-number-5 : tie.Need-element-copy-out-write-number-5
+element-copy-out-write-number-5 c = search needs
+
 write-number-requires-5 : tie.Need-write-number-requires-5
 write-number-requires-5 c κs = search needs
+
+element-copy-out-if1 : tie.Need-element-copy-out-if1
+element-copy-out-if1 c = search needs
 
 returns : tie.Need-returns
 returns c = search needs
 
+element-copy-out-if2 : tie.Need-element-copy-out-if2
+element-copy-out-if2 c = search needs
+
 returns-2 : tie.Need-returns-2
 returns-2 c = search needs
+
+element-copy-out-n : tie.Need-element-copy-out-n
+element-copy-out-n c = search needs
 
 mul-n : tie.Need-mul-n
 mul-n c = search needs
 
+element-copy-out-m : tie.Need-element-copy-out-m
+element-copy-out-m c = search needs
+
 mul-m : tie.Need-mul-m
 mul-m c = search needs
+
+element-copy-out-bytes : tie.Need-element-copy-out-bytes
+element-copy-out-bytes c = search needs
 
 returns-3 : tie.Need-returns-3
 returns-3 c = search needs
@@ -86,15 +116,25 @@ pub answer-spec : {M : Type 1} → statement M
 answer-spec =
     tie.close
     (tie.spec
+    element-copy-out-write-number
     write-number-requires
+    element-copy-out-write-number-2
     write-number-requires-2
+    element-copy-out-write-number-3
     write-number-requires-3
+    element-copy-out-write-number-4
     write-number-requires-4
+    element-copy-out-write-number-5
     write-number-requires-5
+    element-copy-out-if1
     returns
+    element-copy-out-if2
     returns-2
+    element-copy-out-n
     mul-n
+    element-copy-out-m
     mul-m
+    element-copy-out-bytes
     returns-3
     returns-4
     returns-5

@@ -6,11 +6,23 @@ use borrow.Author.Needs.{needs}
 use Rattle.replay.proofs.answer_printed.Statement.{statement}
 use Rattle.replay.proofs.answer_printed.Tie as tie
 
+element-copy-out-used : tie.Need-element-copy-out-used
+element-copy-out-used c = search needs
+
+element-copy-out-write-three : tie.Need-element-copy-out-write-three
+element-copy-out-write-three c = search needs
+
+element-copy-out-write-three-2 : tie.Need-element-copy-out-write-three-2
+element-copy-out-write-three-2 c = search needs
+
 write-three-requires : tie.Need-write-three-requires
 write-three-requires c κs = search needs
 
 returns : tie.Need-returns
 returns c = search needs
+
+element-copy-out-if2 : tie.Need-element-copy-out-if2
+element-copy-out-if2 c = search needs
 
 slice-aggregate-write-bytes : tie.Need-slice-aggregate-write-bytes
 slice-aggregate-write-bytes c = sym (length-take-le _ _ (omega arith))
@@ -34,8 +46,12 @@ pub answer-printed-spec : {M : Type 1} → statement M
 answer-printed-spec =
     tie.close
     (tie.spec
+    element-copy-out-used
+    element-copy-out-write-three
+    element-copy-out-write-three-2
     write-three-requires
     returns
+    element-copy-out-if2
     slice-aggregate-write-bytes
     write-bytes-requires
     bytes-alone-requires

@@ -7,9 +7,6 @@ use borrow.Author.Needs.{needs}
 use Rattle.replay.proofs.answer_read.Statement.{statement}
 use Rattle.replay.proofs.answer_read.Tie as tie
 
-write-five-requires : tie.Need-write-five-requires
-write-five-requires c κs = search needs
-
 returns : tie.Need-returns
 returns c = search needs
 
@@ -77,7 +74,6 @@ pub answer-read-spec : {M : Type 1} → statement M
 answer-read-spec =
     tie.close
     (tie.spec
-    write-five-requires
     returns
     returns-2
     mul-n
