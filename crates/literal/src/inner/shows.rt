@@ -3,12 +3,9 @@ use crate::Quote;
 use crate::Show;
 use text::Sequence;
 ghost use mathlib.Core.Path.{_≡_};
-ghost use mathlib.Core.Bool.{not};
 ghost use Prim.Native.Nat.{_<_};
-ghost use lib.Dec.{eqb};
-ghost use Rattle.text.specs.Booleans.{and};
 ghost use Rattle.text.specs.Splice.{Room, Wrote, spent};
-ghost use Rattle.literal.specs.Literals.{hexCount, bare, showOf, shown, inside, literal, quoteByte};
+ghost use Rattle.literal.specs.Literals.{hexCount, bareByte, showOf, shown, inside, literal, quoteByte};
 
 pub fn quote_byte(q: Quote) -> u8
     ensures { λ r. ⌜ r ≡ quoteByte q ⌝ }
@@ -56,9 +53,9 @@ fn show_of(q: u8, c: u32) -> Show
     }
 }
 
-// Whether a byte is a character that prints bare: then it is not decoded.
+// Whether a byte is the whole of a character that prints bare: then it is not decoded.
 fn is_bare(q: u8, b: u8) -> bool
-    ensures { λ r. ⌜ r ≡ and (bare b) (and (not (eqb b q)) (not (eqb b 92))) ⌝ }
+    ensures { λ r. ⌜ r ≡ bareByte q b ⌝ }
 {
     if b < 0x20 {
         return false;
