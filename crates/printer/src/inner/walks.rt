@@ -62,8 +62,8 @@ pub fn measure(
     }
 }
 
-// Writes node i's text. Each kind over one child has an arm of its own, so that nothing is looked up again
-// behind the child.
+// Writes node i's text. What stands over one child has an arm for each form: one arm for all would look up
+// again what is known to be empty, which took a tenth more time.
 pub fn write(
     nodes: &[u32],
     store: &[u8],
@@ -87,52 +87,21 @@ pub fn write(
         }
         Node::One(op, c) => match op {
             Op::Plain(unary) => match unary {
-                Unary::PosPred => {
+                Unary::PosPred | Unary::NegPred => {
                     let on = brackets::prefix_brackets(style, place);
                     let a1 = brackets::put_open(on, out, at);
-                    let a2 = put_byte(b'&', out, a1);
+                    let a2 = unary::put_before(unary, out, a1);
                     let a3 = write(nodes, store, c, Place::Prefixed, out, a2, style);
                     brackets::put_close(on, out, a3)
-                }
-                Unary::NegPred => {
-                    let on = brackets::prefix_brackets(style, place);
-                    let a1 = brackets::put_open(on, out, at);
-                    let a2 = put_byte(b'!', out, a1);
-                    let a3 = write(nodes, store, c, Place::Prefixed, out, a2, style);
-                    brackets::put_close(on, out, a3)
-                }
-                Unary::Opt => {
-                    let a1 = write(nodes, store, c, Place::Operand, out, at, style);
-                    put_byte(b'?', out, a1)
-                }
-                Unary::Rep => {
-                    let a1 = write(nodes, store, c, Place::Operand, out, at, style);
-                    put_byte(b'*', out, a1)
-                }
-                Unary::RepOnce => {
-                    let a1 = write(nodes, store, c, Place::Operand, out, at, style);
-                    put_byte(b'+', out, a1)
-                }
-                Unary::RepExact(n) => {
-                    let a1 = write(nodes, store, c, Place::Operand, out, at, style);
-                    unary::put_exact(n, out, a1)
-                }
-                Unary::RepMin(n) => {
-                    let a1 = write(nodes, store, c, Place::Operand, out, at, style);
-                    unary::put_min(n, out, a1)
-                }
-                Unary::RepMax(n) => {
-                    let a1 = write(nodes, store, c, Place::Operand, out, at, style);
-                    unary::put_max(n, out, a1)
-                }
-                Unary::RepMinMax(n, m) => {
-                    let a1 = write(nodes, store, c, Place::Operand, out, at, style);
-                    unary::put_counts(n, m, out, a1)
                 }
                 Unary::Push => {
-                    let a1 = unary::put_push(out, at);
+                    let a1 = unary::put_before(unary, out, at);
                     let a2 = write(nodes, store, c, Place::Alone, out, a1, style);
                     put_byte(b')', out, a2)
+                }
+                _ => {
+                    let a1 = write(nodes, store, c, Place::Operand, out, at, style);
+                    unary::put_after(unary, out, a1)
                 }
             },
             Op::NodeTag(p, n) => {
