@@ -62,8 +62,9 @@ pub fn measure(
     }
 }
 
-// Writes node i's text. What stands over one child has an arm for each form: one arm for all would look up
-// again what is known to be empty, which took a tenth more time.
+// Writes node i's text. What stands over one child has an arm for each form: one arm for all would ask for
+// parts that the form hasn't, which took up to a sixth more time. `put_after` is called in one of them alone,
+// so that the compiler puts it into the walk.
 pub fn write(
     nodes: &[u32],
     store: &[u8],
