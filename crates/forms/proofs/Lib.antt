@@ -6,3 +6,4 @@ pub mod Spans
 pub mod Rows
 pub mod Measures
 pub mod Leaves
+pub mod Unaries

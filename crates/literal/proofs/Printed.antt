@@ -4,9 +4,9 @@ use mathlib.Core.Path.{_≡_, refl, ap, _∙_}
 use mathlib.Core.Bool.{Bool, true, false, not}
 use mathlib.Core.List.{List, [], _∷_, _++_}
 use native.Mathlib.Omega.{arith}
-use lib.Dec.{eqb}
+use lib.Dec.{eqb, ltb}
 use lib.ListN.{length, getD, drop, length-append}
-use borrow.Author.Tests.{ne-eqb}
+use borrow.Author.Tests.{ne-eqb, lt-ltb, ltb-true}
 use Rattle.text.specs.Booleans.{and}
 use Rattle.text.specs.Scans.{spelled}
 use Rattle.text.specs.Splice.{Room, Wrote, spent}
@@ -21,12 +21,8 @@ use Rattle.text.proofs.Hexes.{length-hexes}
 use Rattle.text.proofs.Splices.{wrote-then, room-front, room-next}
 use Rattle.text.proofs.Walks.{spelled-step}
 use Rattle.literal.specs.declared.Show.the-variants.{Pair, Bare, Hex}
-use Rattle.literal.specs.Literals.{hexCount, bare, showOf, shownBy, shown, charPieceBy, charPiece, inside, literal}
+use Rattle.literal.specs.Literals.{hexCount, bare, bareIn, bareByte, showOf, shownBy, shown, charPieceBy, charPiece, inside, literal}
 use Rattle.literal.proofs.Turns.{Turn}
-
--- a byte that prints bare between quotes q
-abbrev pub bareIn : ℕ → ℕ → Bool
-bareIn q b = and (bare b) (and (not (eqb b q)) (not (eqb b 92)))
 
 pub char-below : (xs : List ℕ) (c n : ℕ) → charOf xs ≡ Is c n → c < 0x110000
 char-below xs c n e = scalar-below c (decoded xs c n e .good)
@@ -92,15 +88,31 @@ three-true true false true e = let z : _≡_ {A = ℕ} 0 1 = cc in absurd (omega
 three-true true true z e = let z : _≡_ {A = ℕ} 0 1 = cc in absurd (omega arith)
 three-true false y z e = let z : _≡_ {A = ℕ} 0 1 = cc in absurd (omega arith)
 
-bare-shown : (q b : ℕ) → bareIn q b ≡ true → (shown q b ≡ b ∷ []) × (b < 0x80)
+both-true : (x y : Bool) → and x y ≡ true → (x ≡ true) × (y ≡ true)
+both-true true y e = (refl, e)
+both-true false y e = let z : _≡_ {A = ℕ} 0 1 = cc in absurd (omega arith)
+
+and-false : (x : Bool) → and x false ≡ false
+and-false true = refl
+and-false false = refl
+
+-- of a byte below 0x80 it is what is asked of the character; where that is false, so is it of any byte
+pub byte-is : (q b : ℕ) → b < 0x80 → bareByte q b ≡ bareIn q b
+byte-is q b h = rw (lt-ltb b 0x80 h)
+
+pub byte-not : (q b : ℕ) → bareIn q b ≡ false → bareByte q b ≡ false
+byte-not q b e = rw e (and-false (ltb b 0x80))
+
+bare-shown : (q b : ℕ) → bareByte q b ≡ true → (shown q b ≡ b ∷ []) × (b < 0x80)
 unfolding showOf
-bare-shown q b e =
+bare-shown q b d =
+    let y = both-true (ltb b 0x80) (bareIn q b) d in
+    let h = ltb-true b 0x80 (y .0) in
+    let e = y .1 in
     let t = three-true (bare b) (eqb b q) (eqb b 92) e in
-    let w = within-is 0x20 0x7e b (t .0) in
-    let l = w .low in
-    let g = w .high in
+    let l = within-is 0x20 0x7e b (t .0) .low in
     let s : showOf q b ≡ Bare = rw (t .1, t .2, ne-eqb b 0 (omega arith), ne-eqb b 9 (omega arith), ne-eqb b 10 (omega arith), ne-eqb b 13 (omega arith), t .0) in
-    (shown-bare q b s ∙ encoded-one b (omega arith), omega arith)
+    (shown-bare q b s ∙ encoded-one b h, h)
 
 -- ---- a turn of the loops
 
@@ -117,7 +129,7 @@ module _ (q : ℕ) (s : List ℕ) (i : ℕ) (h : i < length s) where
   pub shown-skip : charOf (drop i s) ≡ Broken → spelled (charPiece q) 0 (drop i s) ≡ spelled (charPiece q) 0 (drop (i + 1) s)
   shown-skip e = spelled-step (charPiece q) s i 0 [] h (ap (λ (x : Sequence). charPieceBy q x .gives) e) (ap (λ (x : Sequence). charPieceBy q x .more) e)
 
-  pub bare-turn : bareIn q (getD s i 0) ≡ true → Turn (spelled (charPiece q) 0 (drop i s)) (getD s i 0 ∷ []) (spelled (charPiece q) 0 (drop (i + 1) s))
+  pub bare-turn : bareByte q (getD s i 0) ≡ true → Turn (spelled (charPiece q) 0 (drop i s)) (getD s i 0 ∷ []) (spelled (charPiece q) 0 (drop (i + 1) s))
   bare-turn b =
       let d = bare-shown q (getD s i 0) b in
       let e : charOf (drop i s) ≡ Is (getD s i 0) 1 = rw (at-byte s i h) (found-read (one (d .1))) in

@@ -1,10 +1,10 @@
 -- Literals as they are printed.
 use Prim.Native.Nat.{ℕ, zero, suc, _+_, _-_, _/_, _%_}
-use mathlib.Core.Bool.{Bool, true, false}
+use mathlib.Core.Bool.{Bool, true, false, not}
 use mathlib.Core.List.{List, [], _∷_, _++_}
 use lib.Dec.{leb, ltb, eqb}
 use lib.ListN.{length}
-use Rattle.text.specs.Booleans.{choose, within}
+use Rattle.text.specs.Booleans.{choose, and, within}
 use Rattle.text.specs.Scans.{Piece, spelled}
 use Rattle.text.specs.Splice.{fronted}
 use Rattle.text.specs.Utf8.{charOf, encoded, firstBad}
@@ -29,6 +29,14 @@ hexCount c =
 -- the characters that print bare: U+0020 to U+007E
 abbrev pub bare : ℕ → Bool
 bare c = within 0x20 0x7e c
+
+-- a character that stands for itself between quotes q
+abbrev pub bareIn : ℕ → ℕ → Bool
+bareIn q c = and (bare c) (and (not (eqb c q)) (not (eqb c 92)))
+
+-- a byte that does: the whole of such a character, so never one from 0x80 on, which is part of a longer one or of none
+abbrev pub bareByte : ℕ → ℕ → Bool
+bareByte q b = and (ltb b 0x80) (bareIn q b)
 
 -- how a character is shown: with a backslash before a letter, bare, or by its number. NUL, tab, LF, CR have letters
 unfoldable pub showOf : ℕ → ℕ → Show

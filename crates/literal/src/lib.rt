@@ -102,6 +102,5 @@ pub fn fmt_literal(s: &[u8], quote: Quote, out: &mut [u8]) -> Formatted
     if inner::shows::spend_literal(s, q, out.len() + 1) == 0 {
         return Formatted::NoRoom;
     }
-    let t = text::inner::digits::hex_digits();
-    Formatted::Wrote(inner::shows::put_literal(&t, s, q, out, 0))
+    Formatted::Wrote(inner::shows::put_literal(s, q, out, 0))
 }

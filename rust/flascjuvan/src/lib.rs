@@ -33,7 +33,7 @@
 //! | reading more tokens than that | 590 KB |
 //! | reading 1,024 brackets inside one another | 1,000 KB |
 //! | both | 1,430 KB |
-//! | printing 4,096 nodes inside one another | 1,430 KB |
+//! | printing 4,096 nodes inside one another | 920 KB |
 //! | matching with 1,024 visits inside one another | 400 KB |
 //!
 //! So a thread as Rust makes them, of 2 MiB, is enough if little of it is in use. Where too little is free, the process

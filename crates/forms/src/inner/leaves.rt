@@ -15,7 +15,6 @@ ghost use mathlib.Core.Path.{_≡_};
 ghost use mathlib.Core.Bool.{true};
 ghost use Prim.Native.Nat.{_<_};
 ghost use Rattle.text.specs.Splice.{Room, Wrote, spent};
-ghost use Rattle.text.specs.Digits.{hexDigits};
 ghost use Rattle.table.specs.declared.Sort.the-variants.{Insens, PushLiteral};
 ghost use Rattle.table.specs.Record.{atomOf};
 ghost use Rattle.table.specs.Check.{goodLeaf};
@@ -29,14 +28,13 @@ fn spend_character(left: usize, c: u32) -> usize
     spend(spend_shown(left, b'\'', c), 2)
 }
 
-fn put_character(t: &[u8; 16], c: u32, out: &mut [u8], at: usize) -> usize
-    requires { ⌜ now t ≡ hexDigits ⌝ }
+fn put_character(c: u32, out: &mut [u8], at: usize) -> usize
     requires { ⌜ c < 0x110000 ⌝ }
     requires { ⌜ Room (now out) at (character c) ⌝ }
     ensures { λ r. ⌜ Wrote (now (out .entry)) at (character c) (now (out .exit)) r ⌝ }
 {
     let a = put_byte(b'\'', out, at);
-    let b = put_shown(t, b'\'', c, out, a);
+    let b = put_shown(b'\'', c, out, a);
     put_byte(b'\'', out, b)
 }
 
@@ -106,16 +104,15 @@ fn spend_range(left: usize, x: u32, y: u32) -> usize
     spend_character(spend_character(spend(left, 2), x), y)
 }
 
-fn put_range(t: &[u8; 16], x: u32, y: u32, out: &mut [u8], at: usize) -> usize
-    requires { ⌜ now t ≡ hexDigits ⌝ }
+fn put_range(x: u32, y: u32, out: &mut [u8], at: usize) -> usize
     requires { ⌜ x < 0x110000 ⌝ }
     requires { ⌜ y < 0x110000 ⌝ }
     requires { ⌜ Room (now out) at (rangeText x y) ⌝ }
     ensures { λ r. ⌜ Wrote (now (out .entry)) at (rangeText x y) (now (out .exit)) r ⌝ }
 {
-    let a = put_character(t, x, out, at);
+    let a = put_character(x, out, at);
     let b = put(b"..", out, a);
-    put_character(t, y, out, b)
+    put_character(y, out, b)
 }
 
 // What is left after a text of the store: PUSH_LITERAL( ) takes fourteen bytes more than its string.
@@ -130,35 +127,32 @@ fn spend_text(s: &[u8], sort: Sort, left: usize) -> usize
     }
 }
 
-fn put_push_literal(t: &[u8; 16], s: &[u8], out: &mut [u8], at: usize) -> usize
-    requires { ⌜ now t ≡ hexDigits ⌝ }
+fn put_push_literal(s: &[u8], out: &mut [u8], at: usize) -> usize
     requires { ⌜ Room (now out) at (sortText PushLiteral (now s)) ⌝ }
     ensures { λ r. ⌜ Wrote (now (out .entry)) at (sortText PushLiteral (now (s .entry))) (now (out .exit)) r ⌝ }
 {
     let a = put(b"PUSH_LITERAL(", out, at);
-    let b = put_literal(t, s, b'"', out, a);
+    let b = put_literal(s, b'"', out, a);
     put_byte(b')', out, b)
 }
 
-fn put_insens(t: &[u8; 16], s: &[u8], out: &mut [u8], at: usize) -> usize
-    requires { ⌜ now t ≡ hexDigits ⌝ }
+fn put_insens(s: &[u8], out: &mut [u8], at: usize) -> usize
     requires { ⌜ Room (now out) at (sortText Insens (now s)) ⌝ }
     ensures { λ r. ⌜ Wrote (now (out .entry)) at (sortText Insens (now (s .entry))) (now (out .exit)) r ⌝ }
 {
     let a = put_byte(b'^', out, at);
-    put_literal(t, s, b'"', out, a)
+    put_literal(s, b'"', out, a)
 }
 
-fn put_text(t: &[u8; 16], s: &[u8], sort: Sort, out: &mut [u8], at: usize) -> usize
-    requires { ⌜ now t ≡ hexDigits ⌝ }
+fn put_text(s: &[u8], sort: Sort, out: &mut [u8], at: usize) -> usize
     requires { ⌜ Room (now out) at (sortText sort (now s)) ⌝ }
     ensures { λ r. ⌜ Wrote (now (out .entry)) at (sortText sort (now (s .entry))) (now (out .exit)) r ⌝ }
 {
     match sort {
-        Sort::Str => put_literal(t, s, b'"', out, at),
-        Sort::Insens => put_insens(t, s, out, at),
+        Sort::Str => put_literal(s, b'"', out, at),
+        Sort::Insens => put_insens(s, out, at),
         Sort::Ident => put(s, out, at),
-        Sort::PushLiteral => put_push_literal(t, s, out, at),
+        Sort::PushLiteral => put_push_literal(s, out, at),
     }
 }
 
@@ -178,8 +172,7 @@ pub fn spend_leaf(store: &[u8], leaf: Leaf, left: usize) -> usize
 }
 
 // Writes a leaf without its brackets.
-pub fn put_leaf(t: &[u8; 16], store: &[u8], leaf: Leaf, out: &mut [u8], at: usize) -> usize
-    requires { ⌜ now t ≡ hexDigits ⌝ }
+pub fn put_leaf(store: &[u8], leaf: Leaf, out: &mut [u8], at: usize) -> usize
     requires { ⌜ goodLeaf (now store) leaf ≡ true ⌝ }
     requires { ⌜ Room (now out) at (atomText (atomOf (now store) leaf)) ⌝ }
     ensures { λ r. ⌜ Wrote (now (out .entry)) at (atomText (atomOf (now (store .entry)) leaf)) (now (out .exit)) r ⌝ }
@@ -187,9 +180,9 @@ pub fn put_leaf(t: &[u8; 16], store: &[u8], leaf: Leaf, out: &mut [u8], at: usiz
     match leaf {
         Leaf::Text(sort, p, n) => {
             let e = p + n;
-            put_text(t, &store[p..e], sort, out, at)
+            put_text(&store[p..e], sort, out, at)
         }
-        Leaf::Range(x, y) => put_range(t, x, y, out, at),
+        Leaf::Range(x, y) => put_range(x, y, out, at),
         Leaf::PeekSlice(start, end) => put_slice(start, end, out, at),
     }
 }

@@ -10,7 +10,7 @@ ghost use mathlib.Core.Path.{_≡_};
 ghost use mathlib.Core.Bool.{true};
 ghost use mathlib.Core.List.{[], _++_};
 ghost use Rattle.text.specs.Splice.{Room, Wrote, spent};
-ghost use Rattle.table.specs.declared.Unary.the-variants.{RepExact, RepMin, RepMax, RepMinMax, Push};
+ghost use Rattle.table.specs.declared.Unary.the-variants.{RepExact, RepMin, RepMax, RepMinMax};
 ghost use Rattle.table.specs.declared.Op.the-variants.{NodeTag};
 ghost use Rattle.table.specs.Record.{wrapOf};
 ghost use Rattle.table.specs.Check.{goodOp};
@@ -57,16 +57,21 @@ pub fn put_tag(store: &[u8], p: usize, n: usize, out: &mut [u8], at: usize) -> u
     put(b" = ", out, b)
 }
 
-// Writes what stands before the child of PUSH( ).
-pub fn put_push(out: &mut [u8], at: usize) -> usize
-    requires { ⌜ Room (now out) at (unaryBefore Push) ⌝ }
-    ensures { λ r. ⌜ Wrote (now (out .entry)) at (unaryBefore Push) (now (out .exit)) r ⌝ }
+// Writes what stands before the child where there is no tag.
+pub fn put_before(unary: Unary, out: &mut [u8], at: usize) -> usize
+    requires { ⌜ Room (now out) at (unaryBefore unary) ⌝ }
+    ensures { λ r. ⌜ Wrote (now (out .entry)) at (unaryBefore unary) (now (out .exit)) r ⌝ }
 {
-    put(b"PUSH(", out, at)
+    match unary {
+        Unary::PosPred => put_byte(b'&', out, at),
+        Unary::NegPred => put_byte(b'!', out, at),
+        Unary::Push => put(b"PUSH(", out, at),
+        _ => at,
+    }
 }
 
 // Writes {n}, as the next three write {n,} and {,n} and {n, m}.
-pub fn put_exact(n: u32, out: &mut [u8], at: usize) -> usize
+fn put_exact(n: u32, out: &mut [u8], at: usize) -> usize
     requires { ⌜ Room (now out) at (unaryAfter (RepExact n)) ⌝ }
     ensures { λ r. ⌜ Wrote (now (out .entry)) at (unaryAfter (RepExact n)) (now (out .exit)) r ⌝ }
 {
@@ -75,7 +80,7 @@ pub fn put_exact(n: u32, out: &mut [u8], at: usize) -> usize
     put_byte(b'}', out, b)
 }
 
-pub fn put_min(n: u32, out: &mut [u8], at: usize) -> usize
+fn put_min(n: u32, out: &mut [u8], at: usize) -> usize
     requires { ⌜ Room (now out) at (unaryAfter (RepMin n)) ⌝ }
     ensures { λ r. ⌜ Wrote (now (out .entry)) at (unaryAfter (RepMin n)) (now (out .exit)) r ⌝ }
 {
@@ -85,7 +90,7 @@ pub fn put_min(n: u32, out: &mut [u8], at: usize) -> usize
     put_byte(b'}', out, c)
 }
 
-pub fn put_max(n: u32, out: &mut [u8], at: usize) -> usize
+fn put_max(n: u32, out: &mut [u8], at: usize) -> usize
     requires { ⌜ Room (now out) at (unaryAfter (RepMax n)) ⌝ }
     ensures { λ r. ⌜ Wrote (now (out .entry)) at (unaryAfter (RepMax n)) (now (out .exit)) r ⌝ }
 {
@@ -95,7 +100,7 @@ pub fn put_max(n: u32, out: &mut [u8], at: usize) -> usize
     put_byte(b'}', out, c)
 }
 
-pub fn put_counts(n: u32, m: u32, out: &mut [u8], at: usize) -> usize
+fn put_counts(n: u32, m: u32, out: &mut [u8], at: usize) -> usize
     requires { ⌜ Room (now out) at (unaryAfter (RepMinMax n m)) ⌝ }
     ensures { λ r. ⌜ Wrote (now (out .entry)) at (unaryAfter (RepMinMax n m)) (now (out .exit)) r ⌝ }
 {
@@ -105,4 +110,22 @@ pub fn put_counts(n: u32, m: u32, out: &mut [u8], at: usize) -> usize
     let d = put_byte(b' ', out, c);
     let e = put_decimal(m, out, d);
     put_byte(b'}', out, e)
+}
+
+// Writes what stands after the child.
+pub fn put_after(unary: Unary, out: &mut [u8], at: usize) -> usize
+    requires { ⌜ Room (now out) at (unaryAfter unary) ⌝ }
+    ensures { λ r. ⌜ Wrote (now (out .entry)) at (unaryAfter unary) (now (out .exit)) r ⌝ }
+{
+    match unary {
+        Unary::Opt => put_byte(b'?', out, at),
+        Unary::Rep => put_byte(b'*', out, at),
+        Unary::RepOnce => put_byte(b'+', out, at),
+        Unary::RepExact(n) => put_exact(n, out, at),
+        Unary::RepMin(n) => put_min(n, out, at),
+        Unary::RepMax(n) => put_max(n, out, at),
+        Unary::RepMinMax(n, m) => put_counts(n, m, out, at),
+        Unary::Push => put_byte(b')', out, at),
+        _ => at,
+    }
 }

@@ -39,15 +39,11 @@ returns-2 c =
     let quote-byte = at-quote-byte .quote-byte in
     format-no-room _ _ _ (sym (first-bad .ensures) ∙ enum-told .given .1) _ (quote-byte .ensures) _ (c .before .spend-literal .ensures) (c .if1 .taken)
 
-hex-digits-requires : tie.Need-hex-digits-requires
-hex-digits-requires c κs = search needs
-
 put-literal-requires : tie.Need-put-literal-requires
 put-literal-requires c κs =
-    let hex-digits = c .before .before .hex-digits in
-    let spend-literal = c .before .before .before .before .spend-literal in
-    let if1 = c .before .before .before .if1 in
-    (hex-digits .ensures, room _ _ (spend-literal .ensures) (if1 .left))
+    let spend-literal = c .before .before .spend-literal in
+    let if1 = c .before .if1 in
+    room _ _ (spend-literal .ensures) (if1 .left)
 
 same-length : tie.Need-same-length
 same-length c = search needs
@@ -55,7 +51,7 @@ same-length c = search needs
 returns-3 : tie.Need-returns-3
 returns-3 c =
     let at-put-literal = c .before .before in
-    let at-if1 = at-put-literal .before .before .before .before in
+    let at-if1 = at-put-literal .before .before in
     let at-spend-literal = at-if1 .before in
     let at-quote-byte = at-spend-literal .before in
     let at-enum-told = at-quote-byte .before in
@@ -80,7 +76,6 @@ fmt-literal-spec =
     add-spend-literal
     spend-literal-requires
     returns-2
-    hex-digits-requires
     put-literal-requires
     same-length
     returns-3)

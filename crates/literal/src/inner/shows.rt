@@ -3,13 +3,9 @@ use crate::Quote;
 use crate::Show;
 use text::Sequence;
 ghost use mathlib.Core.Path.{_≡_};
-ghost use mathlib.Core.Bool.{not};
 ghost use Prim.Native.Nat.{_<_};
-ghost use lib.Dec.{eqb};
-ghost use Rattle.text.specs.Booleans.{and};
 ghost use Rattle.text.specs.Splice.{Room, Wrote, spent};
-ghost use Rattle.text.specs.Digits.{hexDigits};
-ghost use Rattle.literal.specs.Literals.{hexCount, bare, showOf, shown, inside, literal, quoteByte};
+ghost use Rattle.literal.specs.Literals.{hexCount, bareByte, showOf, shown, inside, literal, quoteByte};
 
 pub fn quote_byte(q: Quote) -> u8
     ensures { λ r. ⌜ r ≡ quoteByte q ⌝ }
@@ -57,9 +53,9 @@ fn show_of(q: u8, c: u32) -> Show
     }
 }
 
-// Whether a byte is a character that prints bare: then it is not decoded.
+// Whether a byte is the whole of a character that prints bare: then it is not decoded.
 fn is_bare(q: u8, b: u8) -> bool
-    ensures { λ r. ⌜ r ≡ and (bare b) (and (not (eqb b q)) (not (eqb b 92))) ⌝ }
+    ensures { λ r. ⌜ r ≡ bareByte q b ⌝ }
 {
     if b < 0x20 {
         return false;
@@ -87,8 +83,7 @@ pub fn spend_shown(room: usize, q: u8, c: u32) -> usize
 }
 
 // Writes a character in a literal.
-pub fn put_shown(t: &[u8; 16], q: u8, c: u32, out: &mut [u8], at: usize) -> usize
-    requires { ⌜ now t ≡ hexDigits ⌝ }
+pub fn put_shown(q: u8, c: u32, out: &mut [u8], at: usize) -> usize
     requires { ⌜ c < 0x110000 ⌝ }
     requires { ⌜ Room (now out) at (shown q c) ⌝ }
     ensures { λ r. ⌜ Wrote (now (out .entry)) at (shown q c) (now (out .exit)) r ⌝ }
@@ -105,7 +100,7 @@ pub fn put_shown(t: &[u8; 16], q: u8, c: u32, out: &mut [u8], at: usize) -> usiz
             out[at] = 92;
             out[at + 1] = 117;
             out[at + 2] = 123;
-            let a = text::inner::digits::put_hex(t, hex_count(c), c, out, at + 3);
+            let a = text::inner::digits::put_hex(hex_count(c), c, out, at + 3);
             text::inner::splice::put_byte(125, out, a)
         }
     }
@@ -133,8 +128,7 @@ fn spend_inside(s: &[u8], q: u8, room: usize) -> usize
 }
 
 // Writes a string between its quotes.
-fn put_inside(t: &[u8; 16], s: &[u8], q: u8, out: &mut [u8], at: usize) -> usize
-    requires { ⌜ now t ≡ hexDigits ⌝ }
+fn put_inside(s: &[u8], q: u8, out: &mut [u8], at: usize) -> usize
     requires { ⌜ Room (now out) at (inside q (now s)) ⌝ }
     ensures { λ r. ⌜ Wrote (now (out .entry)) at (inside q (now (s .entry))) (now (out .exit)) r ⌝ }
 {
@@ -149,7 +143,7 @@ fn put_inside(t: &[u8; 16], s: &[u8], q: u8, out: &mut [u8], at: usize) -> usize
             let sequence = text::char_at(s, i);
             match sequence {
                 Sequence::Is(c, n) => {
-                    a = put_shown(t, q, c, out, a);
+                    a = put_shown(q, c, out, a);
                     i += n;
                 }
                 Sequence::Broken => {
@@ -169,12 +163,11 @@ pub fn spend_literal(s: &[u8], q: u8, room: usize) -> usize
 }
 
 // Writes a string with its quotes.
-pub fn put_literal(t: &[u8; 16], s: &[u8], q: u8, out: &mut [u8], at: usize) -> usize
-    requires { ⌜ now t ≡ hexDigits ⌝ }
+pub fn put_literal(s: &[u8], q: u8, out: &mut [u8], at: usize) -> usize
     requires { ⌜ Room (now out) at (literal q (now s)) ⌝ }
     ensures { λ r. ⌜ Wrote (now (out .entry)) at (literal q (now (s .entry))) (now (out .exit)) r ⌝ }
 {
     let a = text::inner::splice::put_byte(q, out, at);
-    let b = put_inside(t, s, q, out, a);
+    let b = put_inside(s, q, out, a);
     text::inner::splice::put_byte(q, out, b)
 }

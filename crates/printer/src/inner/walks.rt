@@ -13,7 +13,6 @@ use table::Unary;
 use table::inner::records::RULE_SIZE;
 use table::inner::records::head_at;
 use table::inner::records::node_at;
-use text::inner::digits::hex_digits;
 use text::inner::splice::put;
 use text::inner::splice::put_byte;
 use text::inner::splice::spend;
@@ -21,7 +20,6 @@ ghost use mathlib.Core.Path.{_≡_};
 ghost use Prim.Native.Nat.{_+_, _<_};
 ghost use lib.ListN.{length};
 ghost use Rattle.text.specs.Splice.{Room, Wrote, spent};
-ghost use Rattle.text.specs.Digits.{hexDigits};
 ghost use Rattle.table.specs.Record.{rulesIn, treeAt, ruleAt};
 ghost use Rattle.table.specs.Check.{Sound, Valid};
 ghost use Rattle.forms.specs.Printing.{printed, markText, printedRule};
@@ -64,10 +62,10 @@ pub fn measure(
     }
 }
 
-// Writes node i's text. Each kind over one child has an arm of its own, so that nothing is looked up again
-// behind the child.
+// Writes node i's text. What stands over one child has an arm for each form: one arm for all would ask for
+// parts that the form hasn't, which took up to a sixth more time. `put_after` is called in one of them alone,
+// so that the compiler puts it into the walk.
 pub fn write(
-    t: &[u8; 16],
     nodes: &[u32],
     store: &[u8],
     i: usize,
@@ -76,7 +74,6 @@ pub fn write(
     at: usize,
     style: Style,
 ) -> usize
-    requires { ⌜ now t ≡ hexDigits ⌝ }
     requires { ⌜ Sound (now nodes) (now store) (i + 1) ⌝ }
     requires { ⌜ Room (now out) at (printed style place (treeAt (now nodes) (now store) i)) ⌝ }
     ensures { λ r. ⌜ Wrote (now (out .entry)) at (printed style place (treeAt (now (nodes .entry)) (now (store .entry)) i)) (now (out .exit)) r ⌝ }
@@ -86,73 +83,42 @@ pub fn write(
         Node::Tip(leaf) => {
             let on = brackets::leaf_brackets(style, place, leaf);
             let a1 = brackets::put_open(on, out, at);
-            let a2 = leaves::put_leaf(t, store, leaf, out, a1);
+            let a2 = leaves::put_leaf(store, leaf, out, a1);
             brackets::put_close(on, out, a2)
         }
         Node::One(op, c) => match op {
             Op::Plain(unary) => match unary {
-                Unary::PosPred => {
+                Unary::PosPred | Unary::NegPred => {
                     let on = brackets::prefix_brackets(style, place);
                     let a1 = brackets::put_open(on, out, at);
-                    let a2 = put_byte(b'&', out, a1);
-                    let a3 = write(t, nodes, store, c, Place::Prefixed, out, a2, style);
+                    let a2 = unary::put_before(unary, out, a1);
+                    let a3 = write(nodes, store, c, Place::Prefixed, out, a2, style);
                     brackets::put_close(on, out, a3)
-                }
-                Unary::NegPred => {
-                    let on = brackets::prefix_brackets(style, place);
-                    let a1 = brackets::put_open(on, out, at);
-                    let a2 = put_byte(b'!', out, a1);
-                    let a3 = write(t, nodes, store, c, Place::Prefixed, out, a2, style);
-                    brackets::put_close(on, out, a3)
-                }
-                Unary::Opt => {
-                    let a1 = write(t, nodes, store, c, Place::Operand, out, at, style);
-                    put_byte(b'?', out, a1)
-                }
-                Unary::Rep => {
-                    let a1 = write(t, nodes, store, c, Place::Operand, out, at, style);
-                    put_byte(b'*', out, a1)
-                }
-                Unary::RepOnce => {
-                    let a1 = write(t, nodes, store, c, Place::Operand, out, at, style);
-                    put_byte(b'+', out, a1)
-                }
-                Unary::RepExact(n) => {
-                    let a1 = write(t, nodes, store, c, Place::Operand, out, at, style);
-                    unary::put_exact(n, out, a1)
-                }
-                Unary::RepMin(n) => {
-                    let a1 = write(t, nodes, store, c, Place::Operand, out, at, style);
-                    unary::put_min(n, out, a1)
-                }
-                Unary::RepMax(n) => {
-                    let a1 = write(t, nodes, store, c, Place::Operand, out, at, style);
-                    unary::put_max(n, out, a1)
-                }
-                Unary::RepMinMax(n, m) => {
-                    let a1 = write(t, nodes, store, c, Place::Operand, out, at, style);
-                    unary::put_counts(n, m, out, a1)
                 }
                 Unary::Push => {
-                    let a1 = unary::put_push(out, at);
-                    let a2 = write(t, nodes, store, c, Place::Alone, out, a1, style);
+                    let a1 = unary::put_before(unary, out, at);
+                    let a2 = write(nodes, store, c, Place::Alone, out, a1, style);
                     put_byte(b')', out, a2)
+                }
+                _ => {
+                    let a1 = write(nodes, store, c, Place::Operand, out, at, style);
+                    unary::put_after(unary, out, a1)
                 }
             },
             Op::NodeTag(p, n) => {
                 let on = brackets::tag_brackets(style, place);
                 let a1 = brackets::put_open(on, out, at);
                 let a2 = unary::put_tag(store, p, n, out, a1);
-                let a3 = write(t, nodes, store, c, Place::Prefixed, out, a2, style);
+                let a3 = write(nodes, store, c, Place::Prefixed, out, a2, style);
                 brackets::put_close(on, out, a3)
             }
         },
         Node::Two(join, a, b) => {
             let on = brackets::join_brackets(style, place, join);
             let a1 = brackets::put_open(on, out, at);
-            let a2 = write(t, nodes, store, a, Place::LeftOf(join), out, a1, style);
+            let a2 = write(nodes, store, a, Place::LeftOf(join), out, a1, style);
             let a3 = brackets::put_separator(join, out, a2);
-            let a4 = write(t, nodes, store, b, Place::RightOf(join), out, a3, style);
+            let a4 = write(nodes, store, b, Place::RightOf(join), out, a3, style);
             brackets::put_close(on, out, a4)
         }
         Node::Unknown => at,
@@ -205,7 +171,6 @@ fn measure_rule(
 // Writes a rule.
 fn print_rule(
     style: Style,
-    t: &[u8; 16],
     nodes: &[u32],
     rules: &[u32],
     store: &[u8],
@@ -213,7 +178,6 @@ fn print_rule(
     out: &mut [u8],
     at: usize,
 ) -> usize
-    requires { ⌜ now t ≡ hexDigits ⌝ }
     requires { ⌜ Valid (now nodes) (now rules) (now store) ⌝ }
     requires { ⌜ k < rulesIn (now rules) ⌝ }
     requires { ⌜ Room (now out) at (printedRule style (ruleAt (now nodes) (now rules) (now store) k)) ⌝ }
@@ -226,7 +190,7 @@ fn print_rule(
     let a2 = put(b" = ", out, a1);
     let a3 = put_mark(head.mark, out, a2);
     let a4 = put(b"{ ", out, a3);
-    let a5 = write(t, nodes, store, head.root, Place::Alone, out, a4, style);
+    let a5 = write(nodes, store, head.root, Place::Alone, out, a4, style);
     put(b" }\n", out, a5)
 }
 
@@ -251,14 +215,12 @@ pub fn measure_rules(style: Style, nodes: &[u32], rules: &[u32], store: &[u8], r
 // Writes all rules.
 pub fn print_rules(
     style: Style,
-    t: &[u8; 16],
     nodes: &[u32],
     rules: &[u32],
     store: &[u8],
     out: &mut [u8],
     at: usize,
 ) -> usize
-    requires { ⌜ now t ≡ hexDigits ⌝ }
     requires { ⌜ Valid (now nodes) (now rules) (now store) ⌝ }
     requires { ⌜ Room (now out) at (tableText style (now nodes) (now rules) (now store)) ⌝ }
     ensures { λ r. ⌜ Wrote (now (out .entry)) at (tableText style (now (nodes .entry)) (now (rules .entry)) (now (store .entry))) (now (out .exit)) r ⌝ }
@@ -267,7 +229,7 @@ pub fn print_rules(
     let mut a = at;
     let mut k = 0;
     while k < m {
-        a = print_rule(style, t, nodes, rules, store, k, out, a);
+        a = print_rule(style, nodes, rules, store, k, out, a);
         k += 1;
     }
     a
@@ -279,8 +241,7 @@ fn print_fitting(style: Style, nodes: &[u32], rules: &[u32], store: &[u8], out: 
     requires { ⌜ Room (now out) 0 (tableText style (now nodes) (now rules) (now store)) ⌝ }
     ensures { λ r. ⌜ Wrote (now (out .entry)) 0 (tableText style (now (nodes .entry)) (now (rules .entry)) (now (store .entry))) (now (out .exit)) r ⌝ }
 {
-    let t = hex_digits();
-    print_rules(style, &t, nodes, rules, store, out, 0)
+    print_rules(style, nodes, rules, store, out, 0)
 }
 
 // Prints tables that are known not to be false. They are measured where their bound does not fit.

@@ -5,7 +5,7 @@ ghost use Prim.Native.Nat.{_+_, _*_, _≤_, _<_};
 ghost use lib.Dec.{leb};
 ghost use Rattle.text.specs.Booleans.{choose};
 ghost use Rattle.text.specs.Splice.{Room, Wrote, spent};
-ghost use Rattle.text.specs.Digits.{decimalFrom, decimal, hexDigits, hexDigit, hexes};
+ghost use Rattle.text.specs.Digits.{decimalFrom, decimal, hexDigit, hexes};
 
 // One more digit, unless the limit is exceeded already: then it stays exceeded.
 fn decimal_more(v: u64, limit: u32, d: u64) -> u64
@@ -63,49 +63,25 @@ pub fn put_decimal(n: u32, out: &mut [u8], at: usize) -> usize
     super::splice::put_byte(48 + (n % 10) as u8, out, next)
 }
 
-const HEX_DIGITS: [u8; 16] = [
-    48,
-    49,
-    50,
-    51,
-    52,
-    53,
-    54,
-    55,
-    56,
-    57,
-    97,
-    98,
-    99,
-    100,
-    101,
-    102,
-];
-
-// The fixed table of sixteen, made once by each entry point and lent to whoever reads it.
-pub fn hex_digits() -> [u8; 16]
-    ensures { λ r. ⌜ r ≡ hexDigits ⌝ }
-{
-    HEX_DIGITS
-}
-
-pub fn hex_digit(t: &[u8; 16], d: u32) -> u8
-    requires { ⌜ now t ≡ hexDigits ⌝ }
+// Computed, so that no table has to be handed down to where a digit is written.
+fn hex_digit(d: u32) -> u8
     requires { ⌜ d < 16 ⌝ }
     ensures { λ r. ⌜ r ≡ hexDigit d ⌝ }
 {
-    t[d as usize]
+    if d < 10 {
+        return 48 + d as u8;
+    }
+    87 + d as u8
 }
 
 // Writes the last k hex digits of a number.
-pub fn put_hex(t: &[u8; 16], k: usize, c: u32, out: &mut [u8], at: usize) -> usize
-    requires { ⌜ now t ≡ hexDigits ⌝ }
+pub fn put_hex(k: usize, c: u32, out: &mut [u8], at: usize) -> usize
     requires { ⌜ Room (now out) at (hexes k c) ⌝ }
     ensures { λ r. ⌜ Wrote (now (out .entry)) at (hexes k c) (now (out .exit)) r ⌝ }
 {
     if k == 0 {
         return at;
     }
-    let next = put_hex(t, k - 1, c / 16, out, at);
-    super::splice::put_byte(hex_digit(t, c % 16), out, next)
+    let next = put_hex(k - 1, c / 16, out, at);
+    super::splice::put_byte(hex_digit(c % 16), out, next)
 }

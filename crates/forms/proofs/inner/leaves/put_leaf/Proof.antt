@@ -11,7 +11,7 @@ enum-known-leaf : tie.Need-enum-known-leaf
 enum-known-leaf c = search needs
 
 add-e : tie.Need-add-e
-add-e c = omega (arith, leaf-inside _ _ _ _ (rw (c .before .leaf .given .1) at (c .before .before .before .before .before .pre .1 .0)))
+add-e c = omega (arith, leaf-inside _ _ _ _ (rw (c .before .leaf .given .1) at (c .before .before .before .before .before .pre .0)))
 
 sub-put-text : tie.Need-sub-put-text
 sub-put-text c = search needs
@@ -20,13 +20,13 @@ part-put-text-start : tie.Need-part-put-text-start
 part-put-text-start c = search needs
 
 part-put-text-end : tie.Need-part-put-text-end
-part-put-text-end c = omega (arith, leaf-inside _ _ _ _ (rw (c .before .leaf .given .1) at (c .before .before .before .before .before .pre .1 .0)))
+part-put-text-end c = omega (arith, leaf-inside _ _ _ _ (rw (c .before .leaf .given .1) at (c .before .before .before .before .before .pre .0)))
 
 put-text-requires : tie.Need-put-text-requires
 put-text-requires c κs =
     let at-leaf = c .before .before .before in
     let start = at-leaf .before .before .before .before in
-    (start .pre .0, rw part-between (rw (at-leaf .leaf .given .1) at (start .pre .1 .1)))
+    rw part-between (rw (at-leaf .leaf .given .1) at (start .pre .1))
 
 enum-known-leaf-2 : tie.Need-enum-known-leaf-2
 enum-known-leaf-2 c = search needs
@@ -35,8 +35,8 @@ put-range-requires : tie.Need-put-range-requires
 put-range-requires c κs =
     let at-leaf2 = c .before .before in
     let start = at-leaf2 .before .before .before .before in
-    let b = range-below _ _ _ (rw (at-leaf2 .leaf2 .given .1) at (start .pre .1 .0)) in
-    (start .pre .0, (b .0, (b .1, rw (at-leaf2 .leaf2 .given .1) at (start .pre .1 .1))))
+    let b = range-below _ _ _ (rw (at-leaf2 .leaf2 .given .1) at (start .pre .0)) in
+    (b .0, (b .1, rw (at-leaf2 .leaf2 .given .1) at (start .pre .1)))
 
 enum-known-leaf-3 : tie.Need-enum-known-leaf-3
 enum-known-leaf-3 c = search needs
@@ -45,7 +45,7 @@ put-slice-requires : tie.Need-put-slice-requires
 put-slice-requires c κs =
     let at-leaf3 = c .before .before in
     let start = at-leaf3 .before .before .before .before in
-    rw (at-leaf3 .leaf3 .given .1) at (start .pre .1 .1)
+    rw (at-leaf3 .leaf3 .given .1) at (start .pre .1)
 
 same-length : tie.Need-same-length
 same-length c = search needs

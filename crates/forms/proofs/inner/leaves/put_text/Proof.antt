@@ -12,7 +12,7 @@ put-literal-requires : tie.Need-put-literal-requires
 unfolding sortText
 put-literal-requires c κs =
     let start = c .before .before .before .before .before in
-    (start .pre .0, rw (c .before .enum-told .given .1) at (start .pre .1))
+    rw (c .before .enum-told .given .1) at (start .pre)
 
 enum-told-2 : tie.Need-enum-told-2
 enum-told-2 c = search needs
@@ -20,7 +20,7 @@ enum-told-2 c = search needs
 put-insens-requires : tie.Need-put-insens-requires
 put-insens-requires c κs =
     let start = c .before .before .before .before .before in
-    (start .pre .0, rw (c .before .enum-told2 .given .1) at (start .pre .1))
+    rw (c .before .enum-told2 .given .1) at (start .pre)
 
 enum-told-3 : tie.Need-enum-told-3
 enum-told-3 c = search needs
@@ -29,7 +29,7 @@ put-requires : tie.Need-put-requires
 unfolding sortText
 put-requires c κs =
     let start = c .before .before .before .before .before in
-    rw (c .before .enum-told3 .given .1) at (start .pre .1)
+    rw (c .before .enum-told3 .given .1) at (start .pre)
 
 enum-told-4 : tie.Need-enum-told-4
 enum-told-4 c = search needs
@@ -37,7 +37,7 @@ enum-told-4 c = search needs
 put-push-literal-requires : tie.Need-put-push-literal-requires
 put-push-literal-requires c κs =
     let start = c .before .before .before .before .before in
-    (start .pre .0, rw (c .before .enum-told4 .given .1) at (start .pre .1))
+    rw (c .before .enum-told4 .given .1) at (start .pre)
 
 same-length : tie.Need-same-length
 same-length c = search needs

@@ -16,10 +16,10 @@ use Rattle.literal.proofs.inner.shows.put_inside.Statement.{statement}
 use Rattle.literal.proofs.inner.shows.put_inside.Tie as tie
 
 abbrev Inv-loop : tie.InvT-loop
-Inv-loop t s q out₀ at a₀ i₀ out a i = Same out₀ at (inside q s) out a (spelled (charPiece q) 0 (drop i s))
+Inv-loop s q out₀ at a₀ i₀ out a i = Same out₀ at (inside q s) out a (spelled (charPiece q) 0 (drop i s))
 
 abbrev μ-loop : tie.MeasureT-loop
-μ-loop t s q out₀ at a₀ i₀ out a i = length s - i
+μ-loop s q out₀ at a₀ i₀ out a i = length s - i
 
 loop-holds : tie.Need-loop-holds Inv-loop μ-loop
 unfolding inside
@@ -42,7 +42,7 @@ slice-write-out c =
     let at-loop = at-loop-test .before in
     let start = at-loop .before .before .before in
     let b = sym (at-is-bare .is-bare .ensures) ∙ at-if1 .if1 .taken in
-    let room = turn-room (bare-turn _ _ _ (at-loop-test .loop-test .taken) b) (at-loop .loop .inv) (start .pre .1) in
+    let room = turn-room (bare-turn _ _ _ (at-loop-test .loop-test .taken) b) (at-loop .loop .inv) (start .pre) in
     omega (arith, room .fits)
 
 add-a : tie.Need-add-a Inv-loop μ-loop
@@ -82,7 +82,7 @@ put-shown-requires c κs =
     let loop-test = at-loop-test .loop-test in
     let loop = at-loop .loop in
     let e = sym (char-at .ensures) ∙ sequence .given .1 in
-    (pre .0, (char-below _ _ _ e, turn-room (shown-turn _ _ _ (loop-test .taken) _ _ e) (loop .inv) (pre .1)))
+    (char-below _ _ _ e, turn-room (shown-turn _ _ _ (loop-test .taken) _ _ e) (loop .inv) pre)
 
 add-i-2 : tie.Need-add-i-2 Inv-loop μ-loop
 add-i-2 c =

@@ -8,7 +8,7 @@ use Rattle.literal.proofs.inner.shows.put_literal.Tie as tie
 put-byte-requires : tie.Need-put-byte-requires
 put-byte-requires c κs =
     let pre = c .before .before .before .pre in
-    open-room _ _ (pre .1)
+    open-room _ _ pre
 
 put-inside-requires : tie.Need-put-inside-requires
 put-inside-requires c κs =
@@ -16,7 +16,7 @@ put-inside-requires c κs =
     let start = at-put-byte .before .before .before .before in
     let pre = start .pre in
     let put-byte = at-put-byte .put-byte in
-    (pre .0, inside-room _ _ (pre .1) (put-byte .ensures))
+    inside-room _ _ pre (put-byte .ensures)
 
 put-byte-requires-2 : tie.Need-put-byte-requires-2
 put-byte-requires-2 c κs =
@@ -26,7 +26,7 @@ put-byte-requires-2 c κs =
     let pre = start .pre in
     let put-byte = at-put-byte .put-byte in
     let put-inside = at-put-inside .put-inside in
-    close-room _ _ (pre .1) (put-byte .ensures) (put-inside .ensures)
+    close-room _ _ pre (put-byte .ensures) (put-inside .ensures)
 
 same-length : tie.Need-same-length
 same-length c = search needs

@@ -19,7 +19,7 @@ slice-write-out : tie.Need-slice-write-out
 slice-write-out c =
     let show-of = c .before .before .before .show-of in
     let pre = c .before .before .before .before .before .pre in
-    let r = rw (shown-pair _ _ _ (sym (show-of .ensures) ∙ c .before .show .given .1)) at (pre .1 .1) in omega (arith, r .fits)
+    let r = rw (shown-pair _ _ _ (sym (show-of .ensures) ∙ c .before .show .given .1)) at (pre .1) in omega (arith, r .fits)
 
 add-out : tie.Need-add-out
 add-out c = search needs
@@ -28,7 +28,7 @@ slice-write-out-2 : tie.Need-slice-write-out-2
 slice-write-out-2 c =
     let show-of = c .before .before .before .show-of in
     let pre = c .before .before .before .before .before .pre in
-    let r = rw (shown-pair _ _ _ (sym (show-of .ensures) ∙ c .before .show .given .1)) at (pre .1 .1) in simp length-set (omega (arith, r .fits))
+    let r = rw (shown-pair _ _ _ (sym (show-of .ensures) ∙ c .before .show .given .1)) at (pre .1) in simp length-set (omega (arith, r .fits))
 
 add-result : tie.Need-add-result
 add-result c = search needs
@@ -42,7 +42,7 @@ put-char-requires c κs =
     let start = at-show-of .before .before in
     let pre = start .pre in
     let show-of = at-show-of .show-of in
-    (pre .1 .0, rw (shown-bare _ _ (sym (show-of .ensures) ∙ c .before .enum-told .given .1)) at (pre .1 .1))
+    (pre .0, rw (shown-bare _ _ (sym (show-of .ensures) ∙ c .before .enum-told .given .1)) at (pre .1))
 
 enum-told-2 : tie.Need-enum-told-2
 enum-told-2 c = search needs
@@ -51,7 +51,7 @@ slice-write-out-3 : tie.Need-slice-write-out-3
 slice-write-out-3 c =
     let show-of = c .before .before .show-of in
     let pre = c .before .before .before .before .pre in
-    let r = rw (shown-hex _ _ _ (sym (show-of .ensures) ∙ c .enum-told2 .given .1) refl) at (pre .1 .1) in omega (arith, r .fits)
+    let r = rw (shown-hex _ _ _ (sym (show-of .ensures) ∙ c .enum-told2 .given .1) refl) at (pre .1) in omega (arith, r .fits)
 
 add-out-2 : tie.Need-add-out-2
 add-out-2 c = search needs
@@ -60,7 +60,7 @@ slice-write-out-4 : tie.Need-slice-write-out-4
 slice-write-out-4 c =
     let show-of = c .before .before .show-of in
     let pre = c .before .before .before .before .pre in
-    let r = rw (shown-hex _ _ _ (sym (show-of .ensures) ∙ c .enum-told2 .given .1) refl) at (pre .1 .1) in simp length-set (omega (arith, r .fits))
+    let r = rw (shown-hex _ _ _ (sym (show-of .ensures) ∙ c .enum-told2 .given .1) refl) at (pre .1) in simp length-set (omega (arith, r .fits))
 
 add-out-3 : tie.Need-add-out-3
 add-out-3 c = search needs
@@ -69,7 +69,7 @@ slice-write-out-5 : tie.Need-slice-write-out-5
 slice-write-out-5 c =
     let show-of = c .before .before .show-of in
     let pre = c .before .before .before .before .pre in
-    let r = rw (shown-hex _ _ _ (sym (show-of .ensures) ∙ c .enum-told2 .given .1) refl) at (pre .1 .1) in simp length-set (omega (arith, r .fits))
+    let r = rw (shown-hex _ _ _ (sym (show-of .ensures) ∙ c .enum-told2 .given .1) refl) at (pre .1) in simp length-set (omega (arith, r .fits))
 
 hex-count-requires : tie.Need-hex-count-requires
 hex-count-requires c κs = search needs
@@ -86,7 +86,7 @@ put-hex-requires c κs =
     let enum-told2 = at-enum-told2 .enum-told2 in
     let pre = start .pre in
     let e = shown-hex _ _ _ (sym (show-of .ensures) ∙ enum-told2 .given .1) (c .before .hex-count .ensures) in
-    (pre .0, digits-room _ _ (pre .1 .1) e (wrote-three _ _ _ _ _))
+    digits-room _ _ (pre .1) e (wrote-three _ _ _ _ _)
 
 put-byte-requires : tie.Need-put-byte-requires
 put-byte-requires c κs =
@@ -101,7 +101,7 @@ put-byte-requires c κs =
     let pre = start .pre in
     let put-hex = at-put-hex .put-hex in
     let e = shown-hex _ _ _ (sym (show-of .ensures) ∙ enum-told2 .given .1) (hex-count .ensures) in
-    brace-room _ _ (pre .1 .1) e (wrote-three _ _ _ _ _) (put-hex .ensures)
+    brace-room _ _ (pre .1) e (wrote-three _ _ _ _ _) (put-hex .ensures)
 
 same-length : tie.Need-same-length
 same-length c = search needs

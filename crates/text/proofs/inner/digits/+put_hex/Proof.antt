@@ -17,17 +17,17 @@ use Rattle.text.proofs.inner.splice.put_byte.Reads as put-byte-reads
 use Rattle.text.proofs.inner.digits.+put_hex.{statement}
 use Rattle.text.proofs.inner.digits.+put_hex.Tie.{close}
 
-abbrev μ-put-hex : Measures 2 put-hex-kinds.ps ℕ
-μ-put-hex κs a = a .1 .0
+abbrev μ-put-hex : Measures 1 put-hex-kinds.ps ℕ
+μ-put-hex κs a = a .0
 
-abbrev put-hex-at : ℕ → In 2 put-hex-kinds.ps
-put-hex-at t = and 2 put-hex-kinds.ps (is 2 put-hex-kinds.ps μ-put-hex t) put-hex.Pre
+abbrev put-hex-at : ℕ → In 1 put-hex-kinds.ps
+put-hex-at t = and 1 put-hex-kinds.ps (is 1 put-hex-kinds.ps μ-put-hex t) put-hex.Pre
 
-abbrev put-hex-below : ℕ → In 2 put-hex-kinds.ps
-put-hex-below t = and 2 put-hex-kinds.ps (falls 2 put-hex-kinds.ps _<_ μ-put-hex t) put-hex.Pre
+abbrev put-hex-below : ℕ → In 1 put-hex-kinds.ps
+put-hex-below t = and 1 put-hex-kinds.ps (falls 1 put-hex-kinds.ps _<_ μ-put-hex t) put-hex.Pre
 
 -- a need of `put-hex`, or a place of its code, at the measure t
-abbrev of-put-hex : ((k : put-hex-lts.Claims) (p : In 2 put-hex-kinds.ps) (q : Out 2 put-hex-kinds.ps put-hex-kinds.r) → Type 0) → ℕ → Type 0
+abbrev of-put-hex : ((k : put-hex-lts.Claims) (p : In 1 put-hex-kinds.ps) (q : Out 1 put-hex-kinds.ps put-hex-kinds.r) → Type 0) → ℕ → Type 0
 of-put-hex N t = N (put-hex-below t, put-hex.Post, hex-digit-reads.Asked, hex-digit-reads.Learnt, put-byte-reads.Asked, put-byte-reads.Learnt) (put-hex-at t) put-hex.Post
 
 put-hex-returns : (t : ℕ) → of-put-hex put-hex-lts.Need-returns t
@@ -39,11 +39,11 @@ put-hex-sub-put-hex t c = omega arith
 put-hex-put-hex-requires : (t : ℕ) → of-put-hex put-hex-lts.Need-put-hex-requires t
 put-hex-put-hex-requires t c κs =
     let a = c .before .before .before .args in
-    let r = rw (hexes-more (a .k) (a .c) (c .before .if1 .left)) at (c .before .before .before .pre .1 .1) in
-    (omega arith, (c .before .before .before .pre .1 .0, room-front (hexes (a .k - 1) (a .c / 16)) (hexDigit (a .c % 16) ∷ []) r))
+    let r = rw (hexes-more (a .k) (a .c) (c .before .if1 .left)) at (c .before .before .before .pre .1) in
+    (omega arith, room-front (hexes (a .k - 1) (a .c / 16)) (hexDigit (a .c % 16) ∷ []) r)
 
 put-hex-hex-digit-requires : (t : ℕ) → of-put-hex put-hex-lts.Need-hex-digit-requires t
-put-hex-hex-digit-requires t c κs = (c .before .before .before .before .before .before .pre .1 .0, omega arith)
+put-hex-hex-digit-requires t c κs = omega arith
 
 put-hex-put-byte-requires : (t : ℕ) → of-put-hex put-hex-lts.Need-put-byte-requires t
 put-hex-put-byte-requires t c κs =
@@ -51,7 +51,7 @@ put-hex-put-byte-requires t c κs =
     let at-if1 = at-put-hex .before .before in
     let start = at-if1 .before .before in
     let a = start .args in
-    let r = rw (hexes-more (a .k) (a .c) (at-if1 .if1 .left)) at (start .pre .1 .1) in
+    let r = rw (hexes-more (a .k) (a .c) (at-if1 .if1 .left)) at (start .pre .1) in
     rw (c .before .hex-digit .ensures) (room-next (hexDigit (a .c % 16) ∷ []) (at-put-hex .put-hex .ensures) r)
 
 put-hex-same-length : (t : ℕ) → of-put-hex put-hex-lts.Need-same-length t
