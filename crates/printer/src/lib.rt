@@ -21,6 +21,19 @@ pub enum Printed {
     NoRoom,
 }
 
+// The number of an answer, as callers are told it; 0 is a text.
+pub fn number_of(printed: Printed) -> u64
+    ensures { λ r. ⌜ r ≡ numbered printed .number ⌝ }
+{
+    match printed {
+        Printed::Used(_) => 0,
+        Printed::Shape => 20,
+        Printed::Node(_) => 21,
+        Printed::Rule(_) => 22,
+        Printed::NoRoom => 23,
+    }
+}
+
 // Prints tables to the front of a buffer, a rule to a line.
 pub fn print(style: Style, nodes: &[u32], rules: &[u32], store: &[u8], out: &mut [u8]) -> Printed
     ensures { λ r. ⌜ r ≡ printOf style (now (nodes .entry)) (now (rules .entry)) (now (store .entry)) (length (now (out .entry))) ⌝ }

@@ -1,5 +1,5 @@
 -- What programs do with a layout: what the proofs cite.
-pub mod Readings
+pub mod Fronts
 pub mod Answers
 pub mod Shows
 pub mod Layouts

@@ -4,7 +4,7 @@ use mathlib.Core.List.{List}
 use lib.Dec.{eqb}
 use lib.ListN.{length}
 use Rattle.text.specs.Booleans.{choose}
-use Rattle.table.specs.Tree.{Span, Rule, rulesStored}
+use Rattle.table.specs.Tree.{rulesStored}
 use Rattle.table.specs.Flat.{nodesOf, recordsOf}
 use Rattle.structure.specs.declared.Level.the-variants.{Tagged}
 use Rattle.reader.specs.Read as Read
@@ -21,16 +21,19 @@ use Rattle.show.specs.declared.Layout.the-variants.{Tables, Refused, NoR
 unfoldable pub refusedLayout : Row → Layout
 refusedLayout r = Refused (r .number) (r .place)
 
--- the lengths of the tables and the rule's index
-unfoldable pub layoutBy : List (Rule Span) → Found → Layout
-layoutBy us (Found.Rule k) = Tables (length (nodesOf us)) (length (recordsOf us)) (length (rulesStored us)) k
-layoutBy us Found.FalseTables = refusedLayout (numbered Answer.FalseTables)
-layoutBy us Found.NoRule = NoRule
+-- tables of these lengths and the rule's index
+unfoldable pub layoutBy : ℕ → ℕ → ℕ → Found → Layout
+layoutBy n r b (Found.Rule k) = Tables n r b k
+layoutBy n r b Found.FalseTables = refusedLayout (numbered Answer.FalseTables)
+layoutBy n r b Found.NoRule = NoRule
+
+-- tables, and the lowest rule of the name
+unfoldable pub layoutIn : List ℕ → List ℕ → List ℕ → List ℕ → Layout
+layoutIn ns rs st name = layoutBy (length ns) (length rs) (length st) (foundOf ns rs st name)
 
 -- the reading at the tagged level, with room for n nodes, r rules and b store bytes; then the lowest rule of the name
 unfoldable pub layoutOf : List ℕ → List ℕ → ℕ → ℕ → ℕ → Layout
 layoutOf s name n r b =
     choose (eqb (Read.reported Tagged s n r b .number) 0)
-    (λ u. layoutBy (Built.rulesRead Tagged s)
-    (foundOf (nodesOf (Built.rulesRead Tagged s)) (recordsOf (Built.rulesRead Tagged s)) (rulesStored (Built.rulesRead Tagged s)) name))
+    (λ u. layoutIn (nodesOf (Built.rulesRead Tagged s)) (recordsOf (Built.rulesRead Tagged s)) (rulesStored (Built.rulesRead Tagged s)) name)
     (λ u. Refused (Read.reported Tagged s n r b .number) (Read.reported Tagged s n r b .place))

@@ -1,18 +1,22 @@
 // What programs do with a layout: all that the desk is to write, at the front of a lent output; and a layout's
 // tables with the rule of a name. The entry points ask nothing of their callers.
 use forms::Style;
+use printer::Printed;
+use reader::Reading;
 use replies::Found;
+use structure::Level;
 use table::inner::records::NODE_SIZE;
 use table::inner::records::RULE_SIZE;
 use text::Put;
 ghost use mathlib.Core.Path.{_≡_};
 ghost use lib.ListN.{length};
 ghost use Rattle.show.specs.Shown.{refusedBy};
-ghost use Rattle.show.specs.Desk.{answerOf, answerIn, deskOf, deskIn};
+ghost use Rattle.printer.specs.Answers.{numbered as printNumbered};
+ghost use Rattle.show.specs.Desk.{printed as answered, answerOf, answerIn, deskOf, deskIn};
 ghost use Rattle.structure.specs.declared.Level.the-variants.{Tagged};
 ghost use Rattle.reader.specs.Read.{roomForNodes, roomForRules, readOf, Leaves};
 ghost use Rattle.replies.specs.Replies.{numbered};
-ghost use Rattle.show.specs.Layout.{refusedLayout, layoutOf};
+ghost use Rattle.show.specs.Layout.{refusedLayout, layoutIn, layoutOf};
 
 // The bytes of a text or of a refusal's line; or not even the line has room.
 pub enum Shown {
@@ -43,6 +47,26 @@ pub enum Layout {
     NoRule,
 }
 
+// What the printer answers, as the desk's answer.
+fn answer_of(printed: Printed) -> Answer
+    ensures { λ r. ⌜ r ≡ answered (printNumbered printed) ⌝ }
+{
+    let number = printer::number_of(printed);
+    match printed {
+        Printed::Used(n) => Answer::Printed(n),
+        Printed::Node(i) => Answer::Refused {
+            number,
+            place: i as u64,
+        },
+        Printed::Rule(k) => Answer::Refused {
+            number,
+            place: k as u64,
+        },
+        Printed::Shape => Answer::Refused { number, place: 0 },
+        Printed::NoRoom => Answer::Refused { number, place: 0 },
+    }
+}
+
 // Reads a text and prints it in a style, with room for 2,048 nodes, 1,024 rules and 65,536 store bytes.
 fn print_back(style: Style, text: &[u8], out: &mut [u8]) -> Answer
     ensures { λ r. ⌜ r ≡ answerOf style (now (text .entry)) (length (now (out .entry))) ⌝ }
@@ -51,33 +75,21 @@ fn print_back(style: Style, text: &[u8], out: &mut [u8]) -> Answer
     let mut nodes = [0u32; 12288];
     let mut rules = [0u32; 6144];
     let mut store = [0u8; 65536];
-    let mut read = [0u64; 5];
-    exports::flascjuvan_read(text, 1, &mut nodes, &mut rules, &mut store, &mut read);
-    if read[0] != 0 {
-        return Answer::Refused {
-            number: read[0],
-            place: read[1],
-        };
+    let reading = reader::read(text, Level::Tagged, &mut nodes, &mut rules, &mut store);
+    match reading {
+        Reading::Read(n, r, b) => {
+            let n = NODE_SIZE * n;
+            let r = RULE_SIZE * r;
+            answer_of(printer::print(style, &nodes[..n], &rules[..r], &store[..b], out))
+        }
+        Reading::Refused(refusal) => {
+            let why = refusal.why;
+            Answer::Refused {
+                number: reader::number_of(why),
+                place: refusal.place as u64,
+            }
+        }
     }
-    let n = NODE_SIZE * read[2] as usize;
-    let r = RULE_SIZE * read[3] as usize;
-    let b = read[4] as usize;
-    let mut printed = [0u64; 3];
-    exports::print_styled(
-        style,
-        &nodes[..n],
-        &rules[..r],
-        &store[..b],
-        out,
-        &mut printed,
-    );
-    if printed[0] != 0 {
-        return Answer::Refused {
-            number: printed[0],
-            place: printed[1],
-        };
-    }
-    Answer::Printed(printed[2] as usize)
 }
 
 // A refusal's line as what is shown.
@@ -113,6 +125,23 @@ fn refused_layout(answer: replies::Answer) -> Layout
     }
 }
 
+// The rule of a name in tables that are lent whole.
+fn layout_in(nodes: &[u32], rules: &[u32], store: &[u8], name: &[u8]) -> Layout
+    ensures { λ r. ⌜ r ≡ layoutIn (now (nodes .entry)) (now (rules .entry)) (now (store .entry)) (now (name .entry)) ⌝ }
+{
+    let found = matcher::rule_named(nodes, rules, store, name);
+    match found {
+        Found::Rule(start) => Layout::Tables {
+            nodes: nodes.len(),
+            rules: rules.len(),
+            store: store.len(),
+            start,
+        },
+        Found::FalseTables => refused_layout(replies::Answer::FalseTables),
+        Found::NoRule => Layout::NoRule,
+    }
+}
+
 // Reads a layout at the tagged level into lent buffers, and finds the rule of a name.
 pub fn read_layout(
     text: &[u8],
@@ -124,26 +153,19 @@ pub fn read_layout(
     ensures answered { λ r. ⌜ r ≡ layoutOf (now (text .entry)) (now (name .entry)) (roomForNodes (now (nodes .entry))) (roomForRules (now (rules .entry))) (length (now (store .entry))) ⌝ }
     ensures tables { λ r. ⌜ Leaves Tagged (now (text .entry)) (readOf Tagged (now (text .entry)) (roomForNodes (now (nodes .entry))) (roomForRules (now (rules .entry))) (length (now (store .entry)))) (now (nodes .entry)) (now (rules .entry)) (now (store .entry)) (now (nodes .exit)) (now (rules .exit)) (now (store .exit)) ⌝ }
 {
-    let mut read = [0u64; 5];
-    exports::flascjuvan_read(text, 1, nodes, rules, store, &mut read);
-    if read[0] != 0 {
-        return Layout::Refused {
-            number: read[0],
-            place: read[1],
-        };
-    }
-    let n = NODE_SIZE * read[2] as usize;
-    let r = RULE_SIZE * read[3] as usize;
-    let b = read[4] as usize;
-    let found = matcher::rule_named(&nodes[..n], &rules[..r], &store[..b], name);
-    match found {
-        Found::Rule(start) => Layout::Tables {
-            nodes: n,
-            rules: r,
-            store: b,
-            start,
-        },
-        Found::FalseTables => refused_layout(replies::Answer::FalseTables),
-        Found::NoRule => Layout::NoRule,
+    let reading = reader::read(text, Level::Tagged, nodes, rules, store);
+    match reading {
+        Reading::Read(n, r, b) => {
+            let n = NODE_SIZE * n;
+            let r = RULE_SIZE * r;
+            layout_in(&nodes[..n], &rules[..r], &store[..b], name)
+        }
+        Reading::Refused(refusal) => {
+            let why = refusal.why;
+            Layout::Refused {
+                number: reader::number_of(why),
+                place: refusal.place as u64,
+            }
+        }
     }
 }

@@ -1,5 +1,7 @@
--- The numbers of the reading and of the printing say which law of Answers each return is.
-use Rattle.show.proofs.Answers.{desk-refused, desk-tables, print-refused, print-done}
+-- The answer of the reading decides the case. Where it succeeded, the printer is lent the fronts of the buffers, which are the tables
+-- of the text's rules (`fronts`).
+use Rattle.show.proofs.Fronts.{fronts}
+use Rattle.show.proofs.Answers.{zeros, read-refused, print-answers}
 use mathlib.Core.Path.{sym}
 use lib.Seq.{length-take-le}
 use native.Mathlib.Omega.{arith}
@@ -7,149 +9,120 @@ use borrow.Author.Needs.{needs}
 use Rattle.show.proofs.print_back.Statement.{statement}
 use Rattle.show.proofs.print_back.Tie as tie
 
-slice-aggregate-flascjuvan-read : tie.Need-slice-aggregate-flascjuvan-read
-slice-aggregate-flascjuvan-read c = search needs
+slice-aggregate-read : tie.Need-slice-aggregate-read
+slice-aggregate-read c = search needs
 
-slice-aggregate-flascjuvan-read-2 : tie.Need-slice-aggregate-flascjuvan-read-2
-slice-aggregate-flascjuvan-read-2 c = search needs
+slice-aggregate-read-2 : tie.Need-slice-aggregate-read-2
+slice-aggregate-read-2 c = search needs
 
-slice-aggregate-flascjuvan-read-3 : tie.Need-slice-aggregate-flascjuvan-read-3
-slice-aggregate-flascjuvan-read-3 c = search needs
+slice-aggregate-read-3 : tie.Need-slice-aggregate-read-3
+slice-aggregate-read-3 c = search needs
 
-flascjuvan-read-requires : tie.Need-flascjuvan-read-requires
-flascjuvan-read-requires c κs = search needs
+read-requires : tie.Need-read-requires
+read-requires c κs = search needs
 
-array-read-if1 : tie.Need-array-read-if1
-array-read-if1 c = search needs
-
-array-read-t26 : tie.Need-array-read-t26
-array-read-t26 c = search needs
-
-array-read-t29 : tie.Need-array-read-t29
-array-read-t29 c = search needs
-
-returns : tie.Need-returns
-returns c = desk-refused _ _ (c .before .before .before .before .flascjuvan-read .ensures .0) (c .if1 .taken) _ _
-
-array-read-n : tie.Need-array-read-n
-array-read-n c = search needs
+enum-known-reading : tie.Need-enum-known-reading
+enum-known-reading c = search needs
 
 mul-n : tie.Need-mul-n
 mul-n c =
-    let read = c .before .before .before .before .flascjuvan-read in
-    let t = desk-tables _ _ (read .ensures .0) _ _ _ (read .ensures .1) (c .if1 .left) in
-    let h = t .few-nodes in
+    let at-reading = c .before in
+    let read = at-reading .before .before .before .before .before .read in
+    let h = fronts _ _ _ _ _ _ _ _ (read .ensures) (at-reading .reading .given .1) .few-nodes in
     omega arith
-
-array-read-r : tie.Need-array-read-r
-array-read-r c = search needs
 
 mul-r : tie.Need-mul-r
 mul-r c =
-    let read = c .before .before .before .before .flascjuvan-read in
-    let t = desk-tables _ _ (read .ensures .0) _ _ _ (read .ensures .1) (c .if1 .left) in
-    let h = t .few-rules in
+    let at-reading = c .before in
+    let read = at-reading .before .before .before .before .before .read in
+    let h = fronts _ _ _ _ _ _ _ _ (read .ensures) (at-reading .reading .given .1) .few-rules in
     omega arith
-
-array-read-b : tie.Need-array-read-b
-array-read-b c = search needs
 
 array-share-prefix-nodes : tie.Need-array-share-prefix-nodes
 array-share-prefix-nodes c =
-    let read = c .before .before .before .before .flascjuvan-read in
-    desk-tables _ _ (read .ensures .0) _ _ _ (read .ensures .1) (c .if1 .left) .nodes .0
+    let at-reading = c .before in
+    let read = at-reading .before .before .before .before .before .read in
+    fronts _ _ _ _ _ _ _ _ (read .ensures) (at-reading .reading .given .1) .nodes .0
 
-slice-aggregate-print-styled : tie.Need-slice-aggregate-print-styled
-slice-aggregate-print-styled c =
-    let read = c .before .before .before .before .before .flascjuvan-read in
-    sym (length-take-le _ _ (desk-tables _ _ (read .ensures .0) _ _ _ (read .ensures .1) (c .before .if1 .left) .nodes .0))
+slice-aggregate-print : tie.Need-slice-aggregate-print
+slice-aggregate-print c =
+    let at-reading = c .before .before in
+    let read = at-reading .before .before .before .before .before .read in
+    sym (length-take-le _ _ (fronts _ _ _ _ _ _ _ _ (read .ensures) (at-reading .reading .given .1) .nodes .0))
 
 array-share-prefix-rules : tie.Need-array-share-prefix-rules
 array-share-prefix-rules c =
-    let read = c .before .before .before .before .before .flascjuvan-read in
-    desk-tables _ _ (read .ensures .0) _ _ _ (read .ensures .1) (c .before .if1 .left) .rules .0
+    let at-reading = c .before .before in
+    let read = at-reading .before .before .before .before .before .read in
+    fronts _ _ _ _ _ _ _ _ (read .ensures) (at-reading .reading .given .1) .rules .0
 
-slice-aggregate-print-styled-2 : tie.Need-slice-aggregate-print-styled-2
-slice-aggregate-print-styled-2 c =
-    let read = c .before .before .before .before .before .before .flascjuvan-read in
-    sym (length-take-le _ _ (desk-tables _ _ (read .ensures .0) _ _ _ (read .ensures .1) (c .before .before .if1 .left) .rules .0))
+slice-aggregate-print-2 : tie.Need-slice-aggregate-print-2
+slice-aggregate-print-2 c =
+    let at-reading = c .before .before .before in
+    let read = at-reading .before .before .before .before .before .read in
+    sym (length-take-le _ _ (fronts _ _ _ _ _ _ _ _ (read .ensures) (at-reading .reading .given .1) .rules .0))
 
 array-share-prefix-store : tie.Need-array-share-prefix-store
 array-share-prefix-store c =
-    let read = c .before .before .before .before .before .before .flascjuvan-read in
-    desk-tables _ _ (read .ensures .0) _ _ _ (read .ensures .1) (c .before .before .if1 .left) .store .0
+    let at-reading = c .before .before .before in
+    let read = at-reading .before .before .before .before .before .read in
+    fronts _ _ _ _ _ _ _ _ (read .ensures) (at-reading .reading .given .1) .store .0
 
-slice-aggregate-print-styled-3 : tie.Need-slice-aggregate-print-styled-3
-slice-aggregate-print-styled-3 c =
-    let read = c .before .before .before .before .before .before .before .flascjuvan-read in
-    sym (length-take-le _ _ (desk-tables _ _ (read .ensures .0) _ _ _ (read .ensures .1) (c .before .before .before .if1 .left) .store .0))
+slice-aggregate-print-3 : tie.Need-slice-aggregate-print-3
+slice-aggregate-print-3 c =
+    let at-reading = c .before .before .before .before in
+    let read = at-reading .before .before .before .before .before .read in
+    sym (length-take-le _ _ (fronts _ _ _ _ _ _ _ _ (read .ensures) (at-reading .reading .given .1) .store .0))
 
-print-styled-requires : tie.Need-print-styled-requires
-print-styled-requires c κs = search needs
+print-requires : tie.Need-print-requires
+print-requires c κs = search needs
 
-array-read-if2 : tie.Need-array-read-if2
-array-read-if2 c = search needs
+answer-of-requires : tie.Need-answer-of-requires
+answer-of-requires c κs = search needs
 
-array-read-t50 : tie.Need-array-read-t50
-array-read-t50 c = search needs
+enum-known-reading-2 : tie.Need-enum-known-reading-2
+enum-known-reading-2 c = search needs
 
-array-read-t53 : tie.Need-array-read-t53
-array-read-t53 c = search needs
+number-of-requires : tie.Need-number-of-requires
+number-of-requires c κs = search needs
 
 same-length : tie.Need-same-length
 same-length c = search needs
 
+returns : tie.Need-returns
+returns c =
+    let at-print = c .before .before .before in
+    let at-reading = at-print .before .before .before .before .before .before in
+    let read = at-reading .before .before .before .before .before .read in
+    print-answers _ _ _ _ _ _ _ _ (read .ensures) (zeros _) (zeros _) (zeros _) _ _ (at-reading .reading .given .1) (at-print .print .ensures) (c .answer-of .ensures)
+
 returns-2 : tie.Need-returns-2
 returns-2 c =
-    let at-print = c .before .before .before in
-    let at-if1 = at-print .before .before .before .before .before .before in
-    let read = at-if1 .before .before .before .before .flascjuvan-read in
-    let print = at-print .print-styled in
-    print-refused _ _ _ _ _ _ (desk-tables _ _ (read .ensures .0) _ _ _ (read .ensures .1) (at-if1 .if1 .left)) _ _ _ (print .ensures .0) (print .ensures .1) (c .if2 .taken)
-
-array-read-t22 : tie.Need-array-read-t22
-array-read-t22 c = search needs
-
-same-length-2 : tie.Need-same-length-2
-same-length-2 c = search needs
-
-returns-3 : tie.Need-returns-3
-returns-3 c =
-    let at-print = c .before .before .before in
-    let at-if1 = at-print .before .before .before .before .before .before in
-    let read = at-if1 .before .before .before .before .flascjuvan-read in
-    let print = at-print .print-styled in
-    print-done _ _ _ _ _ _ (desk-tables _ _ (read .ensures .0) _ _ _ (read .ensures .1) (at-if1 .if1 .left)) _ _ _ (print .ensures .0) (print .ensures .1) (c .if2 .left)
+    let at-reading = c .before .before in
+    let read = at-reading .before .before .before .before .before .read in
+    read-refused _ _ _ _ _ _ _ _ (read .ensures) (zeros _) (zeros _) (zeros _) _ _ (at-reading .reading2 .given .1) (c .number-of .ensures)
 
 pub print-back-spec : {M : Type 1} → statement M
 print-back-spec =
     tie.close
     (tie.spec
-    slice-aggregate-flascjuvan-read
-    slice-aggregate-flascjuvan-read-2
-    slice-aggregate-flascjuvan-read-3
-    flascjuvan-read-requires
-    array-read-if1
-    array-read-t26
-    array-read-t29
-    returns
-    array-read-n
+    slice-aggregate-read
+    slice-aggregate-read-2
+    slice-aggregate-read-3
+    read-requires
+    enum-known-reading
     mul-n
-    array-read-r
     mul-r
-    array-read-b
     array-share-prefix-nodes
-    slice-aggregate-print-styled
+    slice-aggregate-print
     array-share-prefix-rules
-    slice-aggregate-print-styled-2
+    slice-aggregate-print-2
     array-share-prefix-store
-    slice-aggregate-print-styled-3
-    print-styled-requires
-    array-read-if2
-    array-read-t50
-    array-read-t53
+    slice-aggregate-print-3
+    print-requires
+    answer-of-requires
+    enum-known-reading-2
+    number-of-requires
     same-length
-    returns-2
-    array-read-t22
-    same-length-2
-    returns-3)
+    returns
+    returns-2)
