@@ -63,15 +63,32 @@ pub fn put_decimal(n: u32, out: &mut [u8], at: usize) -> usize
     super::splice::put_byte(48 + (n % 10) as u8, out, next)
 }
 
-// Computed, so that no table has to be handed down to where a digit is written.
+const HEX_DIGITS: [u8; 16] = [
+    48,
+    49,
+    50,
+    51,
+    52,
+    53,
+    54,
+    55,
+    56,
+    57,
+    97,
+    98,
+    99,
+    100,
+    101,
+    102,
+];
+
+// A digit by the table of sixteen, which is made here and handed down nowhere.
 fn hex_digit(d: u32) -> u8
     requires { ⌜ d < 16 ⌝ }
     ensures { λ r. ⌜ r ≡ hexDigit d ⌝ }
 {
-    if d < 10 {
-        return 48 + d as u8;
-    }
-    87 + d as u8
+    let t = HEX_DIGITS;
+    t[d as usize]
 }
 
 // Writes the last k hex digits of a number.

@@ -1,28 +1,13 @@
-use borrow.Author.Tests.{lt-ltb, le-ltb}
 use borrow.Author.Needs.{needs}
-use Rattle.text.specs.Digits.{hexDigit}
-use Rattle.text.proofs.inner.digits.hex_digit.Tie as tie
+use Rattle.text.proofs.Tables.{digit-rule}
 use Rattle.text.proofs.inner.digits.hex_digit.Statement.{statement}
+use Rattle.text.proofs.inner.digits.hex_digit.Tie as tie
 
-cast-result : tie.Need-cast-result
-cast-result c = search needs
-
-add-result : tie.Need-add-result
-add-result c = search needs
+array-read-result : tie.Need-array-read-result
+array-read-result c = search needs
 
 returns : tie.Need-returns
-unfolding hexDigit
-returns c = rw (lt-ltb _ _ (c .if1 .taken))
-
-cast-result-2 : tie.Need-cast-result-2
-cast-result-2 c = search needs
-
-add-result-2 : tie.Need-add-result-2
-add-result-2 c = search needs
-
-returns-2 : tie.Need-returns-2
-unfolding hexDigit
-returns-2 c = rw (le-ltb _ _ (c .if1 .left))
+returns c = digit-rule (c .args .d) (c .pre)
 
 pub hex-digit-spec : {M : Type 1} → statement M
-hex-digit-spec = tie.close (tie.spec cast-result add-result returns cast-result-2 add-result-2 returns-2)
+hex-digit-spec = tie.close (tie.spec array-read-result returns)
