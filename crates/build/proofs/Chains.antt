@@ -7,6 +7,7 @@ use mathlib.Core.Option.{Option, none, some}
 use native.Mathlib.Omega.{arith}
 use lib.ListN.{length}
 use lib.Seq.{sets}
+use Rattle.text.proofs.Booleans.{choose-false, choose-true}
 use Rattle.token.specs.Table.{toks, is}
 use Rattle.table.specs.declared.Join.the-variants.{Seq, Choice}
 use Rattle.table.specs.declared.Node.the-variants.{Two}
@@ -14,7 +15,7 @@ use Rattle.table.specs.Tree.{Span, Tree, below, count, size, stored, placeOf}
 use Rattle.table.specs.Flat.{recordOf, flat}
 use Rattle.structure.specs.declared.Level.{Level}
 use Rattle.structure.specs.Structure.{got, next, join, closed, expr, term, chain, Run}
-use Rattle.structure.proofs.Steps.{choose-true, choose-false, inside-is, next-got, next-good}
+use Rattle.structure.proofs.Steps.{inside-is, next-got, next-good}
 use Rattle.structure.proofs.Sizes.{count-join, size-join, count-closed, size-closed, count-more, size-more}
 use Rattle.structure.proofs.Fuel.{went}
 use Rattle.structure.proofs.Grammar.{expr-law, chain-law}

@@ -13,6 +13,7 @@ use Rattle.text.specs.Booleans.{choose}
 use Rattle.text.specs.Splice.{Wrote}
 use Rattle.text.specs.Splice as Splice
 use Rattle.text.proofs.Splices.{wrote-length}
+use Rattle.text.proofs.Booleans.{choose-false, choose-true}
 use Rattle.token.specs.Table.{start, is, label}
 use Rattle.token.proofs.Table.{low}
 use Rattle.table.specs.Tree.{Span, Tree, count, size, stored, placeOf, startsAt}
@@ -22,7 +23,7 @@ use Rattle.structure.specs.declared.Level.the-variants as Level
 use Rattle.structure.specs.declared.Opening.the-variants.{From}
 use Rattle.structure.specs.Answers.{unread, openingOf, tagNodes, tagBytes, predicates, Signed}
 use Rattle.structure.specs.Structure.{Parsed, got, next, prefixed, term, signed, node, posts, Run}
-use Rattle.structure.proofs.Steps.{choose-true, choose-false, next-got, next-good, next-assoc, next-fun, next-on, want-got}
+use Rattle.structure.proofs.Steps.{next-got, next-good, next-assoc, next-fun, next-on, want-got}
 use Rattle.structure.proofs.Sizes.{Grown, grown-none, grown-starts, stored-placed}
 use Rattle.structure.proofs.Fuel.{went}
 use Rattle.structure.proofs.Grammar.{term-law, signed-law}

@@ -20,6 +20,7 @@ use Rattle.table.specs.Record.{nodeSize}
 use Rattle.table.specs.Flat.{recordOf}
 use Rattle.table.specs.Flat as Flat
 use Rattle.text.specs.Booleans.{choose, and}
+use Rattle.text.proofs.Booleans.{and-left, choose-false, choose-true, split}
 use Rattle.token.specs.Table.{toks, start, end, is, between, word}
 use Rattle.token.specs.Tokens.{pushLiteral}
 use Rattle.token.proofs.Table.{low, spans, word-is, part-length}
@@ -28,7 +29,7 @@ use Rattle.structure.specs.Refusals.{because}
 use Rattle.structure.specs.Tokens.{across, same, spells, peek}
 use Rattle.structure.specs.Values.{isInteger, integer, opening, literalBytes, string, character}
 use Rattle.structure.specs.Structure.{Parsed, got, refused, sliceTo, slice, pushed, ranged, leafAt}
-use Rattle.structure.proofs.Steps.{choose-true, choose-false, split, inside-is, want-true, no-tree, want-got, opened-got, opened-false}
+use Rattle.structure.proofs.Steps.{inside-is, want-true, no-tree, want-got, opened-got, opened-false}
 use Rattle.build.specs.declared.Placed.{Placed}
 use Rattle.build.specs.Build.{TreeRoom, Built, wordLeaf, stringLeaf}
 use Rattle.records.specs.Records.{written, most, Fits}
@@ -223,11 +224,7 @@ module _ (s table : List ℕ) (used free : ℕ) (short : length s ≤ 65536) (i 
 
 pub spelled-word : (p s : List ℕ) (i : ℕ) → spells p s i ≡ true → is s i 18 ≡ true
 unfolding spells
-spelled-word p s i e = both-true (is s i 18) (same p (word s i)) e
-  where
-    both-true : (a b : Bool) → and a b ≡ true → a ≡ true
-    both-true true b q = refl
-    both-true false b q = q
+spelled-word p s i e = and-left (is s i 18) (same p (word s i)) e
 
 module _ {table store : List ℕ} {used free : ℕ} (s : List ℕ) where
   pub range-read : (at : ℕ) → TreeRoom (ranged s at) table store used free

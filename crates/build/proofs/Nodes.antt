@@ -9,6 +9,7 @@ use lib.ListN.{length}
 use lib.Seq.{sets}
 use borrow.Author.Tests.{leb-false}
 use Rattle.text.specs.Words.{push}
+use Rattle.text.proofs.Booleans.{choose-false, choose-true}
 use Rattle.token.specs.Table.{toks, start, end, is}
 use Rattle.table.specs.declared.Unary.the-variants.{Push}
 use Rattle.table.specs.declared.Op.the-variants.{Plain}
@@ -19,7 +20,7 @@ use Rattle.table.specs.Flat.{recordOf, flat}
 use Rattle.structure.specs.declared.Level.{Level}
 use Rattle.structure.specs.Tokens.{spells}
 use Rattle.structure.specs.Structure.{got, refused, next, want, limit, prefixed, expr, node, Run, leafAt}
-use Rattle.structure.proofs.Steps.{choose-true, choose-false, inside-is, next-got, next-good, want-true, want-got, opened-got, opened-false}
+use Rattle.structure.proofs.Steps.{inside-is, next-got, next-good, want-true, want-got, opened-got, opened-false}
 use Rattle.structure.proofs.Sizes.{stored-placed, grown-ends, grown-before}
 use Rattle.structure.proofs.Grammar.{node-law}
 use Rattle.build.specs.declared.Placed.{Placed}

@@ -10,6 +10,7 @@ use lib.Seq.{sets, length-sets}
 use Rattle.text.specs.Splice.{Wrote}
 use Rattle.text.specs.Splice as Splice
 use Rattle.text.proofs.Splices.{sets-front}
+use Rattle.text.proofs.Booleans.{split}
 use Rattle.table.specs.Tree.{Span, Tree, Rule, below, count, counts, size, stored, ruleStored, rulesStored}
 use Rattle.table.specs.Flat.{flat, ruleRecord, nodesFrom, recordsFrom, nodesOf, recordsOf}
 use Rattle.table.proofs.Flats.{length-flat}
@@ -21,7 +22,7 @@ use Rattle.token.proofs.Lists.{few}
 use Rattle.token.specs.Table.{toks, kind, start, end, is, between, word}
 use Rattle.token.proofs.Table.{low, word-is, part-length}
 use borrow.Author.Tests.{leb-false}
-use Rattle.structure.proofs.Steps.{split, sees, misses}
+use Rattle.structure.proofs.Steps.{sees, misses}
 use Rattle.structure.proofs.Cases.{rule-read}
 use Rattle.structure.proofs.Rules.{size-rule, rule-went, rules-end, rules-doc, rules-rule}
 use Rattle.build.specs.declared.Placed.{Placed}

@@ -11,6 +11,7 @@ use borrow.Author.Tests.{lt-ltb, le-ltb}
 use Rattle.text.specs.Splice.{Wrote}
 use Rattle.text.specs.Splice as Splice
 use Rattle.text.proofs.Splices.{wrote-none}
+use Rattle.text.proofs.Booleans.{choose-false, choose-true}
 use Rattle.token.specs.Table.{toks, kind, start, end, is, between, label}
 use Rattle.token.proofs.Table.{low, spans}
 use Rattle.table.specs.declared.Op.the-variants.{NodeTag}
@@ -21,7 +22,7 @@ use Rattle.structure.specs.declared.Level.{Level}
 use Rattle.structure.specs.declared.Level.the-variants as Level
 use Rattle.structure.specs.Answers.{tagNodes}
 use Rattle.structure.specs.Structure.{Parsed, got, refused, next, prefixed, inTag, term, signed, Run}
-use Rattle.structure.proofs.Steps.{choose-true, choose-false, sees, misses, inside-is, next-good, want-true, want-got}
+use Rattle.structure.proofs.Steps.{sees, misses, inside-is, next-good, want-true, want-got}
 use Rattle.structure.proofs.Sizes.{count-one, size-one}
 use Rattle.structure.proofs.Grammar.{term-law}
 use Rattle.build.specs.declared.Placed.{Placed}

@@ -13,6 +13,7 @@ use Rattle.text.specs.Utf8.{charOf}
 use Rattle.text.specs.declared.Decimal.{Decimal}
 use Rattle.text.specs.declared.Sequence.{Sequence}
 use Rattle.text.specs.declared.Sequence.the-variants as Sequence
+use Rattle.text.proofs.Booleans.{choose-false, choose-true}
 use Rattle.literal.specs.Escapes.{escapeOf}
 use Rattle.literal.specs.declared.Escape.{Escape}
 use Rattle.literal.specs.declared.Escape.the-variants as Escape
@@ -21,7 +22,7 @@ use Rattle.table.specs.declared.Unary.the-variants.{Opt, Rep, RepOnce, RepExact
 use Rattle.structure.specs.Values.{valueOf, negated, number, isInteger, integerOf, integer, opening, literalBytes, rawChar, charBy, character}
 use Rattle.structure.specs.Structure.{want, Postfix, post, notPost, fromNumber, fromComma, postfixAt}
 use Rattle.structure.proofs.Steps as Steps
-use Rattle.structure.proofs.Steps.{choose-true, choose-false, sees, misses, want-true, want-false}
+use Rattle.structure.proofs.Steps.{sees, misses, want-true, want-false}
 use Rattle.build.specs.declared.FoundPostfix.{FoundPostfix}
 use Rattle.build.specs.declared.FoundPostfix.the-variants as FoundPostfix
 use Rattle.build.specs.Build.{Accepted, suffixOf}

@@ -6,6 +6,7 @@ use Prim.Native.Nat.{ℕ, _≤_, _<_}
 use native.Mathlib.Omega.{arith}
 use lib.Dec.{ltb}
 use borrow.Author.Tests.{lt-ltb, le-ltb, ltb-true}
+use Rattle.text.proofs.Booleans.{and-both, and-first, and-second, and-true, choose-false, choose-true}
 use Rattle.table.specs.declared.Fault.{Fault}
 use Rattle.table.specs.declared.Fault.the-variants as Fault
 use Rattle.table.specs.declared.TableCheck.{TableCheck}
@@ -13,7 +14,6 @@ use Rattle.table.specs.declared.TableCheck.the-variants as Table
 use Rattle.table.specs.Characters.{choose, faultOf}
 use Rattle.table.specs.Record.{nodesIn, rulesIn}
 use Rattle.table.specs.Check.{isGood, lowest, tables, Valid}
-use Rattle.table.proofs.Branches.{and-true, and-both, and-first, and-second, choose-true, choose-false}
 use Rattle.table.proofs.Tables.{tables-valid}
 use Rattle.links.specs.declared.Ready.{Ready}
 use Rattle.links.specs.declared.Ready.the-variants.{Yes, FalseTables, Unfit, NoRule}

@@ -9,6 +9,7 @@ use native.Mathlib.Decide.{decLt}
 use lib.Dec.{eqb, leb}
 use lib.ListN.{length, getD, set, take, drop, length-set, List·getD-eq-default}
 use lib.Seq.{getD-set-same, getD-set-other}
+use Rattle.text.proofs.Booleans.{choose-false, choose-true}
 use Rattle.table.specs.declared.Join.{Join}
 use Rattle.table.specs.declared.Join.the-variants as Join
 use Rattle.table.specs.declared.Unary.{Unary}
@@ -29,7 +30,6 @@ use Rattle.table.specs.Record.{nodeSize, nodesIn, rulesIn, part, nodeOf, nodeAt
 use Rattle.table.specs.Check.{maxNodes, isGood, lowest, Valid}
 use Rattle.table.specs.Check as Check
 use Rattle.table.specs.Names.{sameText, ruleNamed}
-use Rattle.table.proofs.Branches.{choose-true, choose-false}
 use Rattle.table.proofs.Nodes.{sound-tip, sound-one, sound-two, sound-below}
 use Rattle.table.proofs.Texts.{leaf-inside, part-between}
 use Rattle.table.proofs.Tables.{sound-at}

@@ -18,8 +18,9 @@ use Rattle.text.specs.declared.Value.the-variants.{Number, Nothing}
 use Rattle.text.specs.declared.Check.the-variants.{Good, Bad}
 use Rattle.text.specs.declared.Look.{Look}
 use Rattle.text.specs.declared.Look.the-variants.{Past}
-use Rattle.text.proofs.Tests.{choose-by, at-byte, at-end, within-is}
+use Rattle.text.proofs.Tests.{at-byte, at-end, within-is}
 use Rattle.text.proofs.Walks.{sought-past, sought-stop, spelled-step}
+use Rattle.text.proofs.Booleans.{choose-by}
 use Rattle.literal.specs.declared.Escape.{Escape}
 use Rattle.literal.specs.declared.Escape.the-variants.{Means, Plain}
 use Rattle.literal.specs.declared.Digits.{Digits}

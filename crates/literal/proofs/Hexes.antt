@@ -7,7 +7,8 @@ use native.Mathlib.Omega.{arith}
 use lib.Count.{leadingZeros, leading-length}
 use lib.Dec.{ltb}
 use borrow.Author.Tests.{ltb-true, ltb-false}
-use Rattle.text.proofs.Tests.{choose-by, lt-or-ge}
+use Rattle.text.proofs.Tests.{lt-or-ge}
+use Rattle.text.proofs.Booleans.{choose-by}
 use Rattle.literal.specs.Literals.{hexCount}
 
 -- a number's length in bits, against a power of two

@@ -15,10 +15,10 @@ use Rattle.text.specs.declared.Look.{Look}
 use Rattle.text.specs.declared.Look.the-variants.{Past}
 use Rattle.text.specs.declared.Sequence.{Sequence}
 use Rattle.text.specs.declared.Sequence.the-variants.{Is, Broken}
-use Rattle.text.proofs.Tests.{choose-by}
 use Rattle.text.proofs.Decodes.{decoded, Found}
 use Rattle.text.proofs.Encodes.{encoded-read, found-read}
 use Rattle.text.proofs.Walks.{later-zero, later-later, past-head, sought-pending, head-step}
+use Rattle.text.proofs.Booleans.{choose-by}
 use Rattle.literal.proofs.Escaped.{Each, Ascii}
 
 pub later-good : (k : ℕ) (r : Check) → later k r ≡ Good → r ≡ Good

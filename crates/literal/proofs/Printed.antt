@@ -20,6 +20,7 @@ use Rattle.text.proofs.Encodes.{found-read, scalar-below}
 use Rattle.text.proofs.Hexes.{length-hexes}
 use Rattle.text.proofs.Splices.{wrote-then, room-front, room-next}
 use Rattle.text.proofs.Walks.{spelled-step}
+use Rattle.text.proofs.Booleans.{and-second, and-true}
 use Rattle.literal.specs.declared.Show.the-variants.{Pair, Bare, Hex}
 use Rattle.literal.specs.Literals.{hexCount, bare, bareIn, bareByte, showOf, shownBy, shown, charPieceBy, charPiece, inside, literal}
 use Rattle.literal.proofs.Turns.{Turn}
@@ -88,25 +89,17 @@ three-true true false true e = let z : _≡_ {A = ℕ} 0 1 = cc in absurd (omega
 three-true true true z e = let z : _≡_ {A = ℕ} 0 1 = cc in absurd (omega arith)
 three-true false y z e = let z : _≡_ {A = ℕ} 0 1 = cc in absurd (omega arith)
 
-both-true : (x y : Bool) → and x y ≡ true → (x ≡ true) × (y ≡ true)
-both-true true y e = (refl, e)
-both-true false y e = let z : _≡_ {A = ℕ} 0 1 = cc in absurd (omega arith)
-
-and-false : (x : Bool) → and x false ≡ false
-and-false true = refl
-and-false false = refl
-
 -- of a byte below 0x80 it is what is asked of the character; where that is false, so is it of any byte
 pub byte-is : (q b : ℕ) → b < 0x80 → bareByte q b ≡ bareIn q b
 byte-is q b h = rw (lt-ltb b 0x80 h)
 
 pub byte-not : (q b : ℕ) → bareIn q b ≡ false → bareByte q b ≡ false
-byte-not q b e = rw e (and-false (ltb b 0x80))
+byte-not q b e = rw e (and-second (ltb b 0x80) false refl)
 
 bare-shown : (q b : ℕ) → bareByte q b ≡ true → (shown q b ≡ b ∷ []) × (b < 0x80)
 unfolding showOf
 bare-shown q b d =
-    let y = both-true (ltb b 0x80) (bareIn q b) d in
+    let y = and-true (ltb b 0x80) (bareIn q b) d in
     let h = ltb-true b 0x80 (y .0) in
     let e = y .1 in
     let t = three-true (bare b) (eqb b q) (eqb b 92) e in

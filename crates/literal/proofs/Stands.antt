@@ -12,9 +12,9 @@ use borrow.Author.Tests.{le-leb, eqb-true, eqb-false}
 use Rattle.text.specs.Utf8.{scalar, encoded}
 use Rattle.text.specs.Digits.{hexOf, hexDigit, hexes}
 use Rattle.text.specs.declared.Value.the-variants.{Number}
-use Rattle.text.proofs.Tests.{choose-by}
 use Rattle.text.proofs.Encodes.{scalar-below}
 use Rattle.text.proofs.Hexes.{digit-back, length-hexes}
+use Rattle.text.proofs.Booleans.{choose-by}
 use Rattle.literal.specs.declared.Escape.the-variants.{Means}
 use Rattle.literal.specs.declared.Show.{Show}
 use Rattle.literal.specs.declared.Digits.{Digits}

@@ -7,6 +7,7 @@ use mathlib.Core.List.{List}
 use native.Mathlib.Omega.{arith}
 use lib.Dec.{leb}
 use native.Mathlib.Decide.{decLt}
+use Rattle.text.proofs.Booleans.{split}
 use Rattle.links.specs.declared.Most.{Most}
 use Rattle.links.specs.declared.Act.{Act}
 use Rattle.links.specs.declared.Act.the-variants.{Text, Range, Any, Call, PosPred, NegPred, Seq, Choice, Repeat, Unfit}
@@ -100,10 +101,6 @@ after-inv (Matched e j) f g v l u w q = u e j refl q
 after-inv (Missed j) f g v l u w q = w j refl q
 after-inv Over f g v l u w q = no-give v l q
 
-choose-inv : (b : Bool) (x y : Unit {0} → Outcome) {z : Outcome} {P : Type 0} → (b ≡ true → x tt ≡ z → P) → (b ≡ false → y tt ≡ z → P) → choose b x y ≡ z → P
-choose-inv true x y f g e = f refl e
-choose-inv false x y f g e = g refl e
-
 module _ (prog : ℕ → Act) (st line : List ℕ) where
   abbrev see : ℕ → ℕ → ℕ → ℕ → Outcome
   see = visit prog st line
@@ -117,7 +114,7 @@ module _ (prog : ℕ → Act) (st line : List ℕ) where
     sound-more : (c lo : ℕ) (hi : Most) (b n at k : ℕ) (v : Verdict) (l : ℕ) → k < b → repeat (see d) c lo hi n at k ≡ give v l → Came prog st line d (more c lo hi n) at v k l
     sound-more c lo hi zero n at k v l h q = absurd (omega arith)
     sound-more c lo hi (suc b) n at k v l h q =
-        choose-inv (full hi n) _ _
+        split (full hi n) _ _
         (λ f w. landed (upTo at) v k l w (filled f) (omega arith))
         (λ f. after-inv (see d k c at) _ _ v l
         (λ e j p w.

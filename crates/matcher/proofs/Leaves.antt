@@ -10,11 +10,11 @@ use lib.Dec.{eqb, leb, ltb}
 use lib.ListN.{length, getD, take, drop, length-take, length-drop}
 use lib.Seq.{drop-cons}
 use borrow.Author.Tests.{le-leb, lt-leb, eq-eqb, ne-eqb}
+use Rattle.text.proofs.Booleans.{and-second}
 use Rattle.table.specs.declared.Character.{Character}
 use Rattle.table.specs.declared.Character.the-variants.{Is, Broken}
 use Rattle.table.specs.Characters.{choose, and, within}
 use Rattle.table.specs.Record.{part}
-use Rattle.table.proofs.Branches.{and-second}
 use Rattle.matcher.specs.declared.Outcome.{Outcome}
 use Rattle.matcher.specs.declared.Outcome.the-variants.{Matched, Missed, Over}
 use Rattle.matcher.specs.Match.{took, lower, alike, starts, one, anyCharacter}

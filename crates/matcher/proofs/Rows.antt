@@ -10,8 +10,8 @@ use lib.Dec.{eqb}
 use lib.ListN.{length, getD, set, take, drop, length-take, length-drop, length-append, List·getD-eq-default}
 use lib.Seq.{drop-cons, drop-drop, sets, length-sets, sets-eq}
 use borrow.Author.Tests.{eq-eqb, ne-eqb}
+use Rattle.text.proofs.Booleans.{and-right, choose-false, choose-true}
 use Rattle.table.specs.Characters.{choose, and, or, nextIs, fronted}
-use Rattle.table.proofs.Branches.{choose-true, choose-false}
 use Rattle.replies.specs.declared.Answer.{Answer}
 use Rattle.replies.specs.declared.Row.{Row}
 use Rattle.replies.specs.declared.Lines.{Lines}
@@ -101,14 +101,10 @@ module _ (x : ℕ) where
   more-bytes : (y : ℕ) (ys : List ℕ) → FirstLine (y ∷ ys) → FirstLine (x ∷ y ∷ ys)
   more-bytes y ys ih = by (eqb x 10) (and (eqb x 13) (nextIs 10 (y ∷ ys))) refl refl
     where
-      lf-next : (a b : Bool) → and a b ≡ true → b ≡ true
-      lf-next true b e = e
-      lf-next false b e = let z : _≡_ {A = ℕ} 0 1 = cc in absurd (omega arith)
-
       by : (a b : Bool) → eqb x 10 ≡ a → and (eqb x 13) (nextIs 10 (y ∷ ys)) ≡ b → FirstLine (x ∷ y ∷ ys)
       by true b p q = sized (x ∷ y ∷ ys) 0 1 (body-lf x (y ∷ ys) p) (size-lf x (y ∷ ys) p) (lines-lf x (y ∷ ys) p)
       by false true p q =
-          let n : eqb y 10 ≡ true = lf-next (eqb x 13) (eqb y 10) q in
+          let n : eqb y 10 ≡ true = and-right (eqb x 13) (eqb y 10) q in
           sized (x ∷ y ∷ ys) 0 2 (body-cr x (y ∷ ys) p q) (size-on x (y ∷ ys) p ∙ ap suc (size-lf y ys n)) (lines-cr x (y ∷ ys) p q ∙ lines-lf y ys n)
       by false false p q =
           sized (x ∷ y ∷ ys) (suc (bodySize (y ∷ ys))) (suc (lineSize (y ∷ ys))) (body-on x (y ∷ ys) p q) (size-on x (y ∷ ys) p) (lines-on x (y ∷ ys) p q ∙ ap (onto x) ih)

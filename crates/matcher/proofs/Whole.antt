@@ -9,6 +9,7 @@ use native.Mathlib.Decide.{decLt}
 use lib.Dec.{eqb, leb}
 use lib.ListN.{length, take, drop, length-take, length-drop}
 use borrow.Author.Tests.{eqb-true}
+use Rattle.text.proofs.Booleans.{and-true}
 use Rattle.table.specs.declared.Join.the-variants as Join
 use Rattle.table.specs.declared.Unary.{Unary}
 use Rattle.table.specs.declared.Unary.the-variants as Unary
@@ -23,7 +24,6 @@ use Rattle.table.specs.Characters.{choose, and, within, charOf, character, firs
 use Rattle.table.specs.Record.{nodeSize, nodesIn, part, nodeAt, rootAt}
 use Rattle.table.specs.Check.{Valid}
 use Rattle.table.specs.Check as Check
-use Rattle.table.proofs.Branches.{and-true}
 use Rattle.table.proofs.Nodes.{sound-tip, sound-below}
 use Rattle.table.proofs.Texts.{leaf-inside, leaf-fine, utf8-is}
 use Rattle.table.proofs.Characters.{Edge, edge-first, edge-more, edge-char, Keeps, good-map}

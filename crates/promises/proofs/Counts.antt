@@ -7,6 +7,7 @@ use native.Mathlib.Omega.{arith}
 use lib.Dec.{leb, eqb, ltb}
 use borrow.Author.Tests.{leb-true}
 use Rattle.text.specs.Booleans.{choose}
+use Rattle.text.proofs.Booleans.{and-true}
 use Rattle.token.specs.Table.{is}
 use Rattle.table.specs.declared.Unary.the-variants.{PosPred, NegPred, Opt, Rep, RepOnce, RepExact, RepMin, RepMax, RepMinMax, Push}
 use Rattle.table.specs.declared.Sort.the-variants.{Str, Insens, Ident, PushLiteral}
@@ -16,7 +17,6 @@ use Rattle.table.specs.declared.End.{End}
 use Rattle.table.specs.declared.End.the-variants.{Open, At}
 use Rattle.table.specs.Tree.{Atom, text, range, peekSlice, Wrap, plain, nodeTag, Tree, leaf, one, two, Rule}
 use Rattle.table.specs.Check.{isName, fine, fineRule, fineRules}
-use Rattle.table.proofs.Branches.{and-true}
 use Rattle.promises.specs.Pieces.{Piece, gap, tok, lbrace, rbrace, space, signedKind, endPieces, enclosed, closes, atomPieces, piecesBefore, piecesAfter, separator, pieces, markPieces, rulePieces, rulesPieces, Stand}
 use Rattle.promises.specs.Round.{one?, atomDepth, wrapDepth}
 use Rattle.forms.specs.declared.Style.the-variants.{Short}

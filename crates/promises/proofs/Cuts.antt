@@ -11,11 +11,12 @@ use lib.Seq.{take-append-seam, drop-append-add}
 use borrow.Author.Tests.{eqb-true}
 use Rattle.text.specs.Booleans.{choose, and, or}
 use Rattle.text.specs.Words.{push}
+use Rattle.text.proofs.Booleans.{or-neither}
 use Rattle.token.specs.Table.{toks, kind, start, is}
 use Rattle.token.specs.Tokens.{pushLiteral}
 use Rattle.token.proofs.Table.{spans}
 use Rattle.structure.specs.Tokens.{spells}
-use Rattle.structure.proofs.Steps.{or-neither, inside-is}
+use Rattle.structure.proofs.Steps.{inside-is}
 use Rattle.promises.specs.Pieces.{Piece, gap, tok, spelled}
 use Rattle.promises.specs.Pairs.{Closed, here, past-close, past-open, past-other, Pair, without, cut}
 use Rattle.promises.proofs.Tokens.{one-byte}

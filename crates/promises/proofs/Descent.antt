@@ -9,6 +9,7 @@ use lib.Dec.{eqb}
 use borrow.Author.Tests.{lt-leb}
 use Rattle.text.specs.Booleans.{choose, among}
 use Rattle.text.specs.Words.{begins, push}
+use Rattle.text.proofs.Booleans.{and-true, choose-false, choose-true}
 use Rattle.token.specs.Table.{kind, start, end, is, label}
 use Rattle.table.specs.declared.Join.{Join}
 use Rattle.table.specs.declared.Join.the-variants.{Seq, Choice}
@@ -17,7 +18,6 @@ use Rattle.table.specs.declared.Unary.the-variants.{PosPred, NegPred, Opt, Rep,
 use Rattle.table.specs.Tree.{Span, Atom, text, range, peekSlice, Wrap, plain, nodeTag, Tree, leaf, one, two, Nowhere, aside, placeOf, placed, endsAt, startsAt}
 use Rattle.table.specs.Check.{fineAtom, fineWrap, fine}
 use Rattle.table.specs.Regroup.{untagged}
-use Rattle.table.proofs.Branches.{and-true}
 use Rattle.table.proofs.Regroups.{aside-placed}
 use Rattle.forms.specs.declared.Place.{Place}
 use Rattle.forms.specs.declared.Place.the-variants.{Alone, Prefixed, Operand, LeftOf, RightOf}
@@ -28,7 +28,7 @@ use Rattle.structure.specs.declared.Level.{Level}
 use Rattle.structure.specs.declared.Level.the-variants.{Tagged, Plain}
 use Rattle.structure.specs.Tokens.{spells}
 use Rattle.structure.specs.Structure.{Parsed, got, refused, next, join, closed, prefixed, postfixed, inTag, Postfix, post, noPost, postfixAt, postsBy, expr, term, signed, node, chain, posts, Run}
-use Rattle.structure.proofs.Steps.{choose-true, choose-false, next-good, want-true, opened-false}
+use Rattle.structure.proofs.Steps.{next-good, want-true, opened-false}
 use Rattle.structure.proofs.Grammar.{expr-law, chain-law, term-law, signed-law, node-law, posts-law}
 use Rattle.structure.proofs.Cycle.{finished}
 use Rattle.promises.specs.Pieces.{Piece, tok, closes, enclosed, atomPieces, unaryBefore, unaryAfter, joinKind, separator, pieces, Stand}

@@ -7,6 +7,7 @@ use mathlib.Core.Option.{Option, none, some}
 use native.Mathlib.Omega.{arith}
 use Rattle.text.specs.Booleans.{choose}
 use Rattle.text.specs.Words.{push}
+use Rattle.text.proofs.Booleans.{split}
 use Rattle.token.specs.Table.{toks, start, end, is, word, label}
 use Rattle.token.specs.Tokens.{pushLiteral}
 use Rattle.table.specs.Tree.{Span, Atom, text, range, peekSlice, plain, nodeTag, Tree, leaf, one, two, placeOf, endsAt, startsAt}
@@ -24,7 +25,7 @@ use Rattle.structure.specs.declared.Level.the-variants.{Tagged, Plain}
 use Rattle.structure.specs.Tokens.{across, spells}
 use Rattle.structure.specs.Values.{number, isInteger, integer, string, character}
 use Rattle.structure.specs.Structure.{Parsed, got, refused, next, want, join, closed, prefixed, postfixed, inTag, post, fromNumber, fromComma, postfixAt, sliceTo, slice, pushed, ranged, slices, leafAt, Call, expr, term, signed, node, chain, posts, body, place, weight, run, Run}
-use Rattle.structure.proofs.Steps.{split, no-tree, next-got, want-got, want-post, opened-got, posts-by}
+use Rattle.structure.proofs.Steps.{no-tree, next-got, want-got, want-post, opened-got, posts-by}
 use Rattle.structure.proofs.Fuel.{postfix-past, leaf-went}
 use Rattle.promises.specs.Round.{one?, atomDepth, unaryDepth}
 use Rattle.forms.specs.Printing.{brackets}

@@ -10,7 +10,7 @@ use borrow.Author.Tests.{le-leb}
 use Rattle.text.specs.Utf8.{firstBad}
 use Rattle.text.specs.declared.Check.{Check}
 use Rattle.text.specs.declared.Check.the-variants as Check
-use Rattle.text.proofs.Tests.{choose-by}
+use Rattle.text.proofs.Booleans.{choose-by}
 use Rattle.token.specs.Lists.{tokensOf, pastLast}
 use Rattle.token.specs.Faults.{FaultFrom}
 use Rattle.token.proofs.Faults.{text-place}

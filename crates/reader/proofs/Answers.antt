@@ -42,8 +42,9 @@ use Rattle.structure.specs.Structure as Structure
 use Rattle.structure.specs.Answers.{summaries}
 use Rattle.structure.proofs.Sizes as Sizes
 use Rattle.text.proofs.Tests.{lt-or-ge}
+use Rattle.text.proofs.Booleans.{and-left, choose-false, choose-true, or-first, or-second, split}
 use Rattle.token.specs.Table.{tokenSize, flat, roomOf, toks, kind, is, Lent}
-use Rattle.structure.proofs.Steps.{choose-true, choose-false, split, inside-is, another, and-left, or-first, or-second}
+use Rattle.structure.proofs.Steps.{inside-is, another}
 use Rattle.structure.proofs.Rules.{rule-went, rules-end}
 use Rattle.reader.specs.declared.Reading.{Reading}
 use Rattle.reader.specs.declared.Reading.the-variants as Reading

@@ -10,6 +10,7 @@ use Rattle.text.specs.Booleans.{choose}
 use Rattle.text.specs.Utf8.{firstBad}
 use Rattle.text.specs.declared.Check.{Check}
 use Rattle.text.specs.declared.Check.the-variants as Check
+use Rattle.text.proofs.Booleans.{split}
 use Rattle.token.specs.Lists.{tokensOf}
 use Rattle.table.specs.Tree.{Span, Rule, counts, rulesStored}
 use Rattle.structure.specs.declared.Level.{Level}
@@ -19,7 +20,6 @@ use Rattle.structure.specs.declared.Fault.{Fault}
 use Rattle.structure.specs.declared.Fault.the-variants as Fault
 use Rattle.structure.specs.Values.{faults}
 use Rattle.structure.specs.Structure.{Ruled, rules, unruled, grammar}
-use Rattle.structure.proofs.Steps.{split}
 use Rattle.build.specs.Rules.{ruledOf, rulesRead}
 use Rattle.reader.specs.declared.Reading.{Reading}
 use Rattle.reader.specs.declared.Reading.the-variants as Reading

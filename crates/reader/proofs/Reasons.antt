@@ -4,7 +4,7 @@ use mathlib.Core.Path.{_≡_, refl}
 use mathlib.Core.Logic.{_⊎_, inl, inr}
 use mathlib.Core.List.{List}
 use lib.Dec.{leb}
-use Rattle.text.proofs.Tests.{choose-by}
+use Rattle.text.proofs.Booleans.{choose-by}
 use Rattle.table.specs.Tree.{Span, Rule}
 use Rattle.structure.specs.declared.Level.{Level}
 use Rattle.structure.specs.declared.Why.{Why}

@@ -6,6 +6,7 @@ use lib.Dec.{leb, eqb}
 use lib.ListN.{getD}
 use borrow.Author.Tests.{eqb-true}
 use Rattle.text.specs.Booleans.{or}
+use Rattle.text.proofs.Booleans.{and-true}
 use Rattle.states.specs.declared.Lit.{Lit}
 use Rattle.states.specs.declared.Lit.the-variants.{Text, One}
 use Rattle.states.specs.declared.Tail.{Tail}
@@ -15,7 +16,7 @@ use Rattle.states.specs.declared.State.the-variants.{Start, Word, Push, 
 use Rattle.states.specs.declared.Utf.{Utf}
 use Rattle.states.specs.declared.Utf.the-variants.{Whole, Mid, Broke}
 use Rattle.states.specs.Keep.{litKind, litOf, partsOf, stateOf, utfOf, utfCode, utfStart, tails, tailCode, isText, isLit, escFits, stateFits, utfFits}
-use Rattle.states.proofs.Fits.{both, esc-in}
+use Rattle.states.proofs.Fits.{esc-in}
 
 text-not : (k : ℕ) → isText k ≡ true → eqb k 25 ≡ false
 text-not k e = text-by k (eqb k 23) refl e
@@ -59,7 +60,7 @@ state-back (Esc l b) n e = ap (λ (z : Lit). Esc z b) (lit-back l (esc-in l b n 
 state-back (X0 l b) n e = ap (λ (z : Lit). X0 z b) (lit-back l (esc-in l b n e .0))
 state-back (X1 l b) n e = ap (λ (z : Lit). X1 z b) (lit-back l (esc-in l b n e .0))
 state-back (U l b) n e = ap (λ (z : Lit). U z b) (lit-back l (esc-in l b n e .0))
-state-back (Un l b j) n e = ap (λ (z : Lit). Un z b j) (lit-back l (esc-in l b n (both (leb j 6) (escFits l b n) e .1) .0))
+state-back (Un l b j) n e = ap (λ (z : Lit). Un z b j) (lit-back l (esc-in l b n (and-true (leb j 6) (escFits l b n) e .1) .0))
 state-back Chr n e = refl
 state-back (More t) n e = ap More (tail-back t)
 state-back Quote n e = refl

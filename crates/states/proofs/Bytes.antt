@@ -5,7 +5,7 @@ use mathlib.Core.List.{List, [], _∷_}
 use lib.Dec.{ltb, eqb}
 use lib.ListN.{drop}
 use Rattle.text.specs.Booleans.{or, all}
-use Rattle.text.proofs.Tests.{choose-by}
+use Rattle.text.proofs.Booleans.{and-true, choose-by}
 use Rattle.token.specs.Tokens.{pushLiteral}
 use Rattle.states.specs.declared.Lit.{Lit}
 use Rattle.states.specs.declared.Lit.the-variants.{Text, One}
@@ -18,14 +18,13 @@ use Rattle.states.specs.declared.Utf.the-variants.{Whole, Mid, Broke}
 use Rattle.states.specs.Machine.{closers, mark, braced, missing, completion}
 use Rattle.states.specs.Utf.{utfRest}
 use Rattle.states.specs.Free.{Bytes}
-use Rattle.states.proofs.Fits.{both}
 
 drop-bytes : (xs : List ℕ) (n : ℕ) → Bytes xs → Bytes (drop n xs)
 unfolding all
 drop-bytes [] zero h = h
 drop-bytes [] (suc n) h = h
 drop-bytes (x ∷ xs) zero h = h
-drop-bytes (x ∷ xs) (suc n) h = drop-bytes xs n (both (ltb x 256) (all (λ b. ltb b 256) xs) h .1)
+drop-bytes (x ∷ xs) (suc n) h = drop-bytes xs n (and-true (ltb x 256) (all (λ b. ltb b 256) xs) h .1)
 
 push-bytes : (n : ℕ) → Bytes (completion Push n)
 unfolding all

@@ -12,7 +12,8 @@ use Rattle.text.specs.Classes.{classOf}
 use Rattle.text.specs.Utf8.{charOf}
 use Rattle.text.specs.declared.Sequence.{Sequence}
 use Rattle.text.specs.declared.Sequence.the-variants.{Is, Broken}
-use Rattle.text.proofs.Tests.{choose-by, lt-or-ge}
+use Rattle.text.proofs.Tests.{lt-or-ge}
+use Rattle.text.proofs.Booleans.{choose-by}
 use Rattle.token.specs.Blanks.{first, openerBlank, blankBy}
 use Rattle.token.specs.Tokens.{rawBy, charToken, openerToken, tokenBy}
 use Rattle.token.specs.Lists.{Tokens}

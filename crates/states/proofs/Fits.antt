@@ -11,7 +11,8 @@ use borrow.Author.Tests.{ltb-true, leb-true, leb-false, eqb-true, lt-ltb, le-leb
 use Rattle.text.specs.Booleans.{choose, and, or}
 use Rattle.text.specs.Classes.{classOf}
 use Rattle.text.specs.Words.{startsWord, inWord}
-use Rattle.text.proofs.Tests.{choose-by, within-is, within-yes}
+use Rattle.text.proofs.Tests.{within-is, within-yes}
+use Rattle.text.proofs.Booleans.{and-both, and-true, choose-by}
 use Rattle.literal.specs.Escapes.{simpleOf}
 use Rattle.token.specs.Blanks.{inDigits, isZero}
 use Rattle.token.specs.Tokens.{pushLiteral, oneKind}
@@ -30,27 +31,20 @@ use Rattle.states.specs.Keep.{codeOf, refusedCode, waiting, isText, isDo
 pub never : {A : Type 0} → false ≡ true → A
 never e = let z : _≡_ {A = ℕ} 0 1 = cc in absurd (omega arith)
 
-pub both : (a b : Bool) → and a b ≡ true → (a ≡ true) × (b ≡ true)
-both true b e = (refl, e)
-both false b e = never e
-
-pub and-yes : (a b : Bool) → a ≡ true → b ≡ true → and a b ≡ true
-and-yes a b e f = rw e f
-
 pub esc-in : (l : Lit) (b n : ℕ) → escFits l b n ≡ true → (isLit l ≡ true) × (b < n)
-esc-in l b n e = let h = both (isLit l) (ltb b n) e in (h .0, ltb-true b n (h .1))
+esc-in l b n e = let h = and-true (isLit l) (ltb b n) e in (h .0, ltb-true b n (h .1))
 
 esc-on : (l : Lit) (b n : ℕ) → escFits l b n ≡ true → escFits l b (suc n) ≡ true
 esc-on l b n e =
     let h = esc-in l b n e in
     let z : b < n = h .1 in
-    and-yes (isLit l) (ltb b (suc n)) (h .0) (lt-ltb b (suc n) (omega arith))
+    and-both (isLit l) (ltb b (suc n)) (h .0) (lt-ltb b (suc n) (omega arith))
 
 pub com-in : (d n : ℕ) → comFits d n ≡ true → (0 < d) × (d ≤ n)
-com-in d n e = let h = both (ltb 0 d) (leb d n) e in (ltb-true 0 d (h .0), leb-true d n (h .1))
+com-in d n e = let h = and-true (ltb 0 d) (leb d n) e in (ltb-true 0 d (h .0), leb-true d n (h .1))
 
 com-yes : (d n : ℕ) → 0 < d → d ≤ n → comFits d n ≡ true
-com-yes d n h g = and-yes (ltb 0 d) (leb d n) (lt-ltb 0 d h) (le-leb d n g)
+com-yes d n h g = and-both (ltb 0 d) (leb d n) (lt-ltb 0 d h) (le-leb d n g)
 
 pub code-refused : (q : State) → eqb (codeOf q) refusedCode ≡ true → q ≡ Refused
 code-refused Start e = never e
@@ -151,7 +145,7 @@ push-fits : (s k a n x : ℕ) → a + n ≡ s → k ≤ a → 0 < n → FitO s k
 unfolding pushRow
 push-fits s k a n x e c some =
     choose-by (FitO s k) (and (ltb n 12) (eqb x (getD pushLiteral n 0))) _ _
-    (λ f. let h : n < 12 = ltb-true n 12 (both (ltb n 12) (eqb x (getD pushLiteral n 0)) f .0) in
+    (λ f. let h : n < 12 = ltb-true n 12 (and-true (ltb n 12) (eqb x (getD pushLiteral n 0)) f .0) in
     goes s k Push a (suc n) (omega arith) c (within-yes 1 12 (suc n) (omega arith) (omega arith)))
     (λ f. two s k (ltb n 4) _ _ (runs s k a n x e c some (inWord x) Word 18 (omega arith) (lt-ltb 0 (suc n) (omega arith)))
     (two s k (and (or (eqb n 4) (eqb n 12)) (not (inWord x))) _ _ (ends s k a n x e c some 18) (inl refl)))
@@ -162,7 +156,7 @@ zeros-fits s k a n x e c =
     two s k (isZero x) _ _ (goes s k Zeros a (suc n) (omega arith) c p) (two s k (inDigits x) _ _ (goes s k Negative a (suc n) (omega arith) c p) (inl refl))
 
 back-fits : (s k a n : ℕ) (l : Lit) → a + n ≡ s → k ≤ a → isLit l ≡ true → FitO s k (go (back l) a (suc n))
-back-fits s k a n (Text t) e c f = goes s k (Str t) a (suc n) (omega arith) c (and-yes (isText t) (ltb 0 (suc n)) f (lt-ltb 0 (suc n) (omega arith)))
+back-fits s k a n (Text t) e c f = goes s k (Str t) a (suc n) (omega arith) c (and-both (isText t) (ltb 0 (suc n)) f (lt-ltb 0 (suc n) (omega arith)))
 back-fits s k a n One e c f = goes s k Quote a (suc n) (omega arith) c (lt-ltb 0 (suc n) (omega arith))
 
 -- inside an escape: two states further on, back in the literal, or refused
@@ -187,8 +181,8 @@ module _ (s k a n : ℕ) (l : Lit) (b : ℕ) (e : a + n ≡ s) (c : k ≤ a) (f 
   un-fits : (j x : ℕ) → FitO s k (row (Un l b j) a n x)
   un-fits j x =
       choose-by (FitO s k) (and (ltb j 6) (isHex x)) _ _
-      (λ h. let g : j < 6 = ltb-true j 6 (both (ltb j 6) (isHex x) h .0) in
-      goes s k (Un l b (suc j)) a (suc n) (omega arith) c (and-yes (leb (suc j) 6) (escFits l b (suc n)) (le-leb (suc j) 6 g) (esc-on l b n f)))
+      (λ h. let g : j < 6 = ltb-true j 6 (and-true (ltb j 6) (isHex x) h .0) in
+      goes s k (Un l b (suc j)) a (suc n) (omega arith) c (and-both (leb (suc j) 6) (escFits l b (suc n)) (le-leb (suc j) 6 g) (esc-on l b n f)))
       (λ h. two s k (and (leb 2 j) (eqb x 125)) _ _ returns (inl refl))
 
 more-fits : (s k a n : ℕ) (t : Tail) → a + n ≡ s → k ≤ a → FitO s k (go (More t) a (suc n))
@@ -220,8 +214,8 @@ line-fits s k a n x e c = two s k (eqb x 10) _ _ (starts s k (a + suc n) (omega 
 doc-fits : (s k t a n x : ℕ) → a + n ≡ s → k ≤ a → isDoc t ≡ true → 0 < n → FitO s k (docRow t a n x)
 doc-fits s k t a n x e c d some =
     two s k (eqb x 10) _ _ (gives-doc s k t a (a + n) (a + suc n) (omega arith) (omega arith))
-    (two s k (eqb x 13) _ _ (goes s k (DocCr t) a n (omega arith) c (and-yes (isDoc t) (ltb 0 n) d (lt-ltb 0 n some)))
-    (goes s k (Doc t) a (suc n) (omega arith) c (and-yes (isDoc t) (ltb 0 (suc n)) d (lt-ltb 0 (suc n) (omega arith)))))
+    (two s k (eqb x 13) _ _ (goes s k (DocCr t) a n (omega arith) c (and-both (isDoc t) (ltb 0 n) d (lt-ltb 0 n some)))
+    (goes s k (Doc t) a (suc n) (omega arith) c (and-both (isDoc t) (ltb 0 (suc n)) d (lt-ltb 0 (suc n) (omega arith)))))
 
 com-fits : (s k d a n x : ℕ) → a + n ≡ s → k ≤ a → 0 < d → d ≤ n → FitO s k (comRow d a n x)
 com-fits s k d a n x e c h g =
@@ -263,14 +257,14 @@ module _ (s k a n : ℕ) where
   row-fits Zeros x h = zeros-fits s k a n x (omega arith) (h .count)
   row-fits Negative x h = runs s k a n x (omega arith) (h .count) (ltb-true 0 n (h .state)) (inDigits x) Negative 21 (omega arith) (lt-ltb 0 (suc n) (omega arith))
   row-fits (Str t) x h =
-      let f : isText t ≡ true = both (isText t) (ltb 0 n) (h .state) .0 in
+      let f : isText t ≡ true = and-true (isText t) (ltb 0 n) (h .state) .0 in
       two s k (eqb x 34) _ _ (gives s k t a (a + suc n) (omega arith) (omega arith))
-      (two s k (eqb x 92) _ _ (goes s k (Esc (Text t) n) a (suc n) (omega arith) (h .count) (and-yes (isText t) (ltb n (suc n)) f (lt-ltb n (suc n) (omega arith)))) (back-fits s k a n (Text t) (omega arith) (h .count) f))
+      (two s k (eqb x 92) _ _ (goes s k (Esc (Text t) n) a (suc n) (omega arith) (h .count) (and-both (isText t) (ltb n (suc n)) f (lt-ltb n (suc n) (omega arith)))) (back-fits s k a n (Text t) (omega arith) (h .count) f))
   row-fits (Esc l b) x h = esc-fits s k a n l b (omega arith) (h .count) (h .state) x
   row-fits (X0 l b) x h = x0-fits s k a n l b (omega arith) (h .count) (h .state) x
   row-fits (X1 l b) x h = x1-fits s k a n l b (omega arith) (h .count) (h .state) x
   row-fits (U l b) x h = u-fits s k a n l b (omega arith) (h .count) (h .state) x
-  row-fits (Un l b j) x h = un-fits s k a n l b (omega arith) (h .count) (both (leb j 6) (escFits l b n) (h .state) .1) j x
+  row-fits (Un l b j) x h = un-fits s k a n l b (omega arith) (h .count) (and-true (leb j 6) (escFits l b n) (h .state) .1) j x
   row-fits Chr x h =
       let z : a + 1 ≡ s = one-byte Chr refl h (h .state) in
       two s k (eqb x 92) _ _ (goes s k (Esc One 1) a 2 (omega arith) (h .count) refl) (two s k (ltb x 0x80) _ _ (goes s k Quote a 2 (omega arith) (h .count) refl) (lead-fits s k a x z (h .count)))
@@ -284,10 +278,10 @@ module _ (s k a n : ℕ) where
       two s k (eqb x 47) _ _ (goes s k (Doc 27) a 3 (omega arith) (h .count) refl) (two s k (eqb x 33) _ _ (goes s k (Doc 26) a 3 (omega arith) (h .count) refl) (line-fits s k a 2 x (omega arith) (h .count)))
   row-fits Line x h = line-fits s k a n x (omega arith) (h .count)
   row-fits (Doc t) x h =
-      let f = both (isDoc t) (ltb 0 n) (h .state) in
+      let f = and-true (isDoc t) (ltb 0 n) (h .state) in
       doc-fits s k t a n x (omega arith) (h .count) (f .0) (ltb-true 0 n (f .1))
   row-fits (DocCr t) x h =
-      two s k (eqb x 10) _ _ (gives-doc s k t a (a + n) (a + (n + 2)) (omega arith) (omega arith)) (doc-fits s k t a (suc n) x (omega arith) (h .count) (both (isDoc t) (ltb 0 n) (h .state) .0) (omega arith))
+      two s k (eqb x 10) _ _ (gives-doc s k t a (a + n) (a + (n + 2)) (omega arith) (omega arith)) (doc-fits s k t a (suc n) x (omega arith) (h .count) (and-true (isDoc t) (ltb 0 n) (h .state) .0) (omega arith))
   row-fits Cr x h =
       let z : a + 1 ≡ s = one-byte Cr refl h (h .state) in
       two s k (eqb x 10) _ _ (starts s k (a + 2) (omega arith) (omega arith)) (inl refl)

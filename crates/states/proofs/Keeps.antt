@@ -10,7 +10,7 @@ use lib.ListN.{length}
 use borrow.Author.Tests.{ltb-true, ltb-false, leb-true, lt-ltb, le-leb, ne-eqb}
 use Rattle.text.specs.Booleans.{choose, among}
 use Rattle.text.specs.declared.Check.the-variants.{Good, Bad}
-use Rattle.text.proofs.Tests.{choose-by}
+use Rattle.text.proofs.Booleans.{and-both, and-true, choose-by}
 use Rattle.token.specs.Lists.{Tok}
 use Rattle.states.specs.declared.Tail.{Tail}
 use Rattle.states.specs.declared.Tail.the-variants.{T1, T2, T3, TE0, TED, TF0, TF4}
@@ -28,7 +28,7 @@ use Rattle.states.specs.Feed.{fits, numbered, standBy, standOf, refusals
 use Rattle.states.specs.Steps.{Goes, longAt, refusedAt, stepOf, ranOf, begin}
 use Rattle.states.proofs.Small.{wait-some}
 use Rattle.states.proofs.Back.{stateBack, state-back, utf-back}
-use Rattle.states.proofs.Fits.{never, both, and-yes, Fit, FitO, row-fits}
+use Rattle.states.proofs.Fits.{never, Fit, FitO, row-fits}
 use Rattle.states.proofs.Runs.{took, followed-goes}
 
 -- ---- a stream whose numbers fit one another
@@ -127,9 +127,9 @@ pub fitting-test : (c : Stand) → Fitting c → fits c ≡ true
 unfolding fits
 fitting-test c h =
     let e : c .conf .start + (c .conf .size + waiting (c .conf .state)) ≡ c .seen = h .fit .sum in
-    and-yes (leb (c .seen) 65536) _ (le-leb (c .seen) 65536 (h .short))
-    (and-yes (leb (c .conf .start) (c .seen)) _ (le-leb (c .conf .start) (c .seen) (omega arith))
-    (and-yes (leb (c .count) (c .conf .start)) _ (le-leb (c .count) (c .conf .start) (h .fit .count)) (and-yes (stateFits (c .conf .state) (c .conf .size)) (utfFits (c .utf) (c .seen)) (h .fit .state) (h .sound))))
+    and-both (leb (c .seen) 65536) _ (le-leb (c .seen) 65536 (h .short))
+    (and-both (leb (c .conf .start) (c .seen)) _ (le-leb (c .conf .start) (c .seen) (omega arith))
+    (and-both (leb (c .count) (c .conf .start)) _ (le-leb (c .count) (c .conf .start) (h .fit .count)) (and-both (stateFits (c .conf .state) (c .conf .size)) (utfFits (c .utf) (c .seen)) (h .fit .state) (h .sound))))
 
 sum-by : (a s w : ℕ) → a ≤ s → (w ≡ 0) ⊎ ((w ≡ 1) × (0 < s - a - w)) → a + (s - a - w + w) ≡ s
 sum-by a s w h (inl e) = omega arith
@@ -142,10 +142,10 @@ fitting-by : (f : Feed) (q : State) → fits (standBy f q) ≡ true → Fitting 
 unfolding fits
 fitting-by f q e =
     let c : Stand = standBy f q in
-    let g = both (leb (c .seen) 65536) _ e in
-    let h = both (leb (c .conf .start) (c .seen)) _ (g .1) in
-    let i = both (leb (c .count) (c .conf .start)) _ (h .1) in
-    let j = both (stateFits q (c .conf .size)) (utfFits (c .utf) (c .seen)) (i .1) in
+    let g = and-true (leb (c .seen) 65536) _ e in
+    let h = and-true (leb (c .conf .start) (c .seen)) _ (g .1) in
+    let i = and-true (leb (c .count) (c .conf .start)) _ (h .1) in
+    let j = and-true (stateFits q (c .conf .size)) (utfFits (c .utf) (c .seen)) (i .1) in
     record {
       short = leb-true (c .seen) 65536 (g .0);
       fit =

@@ -12,7 +12,7 @@ use lib.Seq.{sets}
 use Rattle.text.specs.Booleans.{among}
 use Rattle.text.specs.declared.Check.{Check}
 use Rattle.text.specs.declared.Check.the-variants.{Good, Bad}
-use Rattle.text.proofs.Tests.{choose-by}
+use Rattle.text.proofs.Booleans.{choose-by}
 use Rattle.token.specs.Lists.{Tok}
 use Rattle.token.specs.Table.{flat, roomOf}
 use Rattle.states.specs.declared.Utf.{Utf}

@@ -12,7 +12,8 @@ use borrow.Author.Tests.{eqb-true, eqb-false, ne-eqb, eq-eqb, ltb-true, ltb-fals
 use Rattle.text.specs.Booleans.{and, or, all}
 use Rattle.text.specs.Classes.{classOf}
 use Rattle.text.specs.Words.{inWord, begins, push}
-use Rattle.text.proofs.Tests.{choose-by, lt-or-ge}
+use Rattle.text.proofs.Tests.{lt-or-ge}
+use Rattle.text.proofs.Booleans.{and-left, and-right, and-second, choose-by, or-false, or-second, or-true}
 use Rattle.token.specs.Blanks.{run, first, words}
 use Rattle.token.specs.Tokens.{pushLiteral}
 use Rattle.token.specs.Lists.{Tokens}
@@ -24,18 +25,6 @@ use Rattle.states.proofs.From.{ended, from-end, ended-next, none}
 use Rattle.states.proofs.Left.{pushOk, pushed, after}
 use Rattle.states.proofs.Rows.{run-go, run-none, run-stop}
 use Rattle.states.proofs.Words.{push-beyond, again-law, word-row}
-
-pub and-left : (p q : Bool) → and p q ≡ true → p ≡ true
-and-left true q e = refl
-and-left false q e = e
-
-and-right : (p q : Bool) → and p q ≡ true → q ≡ true
-and-right true q e = e
-and-right false q e = let z : _≡_ {A = ℕ} 0 1 = cc in absurd (omega arith)
-
-and-no : (p : Bool) → and p false ≡ false
-and-no true = refl
-and-no false = refl
 
 all-at : (f : ℕ → Bool) (xs : List ℕ) (n : ℕ) → all f xs ≡ true → n < length xs → f (getD xs n 0) ≡ true
 unfolding all
@@ -107,24 +96,16 @@ none-word : (n x : ℕ) (rest : List ℕ) → 4 ≤ n → (n < 12) ⊎ (12 ≤ n
 none-word n x rest h (inl l) e f =
     let w : words (x ∷ rest) ≡ suc (words rest) = run-go (first inWord) x rest f in
     let k : eqb x (getD pushLiteral n 0) ≡ false = rw (lt-ltb n 12 l) at e in
-    push-none n (x ∷ rest) h (ne-eqb (n + words (x ∷ rest)) 4 (λ q. omega arith)) (rw (begins-no pushLiteral n x rest l k) (and-no (eqb (n + words (x ∷ rest)) 12)))
+    push-none n (x ∷ rest) h (ne-eqb (n + words (x ∷ rest)) 4 (λ q. omega arith)) (rw (begins-no pushLiteral n x rest l k) (and-second (eqb (n + words (x ∷ rest)) 12) false refl))
 none-word n x rest h (inr l) e f =
     let w : words (x ∷ rest) ≡ suc (words rest) = run-go (first inWord) x rest f in
     push-none n (x ∷ rest) h (ne-eqb (n + words (x ∷ rest)) 4 (λ q. omega arith)) (rw (ne-eqb (n + words (x ∷ rest)) 12 (λ q. omega arith)))
-
-or-left : (p q : Bool) → or p q ≡ false → p ≡ false
-or-left false q e = refl
-or-left true q e = e
-
-or-right : (p q : Bool) → or p q ≡ false → q ≡ false
-or-right false q e = e
-or-right true q e = let z : _≡_ {A = ℕ} 0 1 = cc in absurd (omega arith)
 
 none-other : (n : ℕ) (xs : List ℕ) → 4 ≤ n → or (eqb n 4) (eqb n 12) ≡ false → words xs ≡ 0 → pushed n xs ≡ NoToken 0
 none-other n xs h e w =
     let z : n + 0 ≡ n = omega arith in
     let y : n + words xs ≡ n = ap (λ (k : ℕ). n + k) w ∙ z in
-    push-none n xs h (ap (λ (k : ℕ). eqb k 4) y ∙ or-left (eqb n 4) (eqb n 12) e) (rw (ap (λ (k : ℕ). eqb k 12) y ∙ or-right (eqb n 4) (eqb n 12) e))
+    push-none n xs h (ap (λ (k : ℕ). eqb k 4) y ∙ or-false (eqb n 4) (eqb n 12) e .0) (rw (ap (λ (k : ℕ). eqb k 12) y ∙ or-false (eqb n 4) (eqb n 12) e .1))
 
 none-by : (n x : ℕ) (rest : List ℕ) (p : Bool) → 4 ≤ n → and (ltb n 12) (eqb x (getD pushLiteral n 0)) ≡ false → and (or (eqb n 4) (eqb n 12)) (not p) ≡ false → inWord x ≡ p → pushed n (x ∷ rest) ≡ NoToken 0
 none-by n x rest true h e f g = none-word n x rest h (lt-or-ge n 12) e g
@@ -166,10 +147,6 @@ run-end p k a n =
     let y : n - n ≡ 0 = omega arith in
     rw (z, y, add-zero a, from-end (a + n))
 
-or-cases : (p q : Bool) → or p q ≡ true → (p ≡ true) ⊎ (q ≡ true)
-or-cases true q e = inl refl
-or-cases false q e = inr e
-
 push-last : (a n : ℕ) → (n < 4) ⊎ (or (eqb n 4) (eqb n 12) ≡ true) → ended a n [] (pushed n []) ≡ last 18 a (a + n)
 unfolding run
 push-last a n (inl h) =
@@ -184,19 +161,15 @@ few n false e f =
     let k : n ≡ 4 → ⊥ = eqb-false n 4 f in
     inl (omega arith)
 
-or-yes : (p : Bool) → or p true ≡ true
-or-yes true = refl
-or-yes false = refl
-
 push-ends : (n : ℕ) → (ltb n 5 ≡ true) ⊎ (eqb n 12 ≡ true) → (n < 4) ⊎ (or (eqb n 4) (eqb n 12) ≡ true)
 push-ends n (inl e) = few n (eqb n 4) e refl
-push-ends n (inr e) = inr (rw e (or-yes (eqb n 4)))
+push-ends n (inr e) = inr (rw e (or-second (eqb n 4) true refl))
 
 pub push-end : (a n : ℕ) → ended a n [] (pushed n []) ≡ endRow Push a n
 push-end a n =
-    choose-by (λ (t : Tokens). ended a n [] (pushed n []) ≡ t) (or (ltb n 5) (eqb n 12)) _ _ (λ e. push-last a n (push-ends n (or-cases (ltb n 5) (eqb n 12) e)))
+    choose-by (λ (t : Tokens). ended a n [] (pushed n []) ≡ t) (or (ltb n 5) (eqb n 12)) _ _ (λ e. push-last a n (push-ends n (or-true (ltb n 5) (eqb n 12) e)))
     (λ e.
-    let l : 5 ≤ n = ltb-false n 5 (or-left (ltb n 5) (eqb n 12) e) in
+    let l : 5 ≤ n = ltb-false n 5 (or-false (ltb n 5) (eqb n 12) e .0) in
     let f : eqb n 4 ≡ false = ne-eqb n 4 (λ q. omega arith) in
-    let g : eqb n 12 ≡ false = or-right (ltb n 5) (eqb n 12) e in
+    let g : eqb n 12 ≡ false = or-false (ltb n 5) (eqb n 12) e .1 in
     ap (ended a n []) (end-by n false false (omega arith) refl f g) ∙ none a n [])

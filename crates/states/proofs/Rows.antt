@@ -10,7 +10,7 @@ use borrow.Author.Tests.{eqb-true}
 use Rattle.text.specs.Booleans.{choose, nextIs}
 use Rattle.text.specs.Classes.{classOf}
 use Rattle.text.specs.declared.Look.the-variants.{Past}
-use Rattle.text.proofs.Tests.{choose-by}
+use Rattle.text.proofs.Booleans.{choose-by}
 use Rattle.token.specs.Blanks.{run, line, inLine, markOf, further, closeOf, lineBlank, slashBlank, returnBlank, openerBlank, blankBy, blankOf}
 use Rattle.token.specs.Tokens.{docToken, openerToken, tokenBy}
 use Rattle.token.specs.Lists.{tok, onto}

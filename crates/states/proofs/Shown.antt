@@ -12,7 +12,7 @@ use borrow.Author.Tests.{ltb-true, ltb-false}
 use Rattle.text.specs.Booleans.{choose}
 use Rattle.text.specs.declared.Check.{Check}
 use Rattle.text.specs.declared.Check.the-variants.{Good, Bad}
-use Rattle.text.proofs.Tests.{choose-by}
+use Rattle.text.proofs.Booleans.{choose-by}
 use Rattle.token.specs.Lists.{Tok, tok, startOf}
 use Rattle.states.specs.declared.State.the-variants.{Refused}
 use Rattle.states.specs.declared.Conf.{Conf}

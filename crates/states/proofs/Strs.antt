@@ -20,9 +20,9 @@ use Rattle.text.specs.declared.Check.{Check}
 use Rattle.text.specs.declared.Check.the-variants.{Good, Bad}
 use Rattle.text.specs.declared.Sequence.the-variants.{Is}
 use Rattle.text.specs.declared.Look.the-variants.{Past, Stop}
-use Rattle.text.proofs.Tests.{choose-by}
 use Rattle.text.proofs.Decodes.{scalar-low}
 use Rattle.text.proofs.Walks.{sought-pending, past-head, later-later}
+use Rattle.text.proofs.Booleans.{choose-by}
 use Rattle.literal.specs.Escapes.{digitsBy, digitsOf, simpleOf, pairBy, pairOf, bracedBy, bracedOf, afterBy, afterOf, escapeOf}
 use Rattle.literal.specs.declared.Escape.{Escape}
 use Rattle.literal.specs.declared.Escape.the-variants.{Means, Plain}

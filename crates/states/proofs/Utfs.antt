@@ -15,8 +15,9 @@ use Rattle.text.specs.declared.Check.{Check}
 use Rattle.text.specs.declared.Check.the-variants.{Good, Bad}
 use Rattle.text.specs.declared.Sequence.{Sequence}
 use Rattle.text.specs.declared.Sequence.the-variants.{Is, Broken}
-use Rattle.text.proofs.Tests.{choose-by, lt-or-ge}
+use Rattle.text.proofs.Tests.{lt-or-ge}
 use Rattle.text.proofs.Walks.{sought-pending, later-later, later-zero}
+use Rattle.text.proofs.Booleans.{choose-by}
 use Rattle.token.specs.Blanks.{first}
 use Rattle.states.specs.declared.Tail.{Tail}
 use Rattle.states.specs.declared.Tail.the-variants.{T1, T2, T3, TE0, TED, TF0, TF4}

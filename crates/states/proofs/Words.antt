@@ -10,7 +10,7 @@ use borrow.Author.Tests.{eqb-true, ltb-true, ltb-false, lt-ltb, le-ltb}
 use Rattle.text.specs.Booleans.{choose}
 use Rattle.text.specs.Classes.{classOf}
 use Rattle.text.specs.Words.{startsWord, inWord, begins}
-use Rattle.text.proofs.Tests.{choose-by}
+use Rattle.text.proofs.Booleans.{choose-by}
 use Rattle.token.specs.Blanks.{run, first, inDigits, isZero, words, digitRun, zeros, openerBlank, blankBy}
 use Rattle.token.specs.Tokens.{allowed, wordToken, tagToken, numberToken, minusToken, dotsToken, stringOf, insensToken, openerToken, oneKind, tokenBy}
 use Rattle.token.specs.Lists.{tok, onto}

@@ -16,6 +16,7 @@ use Rattle.text.specs.declared.Check.the-variants.{Good}
 use Rattle.text.specs.Scans.{later}
 use Rattle.token.specs.Tokens.{moved, tokenOf}
 use Rattle.text.proofs.Splices.{sets-append}
+use Rattle.text.proofs.Booleans.{and-true}
 use Rattle.token.specs.Lists.{Tok, tok, Tokens}
 use Rattle.token.specs.declared.Token.{Token}
 use Rattle.token.specs.declared.Token.the-variants.{Found, End, NoToken}
@@ -37,7 +38,7 @@ use Rattle.stream.specs.Shapes.{givesOf, Coherent}
 use Rattle.stream.specs.Quick.{startAt, isBetween, Holds, Leapt}
 use Rattle.states.proofs.From.{from, ended, from-law}
 use Rattle.states.proofs.Left.{left}
-use Rattle.states.proofs.Fits.{never, both}
+use Rattle.states.proofs.Fits.{never}
 use Rattle.states.proofs.Utfs.{machine-at, utf-cuts}
 use Rattle.states.proofs.Cuts.{given-given, followed-given, ran-cut}
 use Rattle.stream.proofs.Loops.{loop-starts}
@@ -88,7 +89,7 @@ utf-start (Broke p) e = never e
 pub between-is : (c : Stand) → Coherent c → isBetween c ≡ true → c ≡ startAt (c .seen) (c .count)
 unfolding isBetween
 between-is c s e =
-    let h = both (eqb (codeOf (c .conf .state)) 0) (eqb (utfCode (c .utf)) 0) e in
+    let h = and-true (eqb (codeOf (c .conf .state)) 0) (eqb (utfCode (c .utf)) 0) e in
     let q : c .conf .state ≡ Start = code-start (c .conf .state) (h .0) in
     let u : c .utf ≡ Whole = utf-start (c .utf) (h .1) in
     let f : eqb (c .conf .size) 0 ≡ true = rw q at (s .state) in

@@ -15,7 +15,8 @@ use Rattle.text.specs.Classes.{classOf, blanks, letter, digit, ones, openers}
 use Rattle.text.specs.Words.{startsWord, inWord}
 use Rattle.text.specs.declared.Check.{Check}
 use Rattle.text.specs.declared.Check.the-variants.{Good, Bad}
-use Rattle.text.proofs.Tests.{choose-by, within-low}
+use Rattle.text.proofs.Tests.{within-low}
+use Rattle.text.proofs.Booleans.{and-true, choose-by}
 use Rattle.literal.specs.Escapes.{simpleOf}
 use Rattle.token.specs.Blanks.{inDigits, isZero}
 use Rattle.token.specs.Tokens.{pushLiteral, oneKind}
@@ -38,7 +39,7 @@ use Rattle.stream.specs.Shapes.{Coherent}
 use Rattle.stream.specs.Quick.{startAt}
 use Rattle.states.proofs.Left.{left}
 use Rattle.states.proofs.Main.{row-law, end-law}
-use Rattle.states.proofs.Fits.{never, both, code-refused}
+use Rattle.states.proofs.Fits.{never, code-refused}
 use Rattle.states.proofs.Utfs.{stays}
 use Rattle.states.proofs.Cuts.{followed-given}
 use Rattle.stream.proofs.Loops.{loop-starts}
@@ -108,7 +109,7 @@ below-by y x false c e h f g = f g
 below : (l : List ℕ) (x : ℕ) → small l ≡ true → among l x ≡ true → x < 128
 below [] x h e = never e
 below (y ∷ ys) x h e =
-    let g = both (ltb y 128) (small ys) h in
+    let g = and-true (ltb y 128) (small ys) h in
     below-by y x (eqb x y) (among ys x) refl (g .0) (λ f. below ys x (g .1) f) e
 
 -- a token of one byte is ASCII

@@ -14,7 +14,7 @@ use Rattle.text.specs.Booleans.{choose, among}
 use Rattle.text.specs.declared.Check.{Check}
 use Rattle.text.specs.declared.Check.the-variants.{Good, Bad}
 use Rattle.text.proofs.Splices.{sets-append}
-use Rattle.text.proofs.Tests.{choose-by}
+use Rattle.text.proofs.Booleans.{choose-by}
 use Rattle.token.specs.Lists.{Tok}
 use Rattle.token.specs.Table.{flat, roomOf}
 use Rattle.token.proofs.Table.{flat-append, flat-length, row-fits}

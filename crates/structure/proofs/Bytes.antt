@@ -13,11 +13,12 @@ use Rattle.text.specs.Splice.{spent}
 use Rattle.literal.specs.Escapes.{badEscape, unescaped}
 use Rattle.text.specs.Scans.{spelled, sought}
 use Rattle.text.specs.declared.Check.the-variants.{Good}
+use Rattle.text.proofs.Booleans.{choose-false, choose-true}
 use Rattle.token.specs.Table.{kind, start, end, is, between, word}
 use Rattle.token.proofs.Table.{part-none, word-is, word-length}
 use Rattle.structure.specs.Tokens.{same, spells}
 use Rattle.structure.specs.Values.{opening, literalBytes, string}
-use Rattle.structure.proofs.Steps.{sees, misses, choose-true, choose-false}
+use Rattle.structure.proofs.Steps.{sees, misses}
 use Rattle.structure.proofs.Sizes.{most, part-short, unescaped-short}
 
 -- the string that the inside of a literal means

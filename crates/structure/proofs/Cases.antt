@@ -7,6 +7,7 @@ use mathlib.Core.Option.{Option, none, some}
 use native.Mathlib.Omega.{arith}
 use lib.Dec.{leb}
 use Rattle.text.specs.Words.{push}
+use Rattle.text.proofs.Booleans.{split}
 use Rattle.token.specs.Table.{start, end, is, word, label}
 use Rattle.token.specs.Tokens.{pushLiteral}
 use Rattle.table.specs.Tree.{Span, text, range, plain, Tree, leaf, Rule, endsAt}
@@ -18,7 +19,7 @@ use Rattle.structure.specs.declared.Level.{Level}
 use Rattle.structure.specs.Tokens.{across, spells}
 use Rattle.structure.specs.Values.{number, string, character}
 use Rattle.structure.specs.Structure.{got, next, limit, join, closed, prefixed, postfixed, inTag, post, noPost, fromNumber, fromComma, postfixAt, slice, pushed, ranged, slices, leafAt, expr, term, signed, node, chain, posts, Run, isName, markAt, pastMark, pastBar, ruling, ruleFrom}
-use Rattle.structure.proofs.Steps.{split, no-tree, next-got, want-got, want-post, opened-got, posts-by}
+use Rattle.structure.proofs.Steps.{no-tree, next-got, want-got, want-post, opened-got, posts-by}
 use Rattle.structure.proofs.Grammar.{expr-law, chain-law, term-law, signed-law, node-law, posts-law}
 use Rattle.structure.proofs.Cycle.{finished}
 use Rattle.structure.proofs.Rules.{want-rule, rule-got}

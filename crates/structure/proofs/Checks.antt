@@ -8,6 +8,7 @@ use native.Mathlib.Omega.{arith}
 use lib.ListN.{length}
 use Rattle.text.specs.Booleans.{choose, and}
 use Rattle.text.specs.Words.{push}
+use Rattle.text.proofs.Booleans.{choose-false, choose-true}
 use Rattle.token.specs.Table.{toks, kind, start, end, is, label}
 use Rattle.token.proofs.Table.{label-length}
 use Rattle.table.specs.Tree.{Span, plain, Tree, count, size, endsAt}
@@ -33,7 +34,7 @@ use Rattle.structure.specs.declared.PostfixEnds.the-variants as PostfixE
 use Rattle.structure.specs.Tokens.{spells}
 use Rattle.structure.specs.Structure.{Parsed, got, refused, next, want, opened, prefixed, postfixed, inTag, post, postfixAt, leafAt, postsBy, expr, term, signed, node, posts, Run}
 use Rattle.structure.specs.Answers.{summary, wanted, tagNodes, tagBytes, openingOf, signOf, predicates, Signed, bracketOf, tailOf, tailed, Posted}
-use Rattle.structure.proofs.Steps.{choose-true, choose-false, inside-is, sees, misses, want-true, want-false, next-assoc, next-fun, next-on, next-id, spells-in}
+use Rattle.structure.proofs.Steps.{inside-is, sees, misses, want-true, want-false, next-assoc, next-fun, next-on, next-id, spells-in}
 use Rattle.structure.proofs.Sizes.{most, label-short, Grown, grown-none, grown-ends, grown-before, grown-after, grown-tag, tag-small}
 use Rattle.structure.proofs.Fuel.{postfix-past}
 use Rattle.structure.proofs.Grammar.{term-law, signed-law, node-law, posts-law}

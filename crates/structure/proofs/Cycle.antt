@@ -9,6 +9,7 @@ use native.Mathlib.Omega.{arith}
 use lib.ListN.{length}
 use borrow.Author.Tests.{le-leb, lt-leb}
 use Rattle.text.specs.Booleans.{choose}
+use Rattle.text.proofs.Booleans.{choose-false, choose-true}
 use Rattle.token.specs.Table.{toks, kind, start, is}
 use Rattle.table.specs.Tree.{Span, Tree, count, size, startsAt}
 use Rattle.table.specs.declared.Join.the-variants.{Seq}
@@ -28,7 +29,7 @@ use Rattle.structure.specs.declared.PostfixEnds.{PostfixEnds}
 use Rattle.structure.specs.declared.PostfixEnds.the-variants as PostfixEnds
 use Rattle.structure.specs.Structure.{Parsed, got, refused, next, limit, join, closed, leafAt, Call, expr, term, node, chain, posts, place, Run}
 use Rattle.structure.specs.Answers.{unread, summary, wanted, openingOf, predicates, Signed, bracketOf, Posted}
-use Rattle.structure.proofs.Steps.{choose-true, choose-false, inside-is, sees, misses, next-good, next-bad, next-assoc, next-on, opened-true, opened-false}
+use Rattle.structure.proofs.Steps.{inside-is, sees, misses, next-good, next-bad, next-assoc, next-on, opened-true, opened-false}
 use Rattle.structure.proofs.Sizes.{most, Grown, grown-none, grown-starts, count-closed, size-closed, count-more, size-more}
 use Rattle.structure.proofs.Fuel.{Went, went, held, heldSize}
 use Rattle.structure.proofs.Grammar.{expr-law, chain-law, signed-law}

@@ -15,6 +15,7 @@ use Rattle.text.specs.declared.Decimal.{Decimal}
 use Rattle.text.specs.declared.Decimal.the-variants as Decimal
 use Rattle.text.specs.declared.Check.{Check}
 use Rattle.text.specs.declared.Check.the-variants as Check
+use Rattle.text.proofs.Booleans.{choose-false, choose-true, or-first, or-neither, or-second}
 use Rattle.literal.specs.Escapes.{escapeLook, badEscape}
 use Rattle.token.proofs.Bounds.{stop-at}
 use Rattle.token.specs.Table.{toks, kind, start, end, is, between, trimmed, word}
@@ -30,7 +31,7 @@ use Rattle.structure.specs.declared.Refusal.{Refusal}
 use Rattle.structure.specs.Refusals.{because}
 use Rattle.structure.specs.Tokens.{spells}
 use Rattle.structure.specs.Values.{integerOf, opening, literalBytes, repeatFault, peekFault, literalFault, wordFault, numberFault, faultAt, orFault, faultsFrom, faults}
-use Rattle.structure.proofs.Steps.{choose-true, choose-false, sees, misses, another, or-first, or-second, or-neither}
+use Rattle.structure.proofs.Steps.{sees, misses, another}
 use Rattle.structure.proofs.Sizes.{part-short}
 
 -- ---- numbers

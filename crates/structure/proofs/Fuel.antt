@@ -8,6 +8,7 @@ use native.Mathlib.Omega.{arith}
 use lib.ListN.{length}
 use Rattle.text.specs.Booleans.{choose}
 use Rattle.text.specs.Words.{push}
+use Rattle.text.proofs.Booleans.{choose-cong, split}
 use Rattle.token.specs.Table.{toks, start, end, is, word, label}
 use Rattle.token.specs.Tokens.{pushLiteral}
 use Rattle.table.specs.Tree.{Span, Atom, text, range, peekSlice, plain, Tree, leaf, one, below, count, stored, size, atomStored, endsAt, startsAt}
@@ -20,7 +21,7 @@ use Rattle.structure.specs.declared.Level.{Level}
 use Rattle.structure.specs.Tokens.{across, spells}
 use Rattle.structure.specs.Values.{isInteger, integer, string, character}
 use Rattle.structure.specs.Structure.{Parsed, got, refused, next, want, join, closed, prefixed, postfixed, inTag, post, fromNumber, fromComma, postfixAt, sliceTo, slice, pushed, ranged, slices, leafAt, Call, expr, term, signed, node, chain, posts, body, place, weight, run, Run}
-use Rattle.structure.proofs.Steps.{split, choose-cong, inside-is, want-cong, no-tree, next-got, next-cong, want-got, want-post, opened-got, opened-cong, posts-cong, posts-by}
+use Rattle.structure.proofs.Steps.{inside-is, want-cong, no-tree, next-got, next-cong, want-got, want-post, opened-got, opened-cong, posts-cong, posts-by}
 use Rattle.structure.proofs.Sizes.{most, word-short, label-short, string-short, Grown, grown-none, grown-ends, grown-starts, grown-before, grown-after, grown-tag, tag-small, count-closed, size-closed, count-more, size-more}
 
 -- ---- postfixes

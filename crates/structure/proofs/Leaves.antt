@@ -7,6 +7,7 @@ use native.Mathlib.Omega.{arith}
 use lib.ListN.{length}
 use borrow.Author.Tests.{le-leb, lt-leb}
 use Rattle.text.specs.Booleans.{choose, and}
+use Rattle.text.proofs.Booleans.{and-both, and-first, and-second, choose-false, choose-true, or-first, or-neither, or-second}
 use Rattle.token.specs.Table.{toks, kind, start, is, word}
 use Rattle.token.specs.Tokens.{pushLiteral}
 use Rattle.table.specs.Tree.{Span, Atom, text, range, peekSlice, leaf, below, stored, atomStored}
@@ -27,7 +28,7 @@ use Rattle.structure.specs.Tokens.{across, spells, peek}
 use Rattle.structure.specs.Values.{isInteger, integer, number, string, character}
 use Rattle.structure.specs.Structure.{Parsed, got, refused, want, limit, post, notPost, fromNumber, fromComma, postfixAt, sliceTo, slice, pushed, ranged, slices, leafAt}
 use Rattle.structure.specs.Answers.{summary, wanted, pastInteger, tailOf}
-use Rattle.structure.proofs.Steps.{choose-true, choose-false, inside-is, sees, misses, opened-true, opened-false, another, spells-kind, and-both, and-first, and-second, or-first, or-second, or-neither}
+use Rattle.structure.proofs.Steps.{inside-is, sees, misses, opened-true, opened-false, another, spells-kind}
 use Rattle.structure.proofs.Wants.{wanted-on, wanted-off, tail-past, tail-bad, tail-ended, sum-refused, sum-got}
 
 -- ---- postfixes

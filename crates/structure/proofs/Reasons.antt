@@ -15,7 +15,7 @@ use Rattle.text.specs.declared.Check.{Check}
 use Rattle.text.specs.declared.Check.the-variants as Check
 use Rattle.text.specs.declared.Decimal.{Decimal}
 use Rattle.text.specs.declared.Decimal.the-variants as Decimal
-use Rattle.text.proofs.Tests.{choose-by}
+use Rattle.text.proofs.Booleans.{choose-by}
 use Rattle.literal.specs.Escapes.{badEscape}
 use Rattle.token.specs.Table.{toks, start, end, kind, is, word, label}
 use Rattle.token.specs.Tokens.{pushLiteral}

@@ -9,6 +9,7 @@ use lib.ListN.{length, take, drop, length-append}
 use borrow.Author.Tests.{le-leb, lt-leb, eq-eqb, ne-eqb}
 use Rattle.text.specs.Booleans.{choose, and}
 use Rattle.text.specs.Words.{begins, push}
+use Rattle.text.proofs.Booleans.{and-left, choose-false, choose-true, split}
 use Rattle.token.specs.Table.{toks, kind, start, end, is, between, word}
 use Rattle.token.proofs.Table.{word-is}
 use Rattle.table.specs.Tree.{Span, Tree, Rule, count, counts, stored, size, ruleStored, rulesStored}
@@ -25,7 +26,7 @@ use Rattle.structure.specs.declared.Wanted.the-variants.{Here, Missing}
 use Rattle.structure.specs.Tokens.{across, same, spells}
 use Rattle.structure.specs.Structure.{Parsed, got, refused, want, expr, Run, isName, silent, markAt, pastMark, pastBar, Ruled, rules, unruled, withRule, Ruling, ruling, noRule, ruleOf, thenRules, ruleFrom, rulesUpTo, docsIn, docs, grammar}
 use Rattle.structure.specs.Answers.{summary, wanted, ruleSummary, summaries}
-use Rattle.structure.proofs.Steps.{choose-true, choose-false, split, inside-is, sees, misses, another, spells-in, spells-kind, and-left}
+use Rattle.structure.proofs.Steps.{inside-is, sees, misses, another, spells-in, spells-kind}
 use Rattle.structure.proofs.Sizes.{most, word-short}
 use Rattle.structure.proofs.Fuel.{went}
 use Rattle.structure.proofs.Wants.{wanted-on, wanted-off, good, bad}

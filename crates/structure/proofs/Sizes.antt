@@ -8,7 +8,7 @@ use lib.Dec.{ltb}
 use lib.ListN.{length, drop, length-append, length-take, length-drop}
 use Rattle.text.specs.Scans.{Piece, spelled}
 use Rattle.text.specs.Utf8.{encoded}
-use Rattle.text.proofs.Tests.{choose-by}
+use Rattle.text.proofs.Booleans.{choose-by}
 use Rattle.literal.specs.Escapes.{escapeOf, escapePieceBy, escapePiece, unescaped}
 use Rattle.literal.specs.declared.Escape.{Escape}
 use Rattle.literal.specs.declared.Escape.the-variants as Escape

@@ -9,6 +9,7 @@ use lib.Dec.{leb}
 use lib.ListN.{length, List·getD-eq-default}
 use borrow.Author.Tests.{eqb-true, eq-eqb, ne-eqb}
 use Rattle.text.specs.Booleans.{choose, and, or}
+use Rattle.text.proofs.Booleans.{and-first, and-left, choose-cong, choose-false, choose-true, split}
 use Rattle.token.specs.Lists.{tok, kindOf}
 use Rattle.token.specs.Table.{toks, tokOf, kind, start, is, word}
 use Rattle.table.specs.Tree.{Span, Tree}
@@ -18,54 +19,6 @@ use Rattle.structure.specs.declared.Why.the-variants.{NotAllowed, TooDee
 use Rattle.structure.specs.Refusals.{because}
 use Rattle.structure.specs.Tokens.{same, spells}
 use Rattle.structure.specs.Structure.{Parsed, got, refused, next, want, limit, opened, Postfix, post, notPost, noPost, postsBy}
-
--- ---- a choice
-
-pub choose-true : {A : Type 0} (b : Bool) (x y : Unit {0} → A) → b ≡ true → choose b x y ≡ x tt
-choose-true true x y e = refl
-choose-true false x y e = let z : _≡_ {A = ℕ} 0 1 = cc in absurd (omega arith)
-
-pub choose-false : {A : Type 0} (b : Bool) (x y : Unit {0} → A) → b ≡ false → choose b x y ≡ y tt
-choose-false false x y e = refl
-choose-false true x y e = let z : _≡_ {A = ℕ} 0 1 = cc in absurd (omega arith)
-
-pub split : {A : Type 0} (b : Bool) (x y : Unit {0} → A) {z : A} {P : Type 0} → (b ≡ true → x tt ≡ z → P) → (b ≡ false → y tt ≡ z → P) → choose b x y ≡ z → P
-split true x y f g e = f refl e
-split false x y f g e = g refl e
-
-pub choose-cong : {A : Type 0} (b : Bool) (x y x′ y′ : Unit {0} → A) → (b ≡ true → x tt ≡ x′ tt) → (b ≡ false → y tt ≡ y′ tt) → choose b x y ≡ choose b x′ y′
-choose-cong true x y x′ y′ f g = f refl
-choose-cong false x y x′ y′ f g = g refl
-
--- ---- two tests
-
-pub and-left : (b c : Bool) → and b c ≡ true → b ≡ true
-and-left true c h = refl
-and-left false c h = h
-
-pub and-both : (b c : Bool) → b ≡ true → c ≡ true → and b c ≡ true
-and-both true c f g = g
-and-both false c f g = f
-
-pub and-first : (b c : Bool) → b ≡ false → and b c ≡ false
-and-first false c f = refl
-and-first true c f = let z : _≡_ {A = ℕ} 0 1 = cc in absurd (omega arith)
-
-pub and-second : (b c : Bool) → c ≡ false → and b c ≡ false
-and-second true c g = g
-and-second false c g = refl
-
-pub or-first : (b c : Bool) → b ≡ true → or b c ≡ true
-or-first true c f = refl
-or-first false c f = let z : _≡_ {A = ℕ} 0 1 = cc in absurd (omega arith)
-
-pub or-second : (b c : Bool) → c ≡ true → or b c ≡ true
-or-second true c f = refl
-or-second false c f = f
-
-pub or-neither : (b c : Bool) → b ≡ false → c ≡ false → or b c ≡ false
-or-neither false c f g = g
-or-neither true c f g = f
 
 -- ---- a token of a kind
 

@@ -7,6 +7,7 @@ use native.Mathlib.Omega.{arith}
 use native.Mathlib.Decide.{decLt}
 use lib.ListN.{length}
 use Rattle.text.specs.Booleans.{choose}
+use Rattle.text.proofs.Booleans.{choose-false, choose-true}
 use Rattle.token.specs.Lists.{Tok, tok, placeFrom}
 use Rattle.token.specs.Table.{toks, kind, start, is}
 use Rattle.token.proofs.Lists.{Ordered, ordered}
@@ -23,7 +24,7 @@ use Rattle.structure.specs.declared.PostfixEnd.{PostfixEnd}
 use Rattle.structure.specs.declared.PostfixEnd.the-variants as PostfixEnd
 use Rattle.structure.specs.Structure.{Parsed, got, refused, want, Postfix, post, notPost, noPost}
 use Rattle.structure.specs.Answers.{unread, summary, wanted, tailOf}
-use Rattle.structure.proofs.Steps.{choose-true, choose-false, inside-is, sees, misses, want-true, want-false}
+use Rattle.structure.proofs.Steps.{inside-is, sees, misses, want-true, want-false}
 
 -- ---- a token that is wanted
 

@@ -9,6 +9,7 @@ use lib.ListN.{length, getD}
 use borrow.Author.Tests.{lt-ltb, le-leb}
 use Rattle.text.specs.Booleans.{choose}
 use Rattle.text.specs.Utf8.{scalar}
+use Rattle.text.proofs.Booleans.{and-both, choose-true}
 use Rattle.table.specs.declared.Join.the-variants.{Seq, Choice}
 use Rattle.table.specs.declared.Unary.{Unary}
 use Rattle.table.specs.declared.Unary.the-variants.{PosPred, NegPred, Opt, Rep, RepOnce, RepExact, RepMin, RepMax, RepMinMax, Push}
@@ -19,7 +20,6 @@ use Rattle.table.specs.declared.First.the-variants.{At, Nowhere}
 use Rattle.table.specs.Record.{nodeSize, nodeOf, nodeAt, firstAt}
 use Rattle.table.specs.Check.{goodOp, goodLeaf, verdict, Firsts}
 use Rattle.table.specs.Children.{ones, twos, limits, Limits, Told}
-use Rattle.table.proofs.Branches.{and-both, choose-true}
 use Rattle.table.proofs.Nodes.{first-le}
 use Rattle.table.proofs.Ascii.{stringKind, string-good}
 use Rattle.table.proofs.Verdicts.{verdict-tip, verdict-one, verdict-one-child, verdict-two, verdict-two-right, verdict-two-left}

@@ -7,12 +7,12 @@ use native.Mathlib.Omega.{arith}
 use lib.Dec.{leb}
 use lib.ListN.{length}
 use borrow.Author.Tests.{le-leb, lt-leb}
+use Rattle.text.proofs.Booleans.{and-first, and-second}
 use Rattle.table.specs.declared.Sort.the-variants.{Ident}
 use Rattle.table.specs.declared.Head.{Head}
 use Rattle.table.specs.declared.Leaf.the-variants.{Text}
 use Rattle.table.specs.Record.{markAt, rootAt, headAt}
 use Rattle.table.specs.Check.{goodLeaf, beginAt, goodName, goodRoot, goodRule}
-use Rattle.table.proofs.Branches.{and-first, and-second}
 
 module _ (ns rs st : List ℕ) (k : ℕ) where
   name-of : (h : Head) → h ≡ headAt rs k → goodLeaf st (Text Ident (h .offset) (h .length)) ≡ goodName rs st k

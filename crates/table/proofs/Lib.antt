@@ -1,6 +1,5 @@
 -- The laws of trees and tables.
 pub mod Columns
-pub mod Branches
 pub mod Records
 pub mod Nodes
 pub mod Texts

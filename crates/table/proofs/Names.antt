@@ -11,13 +11,13 @@ use Rattle.text.specs.Booleans.{and}
 use Rattle.text.specs.Words.{begins}
 use Rattle.text.specs.declared.Check.{Check}
 use Rattle.text.specs.declared.Check.the-variants.{Good, Bad}
+use Rattle.text.proofs.Booleans.{and-both, and-first, and-true}
 use Rattle.table.specs.declared.Head.{Head}
 use Rattle.table.specs.declared.Named.{Named}
 use Rattle.table.specs.declared.Named.the-variants.{By, Nobody}
 use Rattle.table.specs.Record.{rulesIn, nameOffset, nameLength, nameAt, rootAt, part, headAt}
 use Rattle.table.specs.Check.{lowest, Valid}
 use Rattle.table.specs.Names.{sameText, otherName, namedBy, ruleNamed, NamesInside}
-use Rattle.table.proofs.Branches.{and-true, and-both, and-first}
 use Rattle.table.proofs.Lowest.{lowest-good, lowest-bad, lowest-fails}
 use Rattle.table.proofs.Texts.{part-between}
 use Rattle.table.proofs.Tables.{sound-at}

@@ -11,6 +11,7 @@ use lib.ListN.{length, getD, List·getD-eq-default}
 use borrow.Author.Tests.{eqb-true}
 use Rattle.text.proofs.Tests.{lt-or-ge}
 use Rattle.text.specs.Booleans.{and}
+use Rattle.text.proofs.Booleans.{and-true}
 use Rattle.table.specs.declared.Join.{Join}
 use Rattle.table.specs.declared.Leaf.{Leaf}
 use Rattle.table.specs.declared.Op.{Op}
@@ -20,7 +21,6 @@ use Rattle.table.specs.Tree.{Span, Tree, leaf, one, two, Atom, Wrap}
 use Rattle.table.specs.Record.{nodeAt, spanAt, Row, tip, wrap, pair, atomOf, wrapOf, rowOf, rowAt, column, entry, blank, treeOf, treeBy, treeAt, firstOf, firstBy, firstAt}
 use Rattle.table.specs.Check.{goodLeaf, goodOp, goodNode, goodAt, Sound}
 use Rattle.table.proofs.Columns.{length-column, column-at, column-all}
-use Rattle.table.proofs.Branches.{and-true}
 
 -- ---- first nodes
 

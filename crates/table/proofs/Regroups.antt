@@ -8,12 +8,12 @@ use lib.Dec.{leb}
 use lib.ListN.{length, length-append}
 use borrow.Author.Tests.{not-true}
 use Rattle.text.specs.Booleans.{choose, and}
+use Rattle.text.proofs.Booleans.{and-both, and-true, choose-false}
 use Rattle.table.specs.declared.Join.{Join}
 use Rattle.table.specs.declared.Join.the-variants.{Seq, Choice}
 use Rattle.table.specs.Tree.{Atom, Wrap, plain, nodeTag, Tree, leaf, one, two, Rule, placed, below, count, counts, atomStored, wrapStored, stored, ruleStored, rulesStored, Nowhere, aside, ruleBy}
 use Rattle.table.specs.Regroup.{isJoin, joined, regrouped, parts, regroup, grouped, links, isTag, untagged, Item, end, over, items, unlabelled, untaggedRules}
 use Rattle.table.specs.Check.{isName, isLabel, fineAtom, fineWrap, fine, fineRule, fineRules}
-use Rattle.table.proofs.Branches.{and-true, and-both, choose-false}
 
 -- ---- what a tree's nodes in order say of it
 

@@ -11,7 +11,6 @@ use Rattle.table.specs.Tree.{Span, Rule, below, count, counts, rulesStor
 use Rattle.table.specs.Record.{nodeSize, ruleSize, nodesIn, rulesIn, treeAt, firstAt, nameOffset, nameLength, nameAt, markAt, rootAt, nameSpan, ruleRowAt, ruleAt, rulesFrom, rulesOf}
 use Rattle.table.specs.Flat.{nodesOf, recordsOf, ruleRow, RulesLie, Alike}
 use Rattle.table.specs.Check.{maxNodes, maxRules, maxStore, inStore, isName, goodAt, beginAt, goodName, goodRoot, goodRule, lowest, orElse, leftOver, shaped, tables, Numbered, numbered, fine, fineRule, fineRules, Sound, Valid}
-use Rattle.table.proofs.Branches.{and-true, and-both, choose-true, choose-false}
 use Rattle.table.proofs.Trees.{read}
 use Rattle.table.proofs.Nodes.{sound-below}
 use Rattle.table.proofs.Lowest.{lowest-good, lowest-all}
@@ -19,6 +18,7 @@ use Rattle.table.proofs.Rules.{length-nodes, length-records, rules-many
 use Rattle.text.specs.Booleans.{choose}
 use Rattle.text.specs.declared.Check.{Check}
 use Rattle.text.specs.declared.Check.the-variants.{Good, Bad}
+use Rattle.text.proofs.Booleans.{and-both, and-true, choose-false, choose-true}
 use Rattle.table.specs.declared.TableCheck.{TableCheck}
 use Rattle.table.specs.declared.TableCheck.the-variants as Table
 

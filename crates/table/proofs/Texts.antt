@@ -21,8 +21,8 @@ use Rattle.text.specs.declared.Check.{Check}
 use Rattle.text.specs.declared.Check.the-variants.{Good, Bad}
 use Rattle.text.specs.declared.Word.{Word}
 use Rattle.text.specs.declared.Word.the-variants as Word
+use Rattle.text.proofs.Booleans.{and-true}
 use Rattle.table.specs.Check.{isGood, mayName, mayTag, isUtf8, isName, isLabel, fineText, fineAtom, fineWrap, inStore, leafInside, opInside, goodLeaf, goodOp}
-use Rattle.table.proofs.Branches.{and-true}
 
 module _ (st : List ℕ) where
   pub leaf-inside : (k : Sort) (p n : ℕ) → goodLeaf st (Text k p n) ≡ true → p + n ≤ length st

@@ -18,8 +18,8 @@ use Rattle.table.specs.Tree.{Span, Atom, text, range, peekSlice, Wrap, p
 use Rattle.table.specs.Record.{nodeAt, spanAt, wrap, pair, atomOf, wrapOf, rowAt, treeAt, firstAt}
 use Rattle.table.specs.Flat.{leafAt, opAt, Lies}
 use Rattle.table.specs.Check.{fineAtom, fineWrap, goodLeaf, goodOp, goodAt, fine, Sound}
-use Rattle.table.proofs.Branches.{and-true, and-both}
 use Rattle.text.proofs.Tests.{lt-or-ge}
+use Rattle.text.proofs.Booleans.{and-both, and-true}
 use Rattle.table.proofs.Nodes.{first-tip, first-one, first-two, row-is, row-tree-tip, row-tree-one, row-tree-two, tree-tip, tree-one, tree-two, good-is, sound-tip, sound-one, sound-two, sound-unknown, sound-below}
 use Rattle.table.proofs.Texts.{leaf-fine, op-fine}
 use Rattle.table.proofs.Held.{Held, held-part, held-inside}

@@ -9,6 +9,7 @@ use lib.ListN.{length, getD, set}
 use lib.Seq.{getD-set-same, getD-set-other}
 use borrow.Author.Tests.{eq-eqb, ne-eqb}
 use Rattle.text.specs.Booleans.{choose}
+use Rattle.text.proofs.Booleans.{and-both, and-first, and-second, choose-false, choose-true}
 use Rattle.table.specs.declared.Join.{Join}
 use Rattle.table.specs.declared.Leaf.{Leaf}
 use Rattle.table.specs.declared.Op.{Op}
@@ -18,7 +19,6 @@ use Rattle.table.specs.Tree.{one, two}
 use Rattle.table.specs.Record.{nodeAt, firstAt}
 use Rattle.table.specs.Check.{goodLeaf, goodOp, goodAt, verdict, Firsts}
 use Rattle.table.proofs.Columns.{below-suc}
-use Rattle.table.proofs.Branches.{and-both, and-first, and-second, choose-true, choose-false}
 use Rattle.table.proofs.Nodes.{first-le, first-tip, first-one, first-two, good-is}
 
 module _ (ns st : List ℕ) (i : ℕ) where

@@ -13,7 +13,8 @@ use Rattle.text.specs.Booleans.{choose}
 use Rattle.text.specs.Classes.{digit}
 use Rattle.text.specs.Digits.{digits, decimal, decimalFrom, decimalOf}
 use Rattle.text.specs.declared.Decimal.{Decimal}
-use Rattle.text.proofs.Tests.{choose-by, lt-or-ge, at-byte, at-end, within-yes}
+use Rattle.text.proofs.Tests.{lt-or-ge, at-byte, at-end, within-yes}
+use Rattle.text.proofs.Booleans.{choose-by}
 
 digits-one : (k n : ℕ) → n < 10 → digits (suc k) n ≡ (48 + n) ∷ []
 unfolding digits

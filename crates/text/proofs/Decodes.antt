@@ -14,7 +14,8 @@ use Rattle.text.specs.declared.Value.{Value}
 use Rattle.text.specs.declared.Value.the-variants.{Number, Nothing}
 use Rattle.text.specs.declared.Lead.{Lead}
 use Rattle.text.specs.declared.Sequence.the-variants.{Is, Broken}
-use Rattle.text.proofs.Tests.{choose-by, within-is, within-yes}
+use Rattle.text.proofs.Tests.{within-is, within-yes}
+use Rattle.text.proofs.Booleans.{choose-by}
 
 -- a scalar value is below the surrogates or above them
 scalar-by : (c : ℕ) (b : Bool) → ltb c 0xd800 ≡ b → choose b (λ u. true) (λ u. within 0xe000 0x10ffff c) ≡ true → (c < 0xd800) ⊎ ((0xe000 ≤ c) × (c ≤ 0x10ffff))

@@ -1,4 +1,5 @@
 -- The laws of this crate, for its own functions and for the crates above.
+pub mod Booleans
 pub mod Tests
 pub mod Splices
 pub mod Walks

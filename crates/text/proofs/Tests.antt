@@ -11,11 +11,7 @@ use lib.Seq.{drop-cons}
 use lib.Dec.{leb, ltb}
 use borrow.Author.Tests.{le-leb, lt-leb, leb-true, ltb-true, ltb-false}
 use Rattle.text.specs.Booleans.{choose, and, within}
-
--- what holds of both branches where they are taken holds of the choice
-pub choose-by : {A : Type 0} (P : A → Type 0) (b : Bool) (f g : Unit {0} → A) → (b ≡ true → P (f tt)) → (b ≡ false → P (g tt)) → P (choose b f g)
-choose-by P true f g y n = y refl
-choose-by P false f g y n = n refl
+use Rattle.text.proofs.Booleans.{and-second}
 
 by-test : (m n : ℕ) (b : Bool) → ltb m n ≡ b → (m < n) ⊎ (n ≤ m)
 by-test m n true e = inl (ltb-true m n e)
@@ -30,15 +26,11 @@ at-byte s i h = rw (add-one, drop-cons s i 0)
 pub at-end : (s : List ℕ) (i : ℕ) → length s ≤ i → drop i s ≡ []
 at-end s i h = drop-of-length-le s h
 
-and-false : (a : Bool) → and a false ≡ false
-and-false true = refl
-and-false false = refl
-
 pub within-low : (lo hi b : ℕ) → b < lo → within lo hi b ≡ false
 within-low lo hi b h = rw (lt-leb lo b h)
 
 pub within-high : (lo hi b : ℕ) → hi < b → within lo hi b ≡ false
-within-high lo hi b h = rw (lt-leb b hi h) (and-false (leb lo b))
+within-high lo hi b h = rw (lt-leb b hi h) (and-second (leb lo b) false refl)
 
 pub within-if : (lo hi b : ℕ) → lo ≤ b → within lo hi b ≡ leb b hi
 within-if lo hi b h = rw (le-leb lo b h)

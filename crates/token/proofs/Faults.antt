@@ -18,8 +18,9 @@ use Rattle.text.specs.declared.Check.{Check}
 use Rattle.text.specs.declared.Check.the-variants.{Good, Bad}
 use Rattle.text.specs.declared.Sequence.{Sequence}
 use Rattle.text.specs.declared.Sequence.the-variants.{Is, Broken}
-use Rattle.text.proofs.Tests.{choose-by, lt-or-ge, at-byte}
+use Rattle.text.proofs.Tests.{lt-or-ge, at-byte}
 use Rattle.text.proofs.Walks.{sought-end}
+use Rattle.text.proofs.Booleans.{choose-by}
 use Rattle.literal.specs.Escapes.{escapeOf}
 use Rattle.literal.specs.declared.Escape.{Escape}
 use Rattle.literal.specs.declared.Escape.the-variants.{Means, Plain}

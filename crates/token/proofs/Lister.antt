@@ -9,7 +9,7 @@ use borrow.Author.Tests.{lt-ltb, le-ltb}
 use Rattle.text.specs.Utf8.{firstBad}
 use Rattle.text.specs.declared.Check.{Check}
 use Rattle.text.specs.declared.Check.the-variants.{Good, Bad}
-use Rattle.text.proofs.Tests.{choose-by}
+use Rattle.text.proofs.Booleans.{choose-by}
 use Rattle.token.specs.Tokens.{tokenAt}
 use Rattle.token.specs.Lister.{listedBy, checkedBy, nextOf, numbersOf, lister}
 use Rattle.token.specs.declared.Token.{Token}

@@ -24,6 +24,7 @@ use Rattle.text.proofs.Tests.{lt-or-ge, within-yes, within-is}
 use Rattle.text.proofs.Decimals.{decimal-one, decimal-more, decimal-nonempty}
 use Rattle.text.proofs.Table.{at}
 use Rattle.text.proofs.Tables.{class-rule}
+use Rattle.text.proofs.Booleans.{and-true}
 use Rattle.literal.specs.Escapes.{escapeOf, afterOf, simpleOf}
 use Rattle.literal.specs.Literals.{inside, literal}
 use Rattle.literal.specs.declared.Escape.{Escape}
@@ -69,10 +70,6 @@ module _ (x : ℕ) (xs : List ℕ) where
 
 -- ---- runs
 
-and-both : (a b : Bool) → and a b ≡ true → (a ≡ true) × (b ≡ true)
-and-both true b e = (refl, e)
-and-both false b e = let z : _≡_ {A = ℕ} 0 1 = cc in absurd (omega arith)
-
 run-none : (f : ℕ → Bool) (ys : List ℕ) → first f ys ≡ false → run (first f) ys ≡ 0
 unfolding run
 run-none f [] e = refl
@@ -83,7 +80,7 @@ run-all : (f : ℕ → Bool) (w ys : List ℕ) → all f w ≡ true → first f 
 unfolding run all
 run-all f [] ys e n = run-none f ys n
 run-all f (x ∷ w) ys e n =
-    let (a, b) = and-both (f x) (all f w) e in
+    let (a, b) = and-true (f x) (all f w) e in
     rw a (ap suc (run-all f w ys b n))
 
 -- ---- words, behind which no letter, `_` or digit stands
@@ -99,14 +96,14 @@ unfolding begins all
 begins-past [] w ys e n = refl
 begins-past (q ∷ p) [] [] e n = refl
 begins-past (q ∷ p) [] (y ∷ ys) e n =
-    let (a, b) = and-both (inWord q) (all inWord p) e in
+    let (a, b) = and-true (inWord q) (all inWord p) e in
     rw (ne-eqb y q
     (λ z.
     let t : inWord y ≡ true = ap inWord z ∙ a in
     let o : _≡_ {A = ℕ} 0 1 = cc in
     omega arith))
 begins-past (q ∷ p) (x ∷ w) ys e n =
-    let (a, b) = and-both (inWord q) (all inWord p) e in
+    let (a, b) = and-true (inWord q) (all inWord p) e in
     ap (and (eqb x q)) (begins-past p w ys b n)
 
 module _ (x : ℕ) (w ys : List ℕ) (h : startsWord x ≡ true) (g : all inWord w ≡ true) (n : first inWord ys ≡ false) where
@@ -162,7 +159,7 @@ module _ (x : ℕ) (w ys : List ℕ) (g : all inDigits (x ∷ w) ≡ true) (n : 
 
   pub number-piece : tokenOf (x ∷ (w ++ ys)) ≡ Found 20 0 (suc (length w))
   unfolding all
-  number-piece = number-first x (w ++ ys) (eqb-true (classOf x) 3 (and-both (inDigits x) (all inDigits w) g .0)) ∙ ap (Found 20 0) number-length
+  number-piece = number-first x (w ++ ys) (eqb-true (classOf x) 3 (and-true (inDigits x) (all inDigits w) g .0)) ∙ ap (Found 20 0) number-length
 
   -- one that does not begin with 0, behind `-`
   pub minus-piece : isZero x ≡ false → tokenOf (45 ∷ x ∷ (w ++ ys)) ≡ Found 21 0 (suc (length w) + 1)
@@ -175,7 +172,7 @@ all-append : (f : ℕ → Bool) (xs ys : List ℕ) → all f xs ≡ true → all
 unfolding all
 all-append f [] ys a b = b
 all-append f (x ∷ xs) ys a b =
-    let (h, g) = and-both (f x) (all f xs) a in
+    let (h, g) = and-true (f x) (all f xs) a in
     rw h (all-append f xs ys g b)
 
 one-digit : (d : ℕ) → d < 10 → all inDigits ((48 + d) ∷ []) ≡ true

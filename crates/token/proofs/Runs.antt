@@ -7,9 +7,10 @@ use native.Mathlib.Nat.{add-zero}
 use native.Mathlib.Omega.{arith}
 use lib.ListN.{length, getD, drop}
 use lib.Seq.{drop-drop}
-use Rattle.text.proofs.Tests.{at-byte, at-end, choose-by}
+use Rattle.text.proofs.Tests.{at-byte, at-end}
 use borrow.Author.Tests.{eq-eqb, ne-eqb}
 use Rattle.text.specs.Booleans.{nextIs}
+use Rattle.text.proofs.Booleans.{choose-by}
 use Rattle.token.specs.Blanks.{run, first}
 
 go : (p : List ℕ → Bool) (x : ℕ) (xs : List ℕ) → p (x ∷ xs) ≡ true → run p (x ∷ xs) ≡ suc (run p xs)
