@@ -1,4 +1,5 @@
--- What the desk answers after a reading, and after a printing of what was read.
+-- What the desk answers: the refusal of the reading; else the printer was lent the tables of the text's rules (`fronts`), and its case
+-- decides both the answer and what is left in the output (`in-is`).
 use Prim.Native.Nat.{ℕ, _*_}
 use mathlib.Core.Path.{_≡_, refl, sym, ap, _∙_}
 use mathlib.Core.List.{List}
