@@ -100,9 +100,6 @@ module _ (s table store : List ℕ) (at used free : ℕ) (short : length s ≤ 6
       let l = w .low in
       record { room = r; from = omega arith; to = omega arith; first = omega arith; second = omega arith; third = omega arith }
 
-  pub word-few : used < most
-  word-few = leaf-room table store used free (across s at at) (text Ident (word s at)) (at + 1) refl g .few
-
   pub word-built : (k : ℕ) (tbl st : List ℕ) → Wrote store free (between s a z) st k → tbl ≡ written table used (recordOf (spanned a z) (Tip (Text Ident free (z - a))))
       → Built (got (leaf (across s at at) (text Ident (word s at))) (at + 1)) table store used free (record { next = at + 1; used = used + 1; free = k; from = a; to = z }) tbl st
   word-built k tbl st w q =

@@ -101,9 +101,6 @@ module _ (s : List ℕ) (i n x : ℕ) (en : n ≡ number s i) (e : x ≡ kind s 
     unfolding fromNumber
     comma = want-sound s (i + 1) 15 _ (omega arith) (subst Accepted (choose-false (is s (i + 1) 3) _ _ (misses s (i + 1) x 3 e h)) g)
 
-    pub comma-in : i + 1 < length (toks s)
-    comma-in = comma .1
-
     module _ (y : ℕ) (f : y ≡ kind s (i + 1 + 1)) where
       pub least : y ≡ 3 → FoundPostfix.Post (RepMin n) (i + 1 + 1 + 1) ≡ suffixOf (fromNumber s i)
       unfolding fromNumber suffixOf want

@@ -95,9 +95,6 @@ module _ (s : List ℕ) (before i : ℕ) (r : Fault) where
 
 -- ---- words
 
-pub word-tagged : (level : Level) (s : List ℕ) (i : ℕ) → level ≡ Tagged → Sound ≡ wordFault level s i
-word-tagged level s i q = sym (ap (λ (l : Level). wordFault l s i) q)
-
 module _ (level : Level) (s : List ℕ) (i : ℕ) (q : level ≡ Plain) (b : Bool) (e : b ≡ spells pushLiteral s i) where
   pub word-pushed : b ≡ true → (y : Refusal) → y ≡ because NotPlain (start s i) → At y ≡ wordFault level s i
   word-pushed h y z = ap At z ∙ sym (ap (λ (l : Level). wordFault l s i) q ∙ choose-true (spells pushLiteral s i) _ _ (sym e ∙ h))

@@ -54,10 +54,6 @@ pub same-equal : (xs ys : List ℕ) → sameText xs ys ≡ true → xs ≡ ys
 unfolding sameText
 same-equal xs ys e = let b = and-true (eqb (length xs) (length ys)) (begins xs ys) e in begins-all xs ys (eqb-true _ _ (b .0)) (b .1)
 
-pub equal-same : (xs ys : List ℕ) → xs ≡ ys → sameText xs ys ≡ true
-unfolding sameText
-equal-same xs ys e = rw (sym e) (and-both _ _ (eq-eqb (length xs) (length xs) refl) (begins-itself xs))
-
 -- ---- the search
 
 module _ (rs st b : List ℕ) where

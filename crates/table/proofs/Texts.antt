@@ -93,25 +93,13 @@ module _ (b : List ℕ) where
   unfolding isUtf8
   utf8-is e = good-is (firstBad b) e
 
-  pub utf8-if : firstBad b ≡ Good → isUtf8 b ≡ true
-  unfolding isUtf8
-  utf8-if e = ap isGood e
-
   pub name-is : isName b ≡ true → wordOf b ≡ Word.Name
   unfolding isName
   name-is e = name-word (wordOf b) e
 
-  pub name-if : wordOf b ≡ Word.Name → isName b ≡ true
-  unfolding isName
-  name-if e = ap mayName e
-
   pub label-is : isLabel b ≡ true → (wordOf b ≡ Word.Name) ⊎ (wordOf b ≡ Word.Push)
   unfolding isLabel
   label-is e = label-word (wordOf b) e
-
-  pub label-if : (w : Word) → wordOf b ≡ w → mayTag w ≡ true → isLabel b ≡ true
-  unfolding isLabel
-  label-if w e h = ap mayTag e ∙ h
 
 -- the ends of a good range are scalars
 pub range-scalars : (st : List ℕ) (x y : ℕ) → goodLeaf st (Range x y) ≡ true → (scalar x ≡ true) × (scalar y ≡ true)

@@ -37,10 +37,6 @@ module _ (s : List ℕ) (at : ℕ) where
   unfolding lister
   answered r e = (e, ap (numbersOf at) e)
 
-  -- two answers that meet the promise are equal
-  pub one-answer : (r q : Listed) → r ≡ nextOf s at → q ≡ nextOf s at → r ≡ q
-  one-answer r q e f = e ∙ sym f
-
 listed-next : (n : ℕ) (r : Token) (k a b : ℕ) → listedBy n r ≡ Next k a b → r ≡ Token.Found k a b
 listed-next n (Token.Found c x y) k a b e =
     let p : c ≡ k = cc in

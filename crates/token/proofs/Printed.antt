@@ -52,9 +52,6 @@ at-front s = token-is s 0 ∙ moved-zero (tokenOf s)
 -- ---- by the class of the first byte
 
 module _ (x : ℕ) (xs : List ℕ) where
-  pub blank-piece : classOf x ≡ 1 → tokenOf (x ∷ xs) ≡ moved 1 (tokenOf xs)
-  blank-piece e = sym (at-front (x ∷ xs)) ∙ at-blank (x ∷ xs) 0 (omega arith) 1 (sym e) refl ∙ token-is (x ∷ xs) 1
-
   pub one-piece : classOf x ≡ 4 → tokenOf (x ∷ xs) ≡ Found (oneKind x) 0 1
   one-piece e = sym (at-front (x ∷ xs)) ∙ sym (at-one (x ∷ xs) 0 (omega arith) 4 (sym e) refl (oneKind x) refl)
 
