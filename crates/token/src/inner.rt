@@ -6,6 +6,7 @@ pub mod table;
 
 use crate::Filled;
 use crate::Token;
+use crate::kind;
 ghost use mathlib.Core.Path.{_≡_};
 ghost use Prim.Native.Nat.{_≤_};
 ghost use lib.ListN.{length, take};
@@ -38,7 +39,7 @@ pub fn token_at(t: &[u8; 256], s: &[u8], at: usize) -> Token
                 3 => {
                     let end = runs::digits_end(t, s, i);
                     return Token::Found {
-                        kind: 20,
+                        kind: kind::NUMBER,
                         start: i,
                         end,
                     };

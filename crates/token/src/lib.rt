@@ -3,6 +3,7 @@
 // The entry point stands here and asks nothing of its callers. `inner` has what the crates above
 // build on.
 pub mod inner;
+pub mod kind;
 
 use text::Check;
 ghost use mathlib.Core.Path.{_≡_};

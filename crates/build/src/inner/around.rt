@@ -10,6 +10,7 @@ use table::Unary;
 use token::inner::table::end_at;
 use token::inner::table::kind_at;
 use token::inner::table::start_at;
+use token::kind;
 ghost use mathlib.Core.Path.{_≡_};
 ghost use Prim.Native.Nat.{_+_, _-_};
 ghost use Rattle.token.specs.Table.{Lent};
@@ -22,7 +23,7 @@ fn predicate_at(text: &[u8], tokens: &[u32], at: usize) -> Unary
     requires { ⌜ Lent (now text) (now tokens) ⌝ }
     ensures { λ r. ⌜ r ≡ signOf (now (text .entry)) at ⌝ }
 {
-    if kind_at(text, tokens, at) == 8 {
+    if kind_at(text, tokens, at) == kind::AMPERSAND {
         return Unary::PosPred;
     }
     Unary::NegPred

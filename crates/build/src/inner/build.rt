@@ -20,6 +20,7 @@ use table::Unary;
 use token::inner::table::end_at;
 use token::inner::table::kind_at;
 use token::inner::table::start_at;
+use token::kind;
 ghost use Rattle.token.specs.Table.{Lent};
 ghost use Rattle.structure.specs.Structure.{Run, expr, term, node};
 ghost use Rattle.build.specs.Build.{Scalars, TreeRoom, Built};
@@ -52,7 +53,7 @@ pub fn consume_expr(
     let mut left: usize = 0;
     loop {
         let k = kind_at(text, tokens, i);
-        if k == 10 {
+        if k == kind::TILDE {
             let right = unaries(text, tokens, nodes, store, level, deep, i + 1, u, f);
             put_join(nodes, right.used, b, right.to, Join::Seq, u - 1);
             i = right.next;
@@ -61,7 +62,7 @@ pub fn consume_expr(
             z = right.to;
         } else {
             u = put_choice(nodes, chosen, left, u, a, z);
-            if k != 11 {
+            if k != kind::BAR {
                 return Placed {
                     next: i,
                     used: u,
@@ -151,7 +152,7 @@ pub fn consume_node(
     requires { ⌜ TreeRoom (Run level (now text) (node deep at)) (now nodes) (now store) used free ⌝ }
     ensures { λ r. ⌜ Built (Run level (now (text .entry)) (node deep at)) (now (nodes .entry)) (now (store .entry)) used free r (now (nodes .exit)) (now (store .exit)) ⌝ }
 {
-    if kind_at(text, tokens, at) == 6 {
+    if kind_at(text, tokens, at) == kind::OPENING_PAREN {
         let inner = consume_expr(
             text,
             tokens,

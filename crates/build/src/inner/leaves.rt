@@ -13,6 +13,7 @@ use table::Sort;
 use token::inner::table::end_at;
 use token::inner::table::kind_at;
 use token::inner::table::start_at;
+use token::kind;
 ghost use mathlib.Core.Path.{_≡_};
 ghost use mathlib.Core.Bool.{true};
 ghost use Prim.Native.Nat.{_+_, _<_};
@@ -205,15 +206,15 @@ pub fn put_leaf(
     }
     let kind = kind_at(text, tokens, at);
     if spelled(b"PEEK", text, tokens, at) {
-        if kind_at(text, tokens, at + 1) == 4 {
+        if kind_at(text, tokens, at + 1) == kind::OPENING_BRACK {
             return put_slice(text, tokens, nodes, store, at, at + 2, used, free);
         }
         return put_word(text, tokens, nodes, store, at, used, free);
     }
-    if kind == 18 {
+    if kind == kind::WORD {
         return put_word(text, tokens, nodes, store, at, used, free);
     }
-    if kind == 23 {
+    if kind == kind::STRING {
         return put_literal(
             text,
             tokens,
@@ -226,7 +227,7 @@ pub fn put_leaf(
             free,
         );
     }
-    if kind == 24 {
+    if kind == kind::INSENSITIVE_STRING {
         return put_literal(
             text,
             tokens,

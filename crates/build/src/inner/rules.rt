@@ -12,6 +12,7 @@ use token::inner::table::end_at;
 use token::inner::table::kind_at;
 use token::inner::table::start_at;
 use token::inner::table::token_count;
+use token::kind;
 ghost use Rattle.token.specs.Table.{Lent};
 ghost use Rattle.structure.specs.Structure.{ruleFrom, grammar};
 ghost use Rattle.build.specs.Rules.{rulesRead};
@@ -71,7 +72,7 @@ pub fn consume_rules_with_spans(
     let mut used = 0;
     let mut free = 0;
     while i < n {
-        if kind_at(text, tokens, i) == 27 {
+        if kind_at(text, tokens, i) == kind::LINE_DOC {
             i += 1;
         } else {
             let rule = consume_rule(

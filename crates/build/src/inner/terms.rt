@@ -8,6 +8,7 @@ use structure::Level;
 use token::inner::table::end_at;
 use token::inner::table::kind_at;
 use token::inner::table::start_at;
+use token::kind;
 ghost use mathlib.Core.Path.{_≡_};
 ghost use Prim.Native.Nat.{_*_, _≤_, _<_};
 ghost use lib.ListN.{length};
@@ -30,7 +31,7 @@ pub fn get_node_tag(
     ensures past { λ r. ⌜ r .next ≡ pastTag (now (text .entry)) at ⌝ }
     ensures stored { λ r. ⌜ Wrote (now (store .entry)) free (tagText level (now (text .entry)) at) (now (store .exit)) (r .free) ⌝ }
 {
-    if kind_at(text, tokens, at) != 19 {
+    if kind_at(text, tokens, at) != kind::TAG {
         return Tag { next: at, free };
     }
     match level {
@@ -56,7 +57,7 @@ pub fn move_to_bracket(text: &[u8], tokens: &[u32], nodes: &mut [u32], at: usize
     requires { ⌜ (nodeSize * used ≤ length (now nodes)) × (0 < used) ⌝ }
     ensures { λ _. ⌜ Opened (now (text .entry)) at used (now (nodes .entry)) (now (nodes .exit)) ⌝ }
 {
-    if kind_at(text, tokens, at) == 6 {
+    if kind_at(text, tokens, at) == kind::OPENING_PAREN {
         let a = start_at(text, tokens, at);
         move_start(nodes, used, a);
     }
@@ -70,7 +71,7 @@ pub fn term_start(text: &[u8], tokens: &[u32], from: usize, first: usize, a: usi
     if from < first {
         return start_at(text, tokens, from);
     }
-    if kind_at(text, tokens, first) == 6 {
+    if kind_at(text, tokens, first) == kind::OPENING_PAREN {
         return start_at(text, tokens, first);
     }
     a
@@ -91,7 +92,7 @@ pub fn put_tag(
     requires { ⌜ TagRoom level (now text) (now nodes) at free mid built ⌝ }
     ensures { λ r. ⌜ Tied level (now (text .entry)) at free mid built (now (nodes .entry)) r (now (nodes .exit)) ⌝ }
 {
-    if kind_at(text, tokens, at) != 19 {
+    if kind_at(text, tokens, at) != kind::TAG {
         return built;
     }
     match level {

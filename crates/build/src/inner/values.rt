@@ -9,6 +9,7 @@ use text::Sequence;
 use token::inner::table::end_at;
 use token::inner::table::kind_at;
 use token::inner::table::start_at;
+use token::kind;
 ghost use mathlib.Core.Path.{_≡_};
 ghost use mathlib.Core.Bool.{true};
 ghost use Prim.Native.Nat.{_<_};
@@ -53,10 +54,10 @@ pub fn is_integer(text: &[u8], tokens: &[u32], at: usize) -> bool
     ensures { λ r. ⌜ r ≡ isInteger (now (text .entry)) at ⌝ }
 {
     let kind = kind_at(text, tokens, at);
-    if kind == 20 {
+    if kind == kind::NUMBER {
         return true;
     }
-    kind == 21
+    kind == kind::NEGATIVE_NUMBER
 }
 
 // A number of a PEEK slice, in two's complement.
@@ -66,7 +67,7 @@ pub fn integer_at(text: &[u8], tokens: &[u32], at: usize) -> u32
     ensures { λ r. ⌜ r ≡ integer (now (text .entry)) at ⌝ }
 {
     let n = worth_of(integer_of(text, tokens, at));
-    if kind_at(text, tokens, at) == 21 {
+    if kind_at(text, tokens, at) == kind::NEGATIVE_NUMBER {
         return negate(n);
     }
     n
@@ -77,7 +78,7 @@ pub fn opening_of(text: &[u8], tokens: &[u32], at: usize) -> usize
     requires { ⌜ Lent (now text) (now tokens) ⌝ }
     ensures { λ r. ⌜ r ≡ opening (now (text .entry)) at ⌝ }
 {
-    if kind_at(text, tokens, at) == 24 {
+    if kind_at(text, tokens, at) == kind::INSENSITIVE_STRING {
         return 2;
     }
     1
@@ -119,11 +120,11 @@ fn from_number(text: &[u8], tokens: &[u32], at: usize) -> FoundPostfix
     ensures { λ r. ⌜ r ≡ suffixOf (fromNumber (now (text .entry)) at) ⌝ }
 {
     let n = number_at(text, tokens, at);
-    if kind_at(text, tokens, at + 1) == 3 {
+    if kind_at(text, tokens, at + 1) == kind::CLOSING_BRACE {
         return FoundPostfix::Post(Unary::RepExact(n), at + 2);
     }
     let j = at + 1 + 1;
-    if kind_at(text, tokens, j) == 3 {
+    if kind_at(text, tokens, j) == kind::CLOSING_BRACE {
         return FoundPostfix::Post(Unary::RepMin(n), j + 1);
     }
     let m = number_at(text, tokens, j);
@@ -148,20 +149,20 @@ pub fn suffix_at(text: &[u8], tokens: &[u32], at: usize) -> FoundPostfix
     ensures { λ r. ⌜ r ≡ suffixOf (postfixAt (now (text .entry)) at) ⌝ }
 {
     let kind = kind_at(text, tokens, at);
-    if kind == 12 {
+    if kind == kind::QUESTION {
         return FoundPostfix::Post(Unary::Opt, at + 1);
     }
-    if kind == 13 {
+    if kind == kind::STAR {
         return FoundPostfix::Post(Unary::Rep, at + 1);
     }
-    if kind == 14 {
+    if kind == kind::PLUS {
         return FoundPostfix::Post(Unary::RepOnce, at + 1);
     }
-    if kind != 2 {
+    if kind != kind::OPENING_BRACE {
         return FoundPostfix::Nothing;
     }
     let i = at + 1;
-    if kind_at(text, tokens, i) == 20 {
+    if kind_at(text, tokens, i) == kind::NUMBER {
         return from_number(text, tokens, i);
     }
     from_comma(text, tokens, i)

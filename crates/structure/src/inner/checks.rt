@@ -13,6 +13,7 @@ use crate::Why;
 use token::inner::table::end_at;
 use token::inner::table::kind_at;
 use token::inner::table::start_at;
+use token::kind;
 ghost use mathlib.Core.Path.{_≡_};
 ghost use Prim.Native.Nat.{_+_, _≤_, _<_};
 ghost use Rattle.token.specs.Table.{Lent};
@@ -24,14 +25,14 @@ pub fn tag_of(text: &[u8], tokens: &[u32], level: Level, at: usize) -> Opening
     requires { ⌜ Lent (now text) (now tokens) ⌝ }
     ensures { λ r. ⌜ r ≡ openingOf level (now (text .entry)) at ⌝ }
 {
-    if kind_at(text, tokens, at) != 19 {
+    if kind_at(text, tokens, at) != kind::TAG {
         return Opening::From {
             next: at,
             nodes: 0,
             bytes: 0,
         };
     }
-    let tie = super::tokens::expect(text, tokens, at + 1, 1);
+    let tie = super::tokens::expect(text, tokens, at + 1, kind::EQUALS);
     let Wanted::Here(p) = tie else {
         return Opening::Untied;
     };
@@ -61,8 +62,8 @@ pub fn predicates_end(text: &[u8], tokens: &[u32], at: usize) -> usize
     let mut i = at;
     loop {
         let k = kind_at(text, tokens, i);
-        if k != 8 {
-            if k != 9 {
+        if k != kind::AMPERSAND {
+            if k != kind::EXCLAMATION {
                 return i;
             }
         }
@@ -102,14 +103,14 @@ pub fn bracket_of(text: &[u8], tokens: &[u32], at: usize) -> Bracket
     requires { ⌜ Lent (now text) (now tokens) ⌝ }
     ensures { λ r. ⌜ r ≡ bracketOf (now (text .entry)) at ⌝ }
 {
-    if kind_at(text, tokens, at) == 6 {
+    if kind_at(text, tokens, at) == kind::OPENING_PAREN {
         return Bracket::Opens { at, nodes: 0 };
     }
     if !super::tokens::spelled(b"PUSH", text, tokens, at) {
         return Bracket::Nothing;
     }
     let i = at + 1;
-    if kind_at(text, tokens, i) == 6 {
+    if kind_at(text, tokens, i) == kind::OPENING_PAREN {
         return Bracket::Opens { at: i, nodes: 1 };
     }
     Bracket::Unopened
@@ -129,8 +130,8 @@ pub fn check_expr(text: &[u8], tokens: &[u32], level: Level, at: usize, deep: us
             let mut size = bytes;
             loop {
                 let k = kind_at(text, tokens, i);
-                if k != 10 {
-                    if k != 11 {
+                if k != kind::TILDE {
+                    if k != kind::BAR {
                         return Checked::Good {
                             next: i,
                             nodes: count,
@@ -208,7 +209,7 @@ fn check_node(text: &[u8], tokens: &[u32], level: Level, at: usize, deep: usize)
             match check_expr(text, tokens, level, open + 1, deep + 1) {
                 Checked::Refused(refusal) => Checked::Refused(refusal),
                 Checked::Good { next, nodes, bytes } => {
-                    let close = super::tokens::expect(text, tokens, next, 7);
+                    let close = super::tokens::expect(text, tokens, next, kind::CLOSING_PAREN);
                     let Wanted::Here(n) = close else {
                         return Checked::Refused(not_allowed(text, tokens, next));
                     };

@@ -6,6 +6,7 @@ use crate::PostfixEnd;
 use crate::Wanted;
 use crate::Why;
 use token::inner::table::kind_at;
+use token::kind;
 ghost use mathlib.Core.Path.{_≡_};
 ghost use Prim.Native.Nat.{_+_, _<_};
 ghost use lib.ListN.{length};
@@ -20,21 +21,21 @@ fn number_end(text: &[u8], tokens: &[u32], at: usize) -> PostfixEnd
     ensures { λ r. ⌜ r ≡ tailOf (fromNumber (now (text .entry)) at) ⌝ }
 {
     let i = at + 1;
-    if kind_at(text, tokens, i) == 3 {
+    if kind_at(text, tokens, i) == kind::CLOSING_BRACE {
         return PostfixEnd::Past(i + 1);
     }
-    let comma = super::tokens::expect(text, tokens, i, 15);
+    let comma = super::tokens::expect(text, tokens, i, kind::COMMA);
     let Wanted::Here(j) = comma else {
         return PostfixEnd::Bad(not_allowed(text, tokens, i));
     };
-    if kind_at(text, tokens, j) == 3 {
+    if kind_at(text, tokens, j) == kind::CLOSING_BRACE {
         return PostfixEnd::Past(j + 1);
     }
-    let most = super::tokens::expect(text, tokens, j, 20);
+    let most = super::tokens::expect(text, tokens, j, kind::NUMBER);
     let Wanted::Here(k) = most else {
         return PostfixEnd::Bad(not_allowed(text, tokens, j));
     };
-    let close = super::tokens::expect(text, tokens, k, 3);
+    let close = super::tokens::expect(text, tokens, k, kind::CLOSING_BRACE);
     let Wanted::Here(n) = close else {
         return PostfixEnd::Bad(not_allowed(text, tokens, k));
     };
@@ -46,15 +47,15 @@ fn comma_end(text: &[u8], tokens: &[u32], at: usize) -> PostfixEnd
     requires { ⌜ Lent (now text) (now tokens) ⌝ }
     ensures { λ r. ⌜ r ≡ tailOf (fromComma (now (text .entry)) at) ⌝ }
 {
-    let comma = super::tokens::expect(text, tokens, at, 15);
+    let comma = super::tokens::expect(text, tokens, at, kind::COMMA);
     let Wanted::Here(j) = comma else {
         return PostfixEnd::Bad(not_allowed(text, tokens, at));
     };
-    let most = super::tokens::expect(text, tokens, j, 20);
+    let most = super::tokens::expect(text, tokens, j, kind::NUMBER);
     let Wanted::Here(k) = most else {
         return PostfixEnd::Bad(not_allowed(text, tokens, j));
     };
-    let close = super::tokens::expect(text, tokens, k, 3);
+    let close = super::tokens::expect(text, tokens, k, kind::CLOSING_BRACE);
     let Wanted::Here(n) = close else {
         return PostfixEnd::Bad(not_allowed(text, tokens, k));
     };
@@ -68,11 +69,11 @@ pub fn postfix_end(text: &[u8], tokens: &[u32], at: usize) -> PostfixEnd
 {
     let k = kind_at(text, tokens, at);
     match k {
-        12 => PostfixEnd::Past(at + 1),
-        13 => PostfixEnd::Past(at + 1),
-        14 => PostfixEnd::Past(at + 1),
-        2 => {
-            if kind_at(text, tokens, at + 1) == 20 {
+        kind::QUESTION => PostfixEnd::Past(at + 1),
+        kind::STAR => PostfixEnd::Past(at + 1),
+        kind::PLUS => PostfixEnd::Past(at + 1),
+        kind::OPENING_BRACE => {
+            if kind_at(text, tokens, at + 1) == kind::NUMBER {
                 return number_end(text, tokens, at + 1);
             }
             comma_end(text, tokens, at + 1)
@@ -87,10 +88,10 @@ fn past_integer(text: &[u8], tokens: &[u32], at: usize) -> usize
     ensures { λ r. ⌜ r ≡ pastInteger (now (text .entry)) at ⌝ }
 {
     let k = kind_at(text, tokens, at);
-    if k == 20 {
+    if k == kind::NUMBER {
         return at + 1;
     }
-    if k == 21 {
+    if k == kind::NEGATIVE_NUMBER {
         return at + 1;
     }
     at
@@ -102,12 +103,12 @@ fn check_slice(text: &[u8], tokens: &[u32], at: usize, i: usize) -> Checked
     ensures { λ r. ⌜ r ≡ summary (slice (now (text .entry)) at i) ⌝ }
 {
     let from = past_integer(text, tokens, i);
-    let dots = super::tokens::expect(text, tokens, from, 22);
+    let dots = super::tokens::expect(text, tokens, from, kind::DOTS);
     let Wanted::Here(j) = dots else {
         return Checked::Refused(not_allowed(text, tokens, from));
     };
     let to = past_integer(text, tokens, j);
-    let close = super::tokens::expect(text, tokens, to, 5);
+    let close = super::tokens::expect(text, tokens, to, kind::CLOSING_BRACK);
     let Wanted::Here(n) = close else {
         return Checked::Refused(not_allowed(text, tokens, to));
     };
@@ -124,18 +125,18 @@ fn check_push_literal(text: &[u8], tokens: &[u32], at: usize, deep: usize) -> Ch
     requires { ⌜ at < length (toks (now text)) ⌝ }
     ensures { λ r. ⌜ r ≡ summary (pushed deep (now (text .entry)) at) ⌝ }
 {
-    let bracket = super::tokens::expect(text, tokens, at + 1, 6);
+    let bracket = super::tokens::expect(text, tokens, at + 1, kind::OPENING_PAREN);
     let Wanted::Here(i) = bracket else {
         return Checked::Refused(not_allowed(text, tokens, at + 1));
     };
     if 1024 <= deep {
         return Checked::Refused(refused_at(Why::TooDeep, text, tokens, at + 1));
     }
-    let string = super::tokens::expect(text, tokens, i, 23);
+    let string = super::tokens::expect(text, tokens, i, kind::STRING);
     let Wanted::Here(j) = string else {
         return Checked::Refused(not_allowed(text, tokens, i));
     };
-    let close = super::tokens::expect(text, tokens, j, 7);
+    let close = super::tokens::expect(text, tokens, j, kind::CLOSING_PAREN);
     let Wanted::Here(n) = close else {
         return Checked::Refused(not_allowed(text, tokens, j));
     };
@@ -153,11 +154,11 @@ fn check_range(text: &[u8], tokens: &[u32], at: usize) -> Checked
     requires { ⌜ at < length (toks (now text)) ⌝ }
     ensures { λ r. ⌜ r ≡ summary (ranged (now (text .entry)) at) ⌝ }
 {
-    let dots = super::tokens::expect(text, tokens, at + 1, 22);
+    let dots = super::tokens::expect(text, tokens, at + 1, kind::DOTS);
     let Wanted::Here(i) = dots else {
         return Checked::Refused(not_allowed(text, tokens, at + 1));
     };
-    let last = super::tokens::expect(text, tokens, i, 25);
+    let last = super::tokens::expect(text, tokens, i, kind::CHARACTER);
     let Wanted::Here(n) = last else {
         return Checked::Refused(not_allowed(text, tokens, i));
     };
@@ -178,7 +179,7 @@ fn check_word(text: &[u8], tokens: &[u32], at: usize, deep: usize) -> Checked
         return check_push_literal(text, tokens, at, deep);
     }
     if super::tokens::spelled(b"PEEK", text, tokens, at) {
-        if kind_at(text, tokens, at + 1) == 4 {
+        if kind_at(text, tokens, at + 1) == kind::OPENING_BRACK {
             return check_slice(text, tokens, at, at + 2);
         }
     }
@@ -197,8 +198,8 @@ pub fn check_leaf(text: &[u8], tokens: &[u32], at: usize, deep: usize) -> Checke
 {
     let k = kind_at(text, tokens, at);
     match k {
-        18 => check_word(text, tokens, at, deep),
-        23 => {
+        kind::WORD => check_word(text, tokens, at, deep),
+        kind::STRING => {
             let bytes = super::tokens::string_bytes(text, tokens, at);
             Checked::Good {
                 next: at + 1,
@@ -206,7 +207,7 @@ pub fn check_leaf(text: &[u8], tokens: &[u32], at: usize, deep: usize) -> Checke
                 bytes,
             }
         }
-        24 => {
+        kind::INSENSITIVE_STRING => {
             let bytes = super::tokens::string_bytes(text, tokens, at);
             Checked::Good {
                 next: at + 1,
@@ -214,7 +215,7 @@ pub fn check_leaf(text: &[u8], tokens: &[u32], at: usize, deep: usize) -> Checke
                 bytes,
             }
         }
-        25 => check_range(text, tokens, at),
+        kind::CHARACTER => check_range(text, tokens, at),
         _ => Checked::Refused(not_allowed(text, tokens, at)),
     }
 }

@@ -10,6 +10,7 @@ use token::inner::table::end_at;
 use token::inner::table::kind_at;
 use token::inner::table::start_at;
 use token::inner::table::token_count;
+use token::kind;
 ghost use mathlib.Core.Path.{_≡_};
 ghost use Prim.Native.Nat.{_<_};
 ghost use Rattle.token.specs.Table.{Lent};
@@ -21,7 +22,7 @@ fn is_name(text: &[u8], tokens: &[u32], at: usize) -> bool
     requires { ⌜ Lent (now text) (now tokens) ⌝ }
     ensures { λ r. ⌜ r ≡ isName (now (text .entry)) at ⌝ }
 {
-    if kind_at(text, tokens, at) != 18 {
+    if kind_at(text, tokens, at) != kind::WORD {
         return false;
     }
     let a = start_at(text, tokens, at);
@@ -36,15 +37,15 @@ pub fn mark_at(text: &[u8], tokens: &[u32], at: usize) -> usize
 {
     let k = kind_at(text, tokens, at);
     match k {
-        18 => {
+        kind::WORD => {
             if super::tokens::spelled(b"_", text, tokens, at) {
                 return 1;
             }
             0
         }
-        16 => 2,
-        17 => 3,
-        9 => 4,
+        kind::AT => 2,
+        kind::DOLLAR => 3,
+        kind::EXCLAMATION => 4,
         _ => 0,
     }
 }
@@ -65,7 +66,7 @@ pub fn past_bar(text: &[u8], tokens: &[u32], at: usize) -> usize
     requires { ⌜ Lent (now text) (now tokens) ⌝ }
     ensures { λ r. ⌜ r ≡ pastBar (now (text .entry)) at ⌝ }
 {
-    if kind_at(text, tokens, at) == 11 {
+    if kind_at(text, tokens, at) == kind::BAR {
         return at + 1;
     }
     at
@@ -79,12 +80,12 @@ fn check_rule(text: &[u8], tokens: &[u32], level: Level, at: usize) -> Checked
     if !is_name(text, tokens, at) {
         return Checked::Refused(not_allowed(text, tokens, at));
     }
-    let tie = super::tokens::expect(text, tokens, at + 1, 1);
+    let tie = super::tokens::expect(text, tokens, at + 1, kind::EQUALS);
     let Wanted::Here(i) = tie else {
         return Checked::Refused(not_allowed(text, tokens, at + 1));
     };
     let open = past_mark(text, tokens, i);
-    let brace = super::tokens::expect(text, tokens, open, 2);
+    let brace = super::tokens::expect(text, tokens, open, kind::OPENING_BRACE);
     let Wanted::Here(j) = brace else {
         return Checked::Refused(not_allowed(text, tokens, open));
     };
@@ -93,7 +94,7 @@ fn check_rule(text: &[u8], tokens: &[u32], level: Level, at: usize) -> Checked
     match inside {
         Checked::Refused(refusal) => Checked::Refused(refusal),
         Checked::Good { next, nodes, bytes } => {
-            let close = super::tokens::expect(text, tokens, next, 3);
+            let close = super::tokens::expect(text, tokens, next, kind::CLOSING_BRACE);
             let Wanted::Here(n) = close else {
                 return Checked::Refused(not_allowed(text, tokens, next));
             };
@@ -113,7 +114,7 @@ pub fn docs_end(text: &[u8], tokens: &[u32]) -> usize
     ensures { λ r. ⌜ r ≡ docs (now (text .entry)) ⌝ }
 {
     let mut i = 0;
-    while kind_at(text, tokens, i) == 26 {
+    while kind_at(text, tokens, i) == kind::GRAMMAR_DOC {
         i += 1;
     }
     i
@@ -136,7 +137,7 @@ pub fn check_grammar(text: &[u8], tokens: &[u32], level: Level) -> Counted
     let mut count = 0;
     let mut size = 0;
     while i < n {
-        if kind_at(text, tokens, i) == 27 {
+        if kind_at(text, tokens, i) == kind::LINE_DOC {
             i += 1;
         } else {
             let rule = check_rule(text, tokens, level, i);

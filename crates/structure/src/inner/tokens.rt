@@ -5,6 +5,7 @@ use crate::Why;
 use token::inner::table::end_at;
 use token::inner::table::kind_at;
 use token::inner::table::start_at;
+use token::kind;
 ghost use mathlib.Core.Path.{_≡_};
 ghost use Prim.Native.Nat.{_≤_, _<_};
 ghost use lib.ListN.{length};
@@ -52,7 +53,7 @@ pub fn spelled(p: &[u8], text: &[u8], tokens: &[u32], at: usize) -> bool
     requires { ⌜ Lent (now text) (now tokens) ⌝ }
     ensures { λ r. ⌜ r ≡ spells (now (p .entry)) (now (text .entry)) at ⌝ }
 {
-    if kind_at(text, tokens, at) != 18 {
+    if kind_at(text, tokens, at) != kind::WORD {
         return false;
     }
     let a = start_at(text, tokens, at);
@@ -99,7 +100,7 @@ pub fn string_bytes(text: &[u8], tokens: &[u32], at: usize) -> usize
     if z == 0 {
         return 0;
     }
-    if kind_at(text, tokens, at) == 24 {
+    if kind_at(text, tokens, at) == kind::INSENSITIVE_STRING {
         return unescaped_bytes(text, a + 2, z - 1);
     }
     unescaped_bytes(text, a + 1, z - 1)

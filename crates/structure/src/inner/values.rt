@@ -10,6 +10,7 @@ use token::inner::table::end_at;
 use token::inner::table::kind_at;
 use token::inner::table::start_at;
 use token::inner::table::token_count;
+use token::kind;
 ghost use mathlib.Core.Path.{_≡_};
 ghost use Prim.Native.Nat.{_+_, _≤_, _<_};
 ghost use lib.ListN.{length};
@@ -53,7 +54,7 @@ pub fn integer_of(text: &[u8], tokens: &[u32], at: usize) -> Decimal
 {
     let a = start_at(text, tokens, at);
     let z = end_at(text, tokens, at);
-    if kind_at(text, tokens, at) == 21 {
+    if kind_at(text, tokens, at) == kind::NEGATIVE_NUMBER {
         let b = a + 1;
         return text::decimal_of(&text[b..z], 2147483648);
     }
@@ -88,7 +89,7 @@ fn repeat_fault(text: &[u8], tokens: &[u32], at: usize) -> Fault
             if n != 0 {
                 return Fault::Sound;
             }
-            if kind_at(text, tokens, at + 1) == 3 {
+            if kind_at(text, tokens, at + 1) == kind::CLOSING_BRACE {
                 return Fault::At(refused_at(Why::Zero, text, tokens, at));
             }
             Fault::Sound
@@ -103,8 +104,8 @@ fn number_fault(text: &[u8], tokens: &[u32], before: u8, at: usize) -> Fault
     ensures { λ r. ⌜ r ≡ numberFault (now (text .entry)) before at ⌝ }
 {
     match before {
-        4 => peek_fault(text, tokens, at),
-        22 => peek_fault(text, tokens, at),
+        kind::OPENING_BRACK => peek_fault(text, tokens, at),
+        kind::DOTS => peek_fault(text, tokens, at),
         _ => repeat_fault(text, tokens, at),
     }
 }
@@ -147,12 +148,12 @@ fn fault_at(text: &[u8], tokens: &[u32], level: Level, before: u8, at: usize) ->
 {
     let k = kind_at(text, tokens, at);
     match k {
-        18 => word_fault(text, tokens, level, at),
-        20 => number_fault(text, tokens, before, at),
-        21 => peek_fault(text, tokens, at),
-        23 => literal_fault(text, tokens, at, 1),
-        24 => literal_fault(text, tokens, at, 2),
-        25 => literal_fault(text, tokens, at, 1),
+        kind::WORD => word_fault(text, tokens, level, at),
+        kind::NUMBER => number_fault(text, tokens, before, at),
+        kind::NEGATIVE_NUMBER => peek_fault(text, tokens, at),
+        kind::STRING => literal_fault(text, tokens, at, 1),
+        kind::INSENSITIVE_STRING => literal_fault(text, tokens, at, 2),
+        kind::CHARACTER => literal_fault(text, tokens, at, 1),
         _ => Fault::Sound,
     }
 }

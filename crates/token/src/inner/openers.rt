@@ -1,5 +1,6 @@
 // The tokens of more than one byte, each by its opener at a place; and the kinds of the others.
 use crate::Token;
+use crate::kind;
 use literal::Escape;
 use text::Check;
 use text::Sequence;
@@ -39,7 +40,7 @@ pub(crate) fn word_at(t: &[u8; 256], s: &[u8], at: usize) -> Token
     let end = super::runs::word_end(t, s, at);
     if word_allowed(s, at, end - at) {
         return Token::Found {
-            kind: 18,
+            kind: kind::WORD,
             start: at,
             end,
         };
@@ -60,7 +61,7 @@ fn tag_at(t: &[u8; 256], s: &[u8], at: usize) -> Token
     if text::inner::words::starts_word(t, s[j]) {
         let end = super::runs::word_end(t, s, j);
         return Token::Found {
-            kind: 19,
+            kind: kind::TAG,
             start: at,
             end,
         };
@@ -78,7 +79,7 @@ fn minus_at(t: &[u8; 256], s: &[u8], at: usize) -> Token
     let end = super::runs::digits_end(t, s, at + 1);
     if zeros < end {
         return Token::Found {
-            kind: 21,
+            kind: kind::NEGATIVE_NUMBER,
             start: at,
             end,
         };
@@ -93,7 +94,7 @@ fn dots_at(s: &[u8], at: usize) -> Token
 {
     if super::runs::next_is(s, at + 1, 46) {
         return Token::Found {
-            kind: 22,
+            kind: kind::DOTS,
             start: at,
             end: at + 2,
         };
@@ -159,7 +160,7 @@ fn insens_at(s: &[u8], at: usize) -> Token
         return Token::NoToken(at);
     }
     if s[j] == 34 {
-        return string_at(s, at, 24, 2);
+        return string_at(s, at, kind::INSENSITIVE_STRING, 2);
     }
     Token::NoToken(at)
 }
@@ -173,7 +174,7 @@ fn quoted_at(s: &[u8], at: usize, n: usize) -> Token
     let j = at + 1 + n;
     if super::runs::next_is(s, j, 39) {
         return Token::Found {
-            kind: 25,
+            kind: kind::CHARACTER,
             start: at,
             end: j + 1,
         };
@@ -217,14 +218,14 @@ fn doc_at(s: &[u8], at: usize) -> Token
     }
     if super::runs::next_is(s, k, 33) {
         return Token::Found {
-            kind: 26,
+            kind: kind::GRAMMAR_DOC,
             start: at,
             end: super::runs::line_end(s, j),
         };
     }
     if super::runs::next_is(s, k, 47) {
         return Token::Found {
-            kind: 27,
+            kind: kind::LINE_DOC,
             start: at,
             end: super::runs::line_end(s, j),
         };
@@ -239,7 +240,7 @@ pub(crate) fn opener_at(t: &[u8; 256], s: &[u8], at: usize, b: u8) -> Token
     ensures { λ r. ⌜ r ≡ moved at (openerToken b (drop (at + 1) (now (s .entry)))) ⌝ }
 {
     match b {
-        34 => string_at(s, at, 23, 1),
+        34 => string_at(s, at, kind::STRING, 1),
         39 => char_at(s, at),
         94 => insens_at(s, at),
         35 => tag_at(t, s, at),
@@ -255,23 +256,23 @@ pub fn one_kind(b: u8) -> u8
     ensures { λ r. ⌜ r ≡ oneKind b ⌝ }
 {
     match b {
-        61 => 1,
-        123 => 2,
-        125 => 3,
-        91 => 4,
-        93 => 5,
-        40 => 6,
-        41 => 7,
-        38 => 8,
-        33 => 9,
-        126 => 10,
-        124 => 11,
-        63 => 12,
-        42 => 13,
-        43 => 14,
-        44 => 15,
-        64 => 16,
-        36 => 17,
-        _ => 18,
+        b'=' => kind::EQUALS,
+        b'{' => kind::OPENING_BRACE,
+        b'}' => kind::CLOSING_BRACE,
+        b'[' => kind::OPENING_BRACK,
+        b']' => kind::CLOSING_BRACK,
+        b'(' => kind::OPENING_PAREN,
+        b')' => kind::CLOSING_PAREN,
+        b'&' => kind::AMPERSAND,
+        b'!' => kind::EXCLAMATION,
+        b'~' => kind::TILDE,
+        b'|' => kind::BAR,
+        b'?' => kind::QUESTION,
+        b'*' => kind::STAR,
+        b'+' => kind::PLUS,
+        b',' => kind::COMMA,
+        b'@' => kind::AT,
+        b'$' => kind::DOLLAR,
+        _ => kind::WORD,
     }
 }
