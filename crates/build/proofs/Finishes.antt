@@ -109,7 +109,7 @@ opening-yes level s at f f₁ =
     let e : at + 2 ≡ at + 1 + 1 = omega arith in
     rw (f, f₁) (ap (λ (k : ℕ). From k (tagNodes level) (tagBytes level (length (label s at)))) e ∙ ap (From (at + 1 + 1) (tagNodes level)) (tag-length level (label s at)))
 
-module _ (level : Level) (s : List ℕ) (o at used free : ℕ) (table store : List ℕ) (g : TreeRoom (Run level s (term o at)) table store used free) where
+module _ (level : Level) (s : List ℕ) (o at : ℕ) {used free : ℕ} {table store : List ℕ} (g : TreeRoom (Run level s (term o at)) table store used free) where
   opening-is : openingOf level s at ≡ From (pastTag s at) (tagCount level s at) (length (tagText level s at))
   opening-is = go (is s at 19) refl
     where
@@ -135,7 +135,7 @@ module _ (level : Level) (s : List ℕ) (o at used free : ℕ) (table store : Li
       let h = g .fits in
       record { fits = omega arith }
 
-  module _ (store₁ : List ℕ) (mid from first : ℕ) (w : Wrote store free (tagText level s at) store₁ mid) (e : from ≡ pastTag s at) (v : Signed s from first) where
+  module _ {store₁ : List ℕ} {mid from first : ℕ} (w : Wrote store free (tagText level s at) store₁ mid) (e : from ≡ pastTag s at) (v : Signed s from first) where
     pub node-falls : unread s first ≤ unread s at
     node-falls = falls-term level s at (pastTag s at) (tagCount level s at) (length (tagText level s at)) first opened-term (subst (λ (k : ℕ). Signed s k first) e v)
 
@@ -179,7 +179,7 @@ module _ (level : Level) (s : List ℕ) (o at used free : ℕ) (table store : Li
         let h₄ = g .low in
         record { tree = t; end = i; read = k₁; room = omega arith; few = omega arith; fits = omega arith; low = omega arith }
 
-    module _ (r : Placed) (tbl st : List ℕ) (d : Built (Run level s (node o first)) table store₁ used mid r tbl st) where
+    module _ {r : Placed} {tbl st : List ℕ} (d : Built (Run level s (node o first)) table store₁ used mid r tbl st) where
       -- the tree with its postfixes, and how much room there is for what comes after them
       trailed : (x : Tree Span) × (n : ℕ) × (Run level s (posts (d .tree) (r .next)) ≡ got x n) × (Run level s (signed o (pastTag s at)) ≡ got (finished x) n)
           × (count (g .tree) ≡ count x + (first - from) + tagCount level s at) × (count (d .tree) ≤ count x)
@@ -215,7 +215,7 @@ module _ (level : Level) (s : List ℕ) (o at used free : ℕ) (table store : Li
             stop = d .short .1;
           }
 
-      module _ (tail : PutPostfixes) (tbl₁ : List ℕ) (p : PostsPut s (r .next) (r .used) (r .from) (r .to) tbl tail tbl₁) where
+      module _ {tail : PutPostfixes} {tbl₁ : List ℕ} (p : PostsPut s (r .next) (r .used) (r .from) (r .to) tbl tail tbl₁) where
         trails : Trails (d .tree) (trailed .0) (trailed .1) (r .used) (r .from) tbl tail tbl₁
         trails = p .same level (d .tree) (d .from-is) (d .to-is) (trailed .0) (trailed .1) (trailed .2)
 
@@ -234,14 +234,14 @@ module _ (level : Level) (s : List ℕ) (o at used free : ℕ) (table store : Li
         pub open-room : (nodeSize * tail .used ≤ length tbl₁) × (0 < tail .used)
         open-room = let q = tail-room in (omega arith, omega arith)
 
-        module _ (tbl₂ : List ℕ) (q : Opened s first (tail .used) tbl₁ tbl₂) where
+        module _ {tbl₂ : List ℕ} (q : Opened s first (tail .used) tbl₁ tbl₂) where
           pub signs-room : SignsRoom tbl₂ from first (tail .to) (tail .used)
           signs-room =
               let h = tail-room in
               let l = q .long in
               record { from = v .from; room = omega arith; few = omega arith; to = p .stop; after = omega arith }
 
-          module _ (u : ℕ) (tbl₃ : List ℕ) (y : u ≡ tail .used + (first - from)) (z : SignsPut s from first (tail .to) (tail .used) tbl₂ tbl₃) (a : ℕ) (b : a ≡ termStart s from first (r .from))
+          module _ {u : ℕ} {tbl₃ : List ℕ} (y : u ≡ tail .used + (first - from)) (z : SignsPut s from first (tail .to) (tail .used) tbl₂ tbl₃) {a : ℕ} (b : a ≡ termStart s from first (r .from))
               (short : length s ≤ 65536) where
             abbrev rest : Placed
             rest = record { next = tail .next; used = u; free = r .free; from = a; to = tail .to }
@@ -282,8 +282,8 @@ module _ (level : Level) (s : List ℕ) (o at used free : ℕ) (table store : Li
                 let k = w .next in
                 record { room = omega arith; few = omega arith; after = omega arith; to = p .stop; past = omega arith; low = omega arith }
 
-            pub term-built : (out : Placed) (tbl₄ : List ℕ) → Tied level s at free mid rest tbl₃ out tbl₄ → Built (Run level s (term o at)) table store used free out tbl₄ st
-            term-built out tbl₄ t = t .same o used table store store₁ st w g signed-built
+            pub term-built : {out : Placed} {tbl₄ : List ℕ} → Tied level s at free mid rest tbl₃ out tbl₄ → Built (Run level s (term o at)) table store used free out tbl₄ st
+            term-built t = t .same o used table store store₁ st w g signed-built
 
-pub built-long : (m : Parsed) (table store : List ℕ) (used free : ℕ) (r : Placed) (tbl st : List ℕ) → Built m table store used free r tbl st → (length tbl ≡ length table) × (length st ≡ length store)
-built-long m table store used free r tbl st d = laid-long (d .tree) table store used free tbl st (d .laid)
+pub built-long : {m : Parsed} {table store : List ℕ} {used free : ℕ} {r : Placed} {tbl st : List ℕ} → Built m table store used free r tbl st → (length tbl ≡ length table) × (length st ≡ length store)
+built-long {m} {table} {store} {used} {free} {r} {tbl} {st} d = laid-long (d .tree) table store used free tbl st (d .laid)

@@ -18,9 +18,11 @@ use Rattle.table.specs.Tree.{Span, plain, Tree, leaf, one, two, count, size, pl
 use Rattle.table.specs.Record.{nodeSize}
 use Rattle.table.specs.Flat.{recordOf, flat}
 use Rattle.structure.specs.declared.Level.{Level}
+use Rattle.structure.specs.Answers.{unread}
 use Rattle.structure.specs.Tokens.{spells}
 use Rattle.structure.specs.Structure.{got, refused, next, want, limit, prefixed, expr, node, Run, leafAt}
 use Rattle.structure.proofs.Steps.{inside-is, next-got, next-good, want-true, want-got, opened-got, opened-false}
+use Rattle.structure.proofs.Wants.{fewer}
 use Rattle.structure.proofs.Sizes.{stored-placed, grown-ends, grown-before}
 use Rattle.structure.proofs.Grammar.{node-law}
 use Rattle.build.specs.declared.Placed.{Placed}
@@ -28,17 +30,21 @@ use Rattle.build.specs.Build.{TreeRoom, Built}
 use Rattle.records.specs.Records.{written, most, Over, EndMoved}
 use Rattle.records.proofs.Patches.{spanned}
 use Rattle.build.proofs.Lays.{laid-long, one-laid}
+use Rattle.build.proofs.Parts.{start-low, end-low}
 
 pub place-placed : (p : Span) (t : Tree Span) → placeOf (placed p t) ≡ p
 place-placed p (leaf _ a) = refl
 place-placed p (one _ o t) = refl
 place-placed p (two _ j a b) = refl
 
-module _ (level : Level) (s : List ℕ) (o at used free : ℕ) (table store : List ℕ) (g : TreeRoom (Run level s (node o at)) table store used free) where
+module _ (level : Level) (s : List ℕ) (o at : ℕ) {used free : ℕ} {table store : List ℕ} (g : TreeRoom (Run level s (node o at)) table store used free) where
   -- ---- `(` expression `)`
   module _ (v : is s at 6 ≡ true) where
     pub group-in : at < length (toks s)
     group-in = inside-is s at 6 (omega arith) v
+
+    pub group-falls : unread s (at + 1) < unread s at
+    group-falls = fewer s at (at + 1) (omega arith) (omega (arith, group-in))
 
     group-open : leb limit o ≡ false
     group-open = opened-got o s at _ (sym (node-law level s o at ∙ choose-true (is s at 6) _ _ v) ∙ g .read) .0
@@ -65,8 +71,9 @@ module _ (level : Level) (s : List ℕ) (o at used free : ℕ) (table store : Li
         let h₄ = g .low in
         record { tree = t; end = n; read = e₁; room = omega arith; few = omega arith; fits = omega arith; low = omega arith }
 
-    pub group-last : (r : Placed) (tbl st : List ℕ) → Built (Run level s (expr (o + 1) (at + 1))) table store used free r tbl st → (nodeSize * r .used ≤ length tbl) × (0 < r .used)
-    group-last r tbl st d =
+    pub group-last : {r : Placed} {tbl st : List ℕ} → Built (Run level s (expr (o + 1) (at + 1))) table store used free r tbl st
+        → {z : ℕ} → z ≡ end s (r .next) → length s ≤ 65536 → (nodeSize * r .used ≤ length tbl) × (0 < r .used) × (z ≤ most)
+    group-last {r} {tbl} {st} d {z} e short =
         let h = group-room in
         let m : got (h .tree) (h .end) ≡ got (d .tree) (r .next) = sym (h .read) ∙ d .read in
         let y : h .tree ≡ d .tree = cc m in
@@ -74,36 +81,39 @@ module _ (level : Level) (s : List ℕ) (o at used free : ℕ) (table store : Li
         let l = laid-long (d .tree) table store used free tbl st (d .laid) in
         let h₁ = h .room in
         let x = d .used-is in
-        (omega arith, omega arith)
+        (omega arith, omega arith, end-low s (r .next) z short e)
 
-    pub group-built : (r : Placed) (tbl st : List ℕ) → Built (Run level s (expr (o + 1) (at + 1))) table store used free r tbl st → (z : ℕ) → z ≡ end s (r .next) → z ≤ most
-        → (tbl′ : List ℕ) → EndMoved tbl (r .used) z tbl′
-        → (r .next < length (toks s)) × Built (Run level s (node o at)) table store used free (record { next = r .next + 1; used = r .used; free = r .free; from = r .from; to = z }) tbl′ st
+    group-shut : {r : Placed} {tbl st : List ℕ} → Built (Run level s (expr (o + 1) (at + 1))) table store used free r tbl st → (is s (r .next) 7 ≡ true) × (r .next < length (toks s))
+    group-shut {r} {tbl} {st} d = let (a, p, e) = want-got s (r .next) 7 _ (omega arith) (sym (group-read ∙ next-good _ _ (d .read)) ∙ g .read) in (a, p)
+
+    pub group-within : {r : Placed} {tbl st : List ℕ} → Built (Run level s (expr (o + 1) (at + 1))) table store used free r tbl st → r .next < length (toks s)
+    group-within d = group-shut d .1
+
+    pub group-built : {r : Placed} {tbl st : List ℕ} → Built (Run level s (expr (o + 1) (at + 1))) table store used free r tbl st → {z : ℕ} → z ≡ end s (r .next) → length s ≤ 65536
+        → {tbl′ : List ℕ} → EndMoved tbl (r .used) z tbl′
+        → Built (Run level s (node o at)) table store used free (record { next = r .next + 1; used = r .used; free = r .free; from = r .from; to = z }) tbl′ st
     unfolding endsAt
-    group-built r tbl st d z e b tbl′ m =
+    group-built {r} {tbl} {st} d {z} e l {tbl′} m =
         let t = d .tree in
-        let (a, p, e₃) = want-got s (r .next) 7 _ (omega arith) (sym (group-read ∙ next-good _ _ (d .read)) ∙ g .read) in
         let q : Span = record { start = placeOf t .start; stop = end s (r .next) } in
         let w = grown-ends t (end s (r .next)) in
         let w₁ = w .counts in
         let w₂ = w .sizes in
         let x₁ = d .used-is in
-        let x₂ = d .free-is in (
-          p,
-          record {
-            tree = endsAt t (end s (r .next));
-            read = group-read ∙ next-good _ _ (d .read) ∙ want-true refused s (r .next) 7 _ a;
-            used-is = omega arith;
-            free-is = omega arith;
-            from-is = d .from-is ∙ sym (ap (λ (k : Span). k .start) (place-placed q t));
-            to-is = e ∙ sym (ap (λ (k : Span). k .stop) (place-placed q t));
-            short = (d .short .0, b);
-            laid = record {
-              holds = m .same table t used free (d .used-is) (d .laid .holds) ∙ ap (λ (j : ℕ). written table used (flat used free (endsAt t j))) e;
-              keeps = d .laid .keeps ∙ ap (sets store free) (sym (stored-placed q t));
-            };
-          },
-        )
+        let x₂ = d .free-is in
+        record {
+          tree = endsAt t (end s (r .next));
+          read = group-read ∙ next-good _ _ (d .read) ∙ want-true refused s (r .next) 7 _ (group-shut d .0);
+          used-is = omega arith;
+          free-is = omega arith;
+          from-is = d .from-is ∙ sym (ap (λ (k : Span). k .start) (place-placed q t));
+          to-is = e ∙ sym (ap (λ (k : Span). k .stop) (place-placed q t));
+          short = (d .short .0, end-low s (r .next) z l e);
+          laid = record {
+            holds = m .same table t used free (d .used-is) (d .laid .holds) ∙ ap (λ (j : ℕ). written table used (flat used free (endsAt t j))) e;
+            keeps = d .laid .keeps ∙ ap (sets store free) (sym (stored-placed q t));
+          };
+        }
 
   -- ---- `PUSH(` expression `)`
   module _ (v : is s at 6 ≡ false) (v₁ : spells push s at ≡ true) where
@@ -114,6 +124,9 @@ module _ (level : Level) (s : List ℕ) (o at used free : ℕ) (table store : Li
 
     pub push-in : (at + 1 < length (toks s)) × (o < 1024)
     push-in = (push-shape .1, leb-false limit o (push-shape .2))
+
+    pub push-falls : unread s (at + 1 + 1) < unread s at
+    push-falls = fewer s at (at + 1 + 1) (omega arith) (omega (arith, push-in .0))
 
     push-read : Run level s (node o at) ≡ next (Run level s (expr (o + 1) (at + 1 + 1))) (λ t n. want refused s n 7 (λ m. got (prefixed (start s at) (plain Push) t) m))
     push-read =
@@ -136,44 +149,53 @@ module _ (level : Level) (s : List ℕ) (o at used free : ℕ) (table store : Li
         let h₄ = g .low in
         record { tree = t; end = n; read = e₁; room = omega arith; few = omega arith; fits = omega arith; low = omega arith }
 
-    pub push-over : (r : Placed) (tbl st : List ℕ) → Built (Run level s (expr (o + 1) (at + 1 + 1))) table store used free r tbl st → (a : ℕ) → a ≤ most → Over tbl (r .used) a (r .to) × (r .used < most)
-    push-over r tbl st d a b =
+    push-shut : {r : Placed} {tbl st : List ℕ} (d : Built (Run level s (expr (o + 1) (at + 1 + 1))) table store used free r tbl st)
+        → (is s (r .next) 7 ≡ true) × (r .next < length (toks s)) × (prefixed (start s at) (plain Push) (d .tree) ≡ g .tree)
+    push-shut {r} {tbl} {st} d =
         let (i, p, e) = want-got s (r .next) 7 _ (omega arith) (sym (push-read ∙ next-good _ _ (d .read)) ∙ g .read) in
-        let y : prefixed (start s at) (plain Push) (d .tree) ≡ g .tree = cc e in
-        let c = ap (count {P = Span}) y in
+        (i, p, cc e)
+
+    -- there is room for the node above, and its number fits
+    pub push-within : {r : Placed} {tbl st : List ℕ} → Built (Run level s (expr (o + 1) (at + 1 + 1))) table store used free r tbl st
+        → (r .next < length (toks s)) × (r .used < most) × (0 < r .used) × (nodeSize * (r .used + 1) ≤ length tbl)
+    push-within {r} {tbl} {st} d =
+        let c = ap (count {P = Span}) (push-shut d .2) in
         let w₁ = grown-before (start s at) Push (d .tree) .counts in
         let l = laid-long (d .tree) table store used free tbl st (d .laid) in
         let h₁ = g .room in
         let h₂ = g .few in
         let x = d .used-is in
-        (record { room = omega arith; from = b; to = d .short .1; few = omega arith; after = omega arith }, omega arith)
+        (push-shut d .1, omega arith, omega arith, omega arith)
 
-    pub push-built : (r : Placed) (tbl st : List ℕ) → Built (Run level s (expr (o + 1) (at + 1 + 1))) table store used free r tbl st → (a : ℕ) → a ≡ start s at → a ≤ most
-        → (tbl′ : List ℕ) → tbl′ ≡ written tbl (r .used) (recordOf (spanned a (r .to)) (One (Plain Push) (r .used - 1)))
-        → (r .next < length (toks s)) × Built (Run level s (node o at)) table store used free (record { next = r .next + 1; used = r .used + 1; free = r .free; from = a; to = r .to }) tbl′ st
+    pub push-over : {r : Placed} {tbl st : List ℕ} → Built (Run level s (expr (o + 1) (at + 1 + 1))) table store used free r tbl st
+        → {a : ℕ} → a ≡ start s at → length s ≤ 65536 → Over tbl (r .used) a (r .to)
+    push-over {r} {tbl} {st} d {a} e short =
+        let w = push-within d in
+        record { room = omega arith; from = start-low s at a short e; to = d .short .1; few = omega arith; after = omega arith }
+
+    pub push-built : {r : Placed} {tbl st : List ℕ} → Built (Run level s (expr (o + 1) (at + 1 + 1))) table store used free r tbl st → {a : ℕ} → a ≡ start s at → length s ≤ 65536
+        → {tbl′ : List ℕ} → tbl′ ≡ written tbl (r .used) (recordOf (spanned a (r .to)) (One (Plain Push) (r .used - 1)))
+        → Built (Run level s (node o at)) table store used free (record { next = r .next + 1; used = r .used + 1; free = r .free; from = a; to = r .to }) tbl′ st
     unfolding prefixed
-    push-built r tbl st d a e b tbl′ m =
+    push-built {r} {tbl} {st} d {a} e l {tbl′} m =
         let t = d .tree in
-        let (i, p, e₃) = want-got s (r .next) 7 _ (omega arith) (sym (push-read ∙ next-good _ _ (d .read)) ∙ g .read) in
         let w = grown-before (start s at) Push t in
         let w₁ = w .counts in
         let w₂ = w .sizes in
         let x₁ = d .used-is in
-        let x₂ = d .free-is in (
-          p,
-          record {
-            tree = prefixed (start s at) (plain Push) t;
-            read = push-read ∙ next-good _ _ (d .read) ∙ want-true refused s (r .next) 7 _ i;
-            used-is = omega arith;
-            free-is = omega arith;
-            from-is = e;
-            to-is = d .to-is;
-            short = (b, d .short .1);
-            laid = one-laid table store used free t tbl st tbl′ (spanned (start s at) (placeOf t .stop)) Push (r .used) (r .used - 1) (d .laid) (d .used-is) (omega arith)
-                (m ∙ ap (λ (k : ℕ). written tbl (r .used) (recordOf (spanned k (r .to)) (One (Plain Push) (r .used - 1)))) e
-                ∙ ap (λ (k : ℕ). written tbl (r .used) (recordOf (spanned (start s at) k) (One (Plain Push) (r .used - 1)))) (d .to-is));
-          },
-        )
+        let x₂ = d .free-is in
+        record {
+          tree = prefixed (start s at) (plain Push) t;
+          read = push-read ∙ next-good _ _ (d .read) ∙ want-true refused s (r .next) 7 _ (push-shut d .0);
+          used-is = omega arith;
+          free-is = omega arith;
+          from-is = e;
+          to-is = d .to-is;
+          short = (start-low s at a l e, d .short .1);
+          laid = one-laid table store used free t tbl st tbl′ (spanned (start s at) (placeOf t .stop)) Push (r .used) (r .used - 1) (d .laid) (d .used-is) (omega arith)
+              (m ∙ ap (λ (k : ℕ). written tbl (r .used) (recordOf (spanned k (r .to)) (One (Plain Push) (r .used - 1)))) e
+              ∙ ap (λ (k : ℕ). written tbl (r .used) (recordOf (spanned (start s at) k) (One (Plain Push) (r .used - 1)))) (d .to-is));
+        }
 
   -- ---- a leaf
   pub leaf-read : is s at 6 ≡ false → spells push s at ≡ false → Run level s (node o at) ≡ leafAt o s at

@@ -1,23 +1,27 @@
 -- What falls at a call: thrice the unread bytes, plus 2 in `consume_expr`, 1 in `unaries`, 0 in `consume_node`; a nested expression begins behind its bracket.
 -- The loop keeps `LoopInv`: the choices so far and the last sequence lie in the buffers, and reading on from them at token i gives the whole. Tokens left fall.
 use Rattle.build.proofs.Finishes.{built-long, tag-room, node-falls, node-room, posts-room, open-room, signs-room, tie-room, term-built}
-use Rattle.build.proofs.Parts.{start-low, end-low}
-use Rattle.build.proofs.Nodes.{group-in, group-deep, group-room, group-last, group-built, push-in, push-room, push-over, push-built, leaf-read}
-use Rattle.build.proofs.Chains.{LoopInv, first-room, build-start, choice-room, build-done, bar-inside, bar-room, bar-more, seq-inside, seq-room, seq-over, seq-more}
+use Rattle.build.proofs.Nodes.{group-in, group-falls, group-deep, group-room, group-last, group-within, group-built, push-in, push-falls, push-room, push-within, push-over, push-built, leaf-read}
+use Rattle.build.proofs.Chains.{LoopInv, BuildInv, first-room, build-start, choice-room, build-done, bar-inside, bar-falls, bar-room, bar-more, seq-inside, seq-falls, seq-room, seq-over, seq-more}
 use Rattle.build.proofs.Leaves.{room-same, built-same}
 use Rattle.structure.proofs.Steps.{sees, misses}
 use Rattle.structure.specs.Answers.{unread}
+use Rattle.structure.specs.Structure.{Run, expr}
+use Rattle.structure.specs.Tokens.{spells}
+use Rattle.build.specs.Build.{TreeRoom}
 use borrow.Author.Needs.{needs}
 use native.Mathlib.Omega.{arith}
 use lib.ListN.{length}
 use Prim.Native.Nat.{_-_, _+_, _*_}
-use mathlib.Core.Path.{sym, _∙_}
-use Prim.Native.Nat.{ℕ, _<_}
+use mathlib.Core.Path.{_≡_, sym, _∙_}
+use mathlib.Core.Bool.{true, false}
+use Prim.Native.Nat.{ℕ, _<_, _≤_}
 use borrow.Fn.Kinds.{In, Out}
 use borrow.Fn.PlainCycle.{Measures, is, falls, and}
+use Rattle.text.specs.Words.{push}
 use Rattle.token.specs.Table.{toks}
+use Rattle.token.specs.Table as Table
 use Rattle.token.proofs.Table.{sizes}
-use Rattle.structure.proofs.Wants.{fewer}
 use Rattle.build.proofs.inner.build.consume_expr.Reads as consume-expr
 use Rattle.build.proofs.inner.build.consume_expr.Kinds as consume-expr-kinds
 use Rattle.build.proofs.inner.build.+consume_expr+consume_node+unaries.Lts-consume_expr as consume-expr-lts
@@ -92,641 +96,423 @@ consume-expr-Inv-loop text tokens nodes₀ store₀ level deep at used free a i�
 abbrev consume-expr-μ-loop : consume-expr-lts.MeasureT-loop
 consume-expr-μ-loop text tokens nodes₀ store₀ level deep at used free a i₀ u₀ f₀ b₀ z₀ chosen₀ left₀ nodes store i u f b z chosen left = length (toks text) - i
 
--- a need of `consume-expr`, or a place of its code, at the measure t
+-- what is asked and learnt at each call, at the measure t
+abbrev expr-claims : ℕ → consume-expr-lts.Claims
+expr-claims t = (unaries-below t, unaries.Post, kind-at-reads.Asked, kind-at-reads.Learnt, put-join-reads.Asked, put-join-reads.Learnt, put-choice-reads.Asked, put-choice-reads.Learnt)
+
+abbrev node-claims : ℕ → consume-node-lts.Claims
+node-claims t = (
+  kind-at-reads.Asked,
+  kind-at-reads.Learnt,
+  consume-expr-below t,
+  consume-expr.Post,
+  end-at-reads.Asked,
+  end-at-reads.Learnt,
+  move-end-reads.Asked,
+  move-end-reads.Learnt,
+  spelled-reads.Asked,
+  spelled-reads.Learnt,
+  start-at-reads.Asked,
+  start-at-reads.Learnt,
+  put-unary-reads.Asked,
+  put-unary-reads.Learnt,
+  put-leaf-reads.Asked,
+  put-leaf-reads.Learnt,
+)
+
+abbrev term-claims : ℕ → unaries-lts.Claims
+term-claims t = (
+  get-node-tag-reads.Asked,
+  get-node-tag-reads.Learnt,
+  predicates-end-reads.Asked,
+  predicates-end-reads.Learnt,
+  consume-node-below t,
+  consume-node.Post,
+  put-postfixes-reads.Asked,
+  put-postfixes-reads.Learnt,
+  move-to-bracket-reads.Asked,
+  move-to-bracket-reads.Learnt,
+  put-predicates-reads.Asked,
+  put-predicates-reads.Learnt,
+  term-start-reads.Asked,
+  term-start-reads.Learnt,
+  put-tag-reads.Asked,
+  put-tag-reads.Learnt,
+)
+
+-- a need of a member, or a place of its code, at the measure t
 abbrev of-consume-expr : ((k : consume-expr-lts.Claims) (p : In 4 consume-expr-kinds.ps) (q : Out 4 consume-expr-kinds.ps consume-expr-kinds.r) (i : consume-expr-lts.InvT-loop) (m : consume-expr-lts.MeasureT-loop) → Type 0) → ℕ → Type 0
-of-consume-expr N t = N (unaries-below t, unaries.Post, kind-at-reads.Asked, kind-at-reads.Learnt, put-join-reads.Asked, put-join-reads.Learnt, put-choice-reads.Asked, put-choice-reads.Learnt) (consume-expr-at t) consume-expr.Post consume-expr-Inv-loop consume-expr-μ-loop
+of-consume-expr N t = N (expr-claims t) (consume-expr-at t) consume-expr.Post consume-expr-Inv-loop consume-expr-μ-loop
 
--- a need of `consume-node`, or a place of its code, at the measure t
 abbrev of-consume-node : ((k : consume-node-lts.Claims) (p : In 4 consume-node-kinds.ps) (q : Out 4 consume-node-kinds.ps consume-node-kinds.r) → Type 0) → ℕ → Type 0
-of-consume-node N t = N (kind-at-reads.Asked, kind-at-reads.Learnt, consume-expr-below t, consume-expr.Post, end-at-reads.Asked, end-at-reads.Learnt, move-end-reads.Asked, move-end-reads.Learnt, spelled-reads.Asked, spelled-reads.Learnt, start-at-reads.Asked, start-at-reads.Learnt, put-unary-reads.Asked, put-unary-reads.Learnt, put-leaf-reads.Asked, put-leaf-reads.Learnt) (consume-node-at t) consume-node.Post
+of-consume-node N t = N (node-claims t) (consume-node-at t) consume-node.Post
 
--- a need of `unaries`, or a place of its code, at the measure t
 abbrev of-unaries : ((k : unaries-lts.Claims) (p : In 4 unaries-kinds.ps) (q : Out 4 unaries-kinds.ps unaries-kinds.r) → Type 0) → ℕ → Type 0
-of-unaries N t = N (get-node-tag-reads.Asked, get-node-tag-reads.Learnt, predicates-end-reads.Asked, predicates-end-reads.Learnt, consume-node-below t, consume-node.Post, put-postfixes-reads.Asked, put-postfixes-reads.Learnt, move-to-bracket-reads.Asked, move-to-bracket-reads.Learnt, put-predicates-reads.Asked, put-predicates-reads.Learnt, term-start-reads.Asked, term-start-reads.Learnt, put-tag-reads.Asked, put-tag-reads.Learnt) (unaries-at t) unaries.Post
+of-unaries N t = N (term-claims t) (unaries-at t) unaries.Post
+
+-- ---- `consume_expr`
+
+-- the loop: where the function began, its room, and what is kept
+module _ (t : ℕ) (c : of-consume-expr consume-expr-lts.At-loop t) where
+  abbrev expr-start : of-consume-expr consume-expr-lts.Start t
+  expr-start = c .before .before .before .before .before .before .before .before .before .before .before .before
+
+  expr-room : let a = expr-start .args in TreeRoom (Run (a .level) (a .text .now) (expr (a .deep) (a .at))) (a .nodes .now) (a .store .now) (a .used) (a .free)
+  expr-room = expr-start .pre .1 .1 .1
+
+  expr-few : length (toks (expr-start .args .text .now)) ≤ 65536
+  expr-few = omega (arith, sizes _ _ (expr-start .pre .1 .0) .1)
+
+  kept : let a = expr-start .args in let l = c .loop in
+      BuildInv (a .level) (a .text .now) (a .deep) (a .at) (a .used) (a .free) (a .nodes .now) (a .store .now)
+      (l .i) (l .u) (l .f) (c .before .before .before .before .before .unaries .result .from) (l .b) (l .z) (l .chosen) (l .left) (l .nodes) (l .store)
+  kept = c .loop .inv _ _ expr-room (c .before .before .before .before .before .unaries .ensures)
+
+-- a `~`
+tilde : (t : ℕ) (c : of-consume-expr consume-expr-lts.Then1 t) → Table.is (expr-start t (c .before .before) .args .text .now) (c .before .before .loop .i) 10 ≡ true
+tilde t c = sees _ _ _ 10 (c .before .kind-at .ensures) (c .if1 .taken)
+
+-- no `~`; then a `|` or the end
+no-tilde : (t : ℕ) (c : of-consume-expr consume-expr-lts.Else1 t) → Table.is (expr-start t (c .before .before) .args .text .now) (c .before .before .loop .i) 10 ≡ false
+no-tilde t c = misses _ _ _ 10 (c .before .kind-at .ensures) (c .if1 .left)
+
+bar : (t : ℕ) (c : of-consume-expr consume-expr-lts.Else2 t) → let l = c .before .before .before .before .before .before .before in Table.is (expr-start t l .args .text .now) (l .loop .i) 11 ≡ true
+bar t c = sees _ _ _ 11 (c .before .before .before .before .before .before .kind-at .ensures) (c .if2 .left)
 
 consume-expr-unaries-requires : (t : ℕ) → of-consume-expr consume-expr-lts.Need-unaries-requires t
 consume-expr-unaries-requires t c κs =
-    let start = c .before .before .before .before .before .before in
-    let measured = start .pre .0 in
-    let lent = start .pre .1 .0 in
-    let scalars = start .pre .1 .1 .0 in
-    let room = start .pre .1 .1 .1 in
-    (omega (arith, measured), (lent, (scalars, first-room _ _ _ _ _ _ _ _ room)))
-
-consume-expr-loop-holds : (t : ℕ) → of-consume-expr consume-expr-lts.Need-loop-holds t
-consume-expr-loop-holds t c = λ table store g d. build-start _ _ _ _ _ _ _ _ g _ _ _ d
-
-consume-expr-kind-at-requires : (t : ℕ) → of-consume-expr consume-expr-lts.Need-kind-at-requires t
-consume-expr-kind-at-requires t c κs = search needs
+    let s = c .before .before .before .before .before .before in
+    (omega (arith, s .pre .0), (s .pre .1 .0, (s .pre .1 .1 .0, first-room _ _ _ _ (s .pre .1 .1 .1))))
 
 consume-expr-add-unaries : (t : ℕ) → of-consume-expr consume-expr-lts.Need-add-unaries t
 consume-expr-add-unaries t c =
-    let at-if1 = c .before .before in
-    let at-kind-at = at-if1 .before in
-    let at-loop = at-kind-at .before in
-    let at-unaries = at-loop .before .before .before .before .before in
-    let start = at-unaries .before .before .before .before .before .before .before in
-    let room = start .pre .1 .1 .1 in
-    let inv = at-loop .loop .inv _ _ room (at-unaries .unaries .ensures) in
-    let seq = sees _ _ _ 10 (at-kind-at .kind-at .ensures) (at-if1 .if1 .taken) in
-    let inside = seq-inside _ _ _ _ _ _ _ _ room _ _ _ _ _ _ _ _ _ _ inv seq in
-    let lent = start .pre .1 .0 in
-    let few = sizes _ _ lent .1 in
-    omega (arith, inside, few)
+    let k = c .before .before in
+    let l = k .before .before in
+    omega (arith, seq-inside (expr-room t l) (kept t l) (tilde t k), expr-few t l)
 
 consume-expr-unaries-requires-2 : (t : ℕ) → of-consume-expr consume-expr-lts.Need-unaries-requires-2 t
 consume-expr-unaries-requires-2 t c κs =
-    let at-if1 = c .before .before in
-    let at-kind-at = at-if1 .before in
-    let at-loop = at-kind-at .before in
-    let at-unaries = at-loop .before .before .before .before .before in
-    let start = at-unaries .before .before .before .before .before .before .before in
-    let measured = start .pre .0 in
-    let lent = start .pre .1 .0 in
-    let room = start .pre .1 .1 .1 in
-    let inv = at-loop .loop .inv _ _ room (at-unaries .unaries .ensures) in
-    let seq = sees _ _ _ 10 (at-kind-at .kind-at .ensures) (at-if1 .if1 .taken) in
-    let inside = seq-inside _ _ _ _ _ _ _ _ room _ _ _ _ _ _ _ _ _ _ inv seq in
-    let fewer-left = fewer (start .args .text .now) (start .args .at) (at-loop .loop .i + 1) (omega (arith, inv .past)) (omega (arith, inside)) in
-    let scalars = start .pre .1 .1 .0 in
-    (omega (arith, measured, fewer-left), (lent, (scalars, seq-room _ _ _ _ _ _ _ _ room _ _ _ _ _ _ _ _ _ _ inv seq)))
+    let k = c .before .before in
+    let l = k .before .before in
+    let s = expr-start t l in
+    (omega (arith, s .pre .0, seq-falls (expr-room t l) (kept t l) (tilde t k)), (s .pre .1 .0, (s .pre .1 .1 .0, seq-room (expr-room t l) (kept t l) (tilde t k))))
 
 consume-expr-sub-put-join : (t : ℕ) → of-consume-expr consume-expr-lts.Need-sub-put-join t
 consume-expr-sub-put-join t c =
-    let at-unaries2 = c .before .before .before .before .before in
-    let at-if1 = at-unaries2 .before .before .before in
-    let at-kind-at = at-if1 .before in
-    let at-loop = at-kind-at .before in
-    let at-unaries = at-loop .before .before .before .before .before in
-    let start = at-unaries .before .before .before .before .before .before .before in
-    let room = start .pre .1 .1 .1 in
-    let inv = at-loop .loop .inv _ _ room (at-unaries .unaries .ensures) in
-    let seq = sees _ _ _ 10 (at-kind-at .kind-at .ensures) (at-if1 .if1 .taken) in
-    let over = seq-over _ _ _ _ _ _ _ _ room _ _ _ _ _ _ _ _ _ _ inv seq _ _ _ (at-unaries2 .unaries2 .ensures) in
+    let u = c .before .before .before .before .before in
+    let k = u .before .before .before in
+    let l = k .before .before in
+    let over = seq-over (expr-room t l) (kept t l) (tilde t k) (u .unaries2 .ensures) in
     omega (arith, over .2)
 
 consume-expr-put-join-requires : (t : ℕ) → of-consume-expr consume-expr-lts.Need-put-join-requires t
 consume-expr-put-join-requires t c κs =
-    let at-unaries2 = c .before .before .before .before .before in
-    let at-if1 = at-unaries2 .before .before .before in
-    let at-kind-at = at-if1 .before in
-    let at-loop = at-kind-at .before in
-    let at-unaries = at-loop .before .before .before .before .before in
-    let start = at-unaries .before .before .before .before .before .before .before in
-    let room = start .pre .1 .1 .1 in
-    let inv = at-loop .loop .inv _ _ room (at-unaries .unaries .ensures) in
-    let seq = sees _ _ _ 10 (at-kind-at .kind-at .ensures) (at-if1 .if1 .taken) in
-    let over = seq-over _ _ _ _ _ _ _ _ room _ _ _ _ _ _ _ _ _ _ inv seq _ _ _ (at-unaries2 .unaries2 .ensures) in
+    let u = c .before .before .before .before .before in
+    let k = u .before .before .before in
+    let l = k .before .before in
+    let over = seq-over (expr-room t l) (kept t l) (tilde t k) (u .unaries2 .ensures) in
     (over .0, omega (arith, over .1))
 
 consume-expr-add-u : (t : ℕ) → of-consume-expr consume-expr-lts.Need-add-u t
 consume-expr-add-u t c =
-    let at-unaries2 = c .before .before .before .before .before .before .before .before .before in
-    let at-if1 = at-unaries2 .before .before .before in
-    let at-kind-at = at-if1 .before in
-    let at-loop = at-kind-at .before in
-    let at-unaries = at-loop .before .before .before .before .before in
-    let start = at-unaries .before .before .before .before .before .before .before in
-    let room = start .pre .1 .1 .1 in
-    let inv = at-loop .loop .inv _ _ room (at-unaries .unaries .ensures) in
-    let seq = sees _ _ _ 10 (at-kind-at .kind-at .ensures) (at-if1 .if1 .taken) in
-    let over = seq-over _ _ _ _ _ _ _ _ room _ _ _ _ _ _ _ _ _ _ inv seq _ _ _ (at-unaries2 .unaries2 .ensures) in
+    let u = c .before .before .before .before .before .before .before .before .before in
+    let k = u .before .before .before in
+    let l = k .before .before in
+    let over = seq-over (expr-room t l) (kept t l) (tilde t k) (u .unaries2 .ensures) in
     omega (arith, over .3)
 
 consume-expr-loop-less : (t : ℕ) → of-consume-expr consume-expr-lts.Need-loop-less t
 consume-expr-loop-less t c =
-    let at-put-join = c .before .before .before in
-    let at-unaries2 = at-put-join .before .before .before .before .before .before in
-    let at-if1 = at-unaries2 .before .before .before in
-    let at-kind-at = at-if1 .before in
-    let at-loop = at-kind-at .before in
-    let at-unaries = at-loop .before .before .before .before .before in
-    let start = at-unaries .before .before .before .before .before .before .before in
-    let room = start .pre .1 .1 .1 in
-    let inv = at-loop .loop .inv _ _ room (at-unaries .unaries .ensures) in
-    let seq = sees _ _ _ 10 (at-kind-at .kind-at .ensures) (at-if1 .if1 .taken) in
-    let more = seq-more _ _ _ _ _ _ _ _ room _ _ _ _ _ _ _ _ _ _ inv seq _ _ _ (at-unaries2 .unaries2 .ensures) _ (at-put-join .put-join .ensures) in
+    let j = c .before .before .before in
+    let u = j .before .before .before .before .before .before in
+    let k = u .before .before .before in
+    let l = k .before .before in
+    let more = seq-more (expr-room t l) (kept t l) (tilde t k) (u .unaries2 .ensures) (j .put-join .ensures) in
     omega (arith, more .0, more .1 .within)
 
 consume-expr-loop-again : (t : ℕ) → of-consume-expr consume-expr-lts.Need-loop-again t
 consume-expr-loop-again t c =
-    let at-put-join = c .before .before .before in
-    let at-unaries2 = at-put-join .before .before .before .before .before .before in
-    let at-if1 = at-unaries2 .before .before .before in
-    let at-kind-at = at-if1 .before in
-    let at-loop = at-kind-at .before in
-    let seq = sees _ _ _ 10 (at-kind-at .kind-at .ensures) (at-if1 .if1 .taken) in
-    λ table store g d. seq-more _ _ _ _ _ _ _ _ g _ _ _ _ _ _ _ _ _ _ (at-loop .loop .inv table store g d) seq _ _ _ (at-unaries2 .unaries2 .ensures) _ (at-put-join .put-join .ensures) .1
+    let j = c .before .before .before in
+    let u = j .before .before .before .before .before .before in
+    let k = u .before .before .before in
+    let l = k .before .before in
+    λ table store g d. seq-more g (l .loop .inv table store g d) (tilde t k) (u .unaries2 .ensures) (j .put-join .ensures) .1
 
 consume-expr-put-choice-requires : (t : ℕ) → of-consume-expr consume-expr-lts.Need-put-choice-requires t
 consume-expr-put-choice-requires t c κs =
-    let at-loop = c .before .before .before in
-    let at-unaries = at-loop .before .before .before .before .before in
-    let start = at-unaries .before .before .before .before .before .before .before in
-    let room = start .pre .1 .1 .1 in
-    let inv = at-loop .loop .inv _ _ room (at-unaries .unaries .ensures) in
-    choice-room _ _ _ _ _ _ _ _ room _ _ _ _ _ _ _ _ _ _ inv
+    let l = c .before .before .before in
+    choice-room (expr-room t l) (kept t l)
 
 consume-expr-returns : (t : ℕ) → of-consume-expr consume-expr-lts.Need-returns t
 consume-expr-returns t c =
-    let at-put-choice = c .before .before .before in
-    let at-if1 = at-put-choice .before .before in
-    let at-kind-at = at-if1 .before in
-    let at-loop = at-kind-at .before in
-    let at-unaries = at-loop .before .before .before .before .before in
-    let start = at-unaries .before .before .before .before .before .before .before in
-    let room = start .pre .1 .1 .1 in
-    let inv = at-loop .loop .inv _ _ room (at-unaries .unaries .ensures) in
-    let closed = at-put-choice .put-choice .ensures in
-    let noseq = misses _ _ _ 10 (at-kind-at .kind-at .ensures) (at-if1 .if1 .left) in
-    let nobar = misses _ _ _ 11 (at-kind-at .kind-at .ensures) (c .if2 .taken) in
-    build-done _ _ _ _ _ _ _ _ room _ _ _ _ _ _ _ _ _ _ inv _ _ (closed .0) (closed .1) noseq nobar
-
-consume-expr-same-length : (t : ℕ) → of-consume-expr consume-expr-lts.Need-same-length t
-consume-expr-same-length t c = built-long _ _ _ _ _ _ _ _ (consume-expr-returns t c) .0
-
-consume-expr-same-length-2 : (t : ℕ) → of-consume-expr consume-expr-lts.Need-same-length-2 t
-consume-expr-same-length-2 t c = built-long _ _ _ _ _ _ _ _ (consume-expr-returns t c) .1
+    let p = c .before .before .before in
+    let k = p .before .before in
+    let l = k .before .before in
+    let no-bar = misses _ _ _ 11 (k .before .kind-at .ensures) (c .if2 .taken) in
+    build-done (expr-room t l) (kept t l) (p .put-choice .ensures .0) (p .put-choice .ensures .1) (no-tilde t k) no-bar
 
 consume-expr-sub-left : (t : ℕ) → of-consume-expr consume-expr-lts.Need-sub-left t
 consume-expr-sub-left t c =
-    let at-put-choice = c .before .before .before in
-    let at-if1 = at-put-choice .before .before in
-    let at-kind-at = at-if1 .before in
-    let at-loop = at-kind-at .before in
-    let at-unaries = at-loop .before .before .before .before .before in
-    let start = at-unaries .before .before .before .before .before .before .before in
-    let room = start .pre .1 .1 .1 in
-    let inv = at-loop .loop .inv _ _ room (at-unaries .unaries .ensures) in
-    let closed = at-put-choice .put-choice .ensures in
-    let noseq = misses _ _ _ 10 (at-kind-at .kind-at .ensures) (at-if1 .if1 .left) in
-    let bar = sees _ _ _ 11 (at-kind-at .kind-at .ensures) (c .if2 .left) in
-    let barred = bar-inside _ _ _ _ _ _ _ _ room _ _ _ _ _ _ _ _ _ _ inv _ _ (closed .0) (closed .1) noseq bar in
-    omega (arith, barred .1)
+    let p = c .before .before .before in
+    let l = p .before .before .before .before in
+    omega (arith, bar-inside (expr-room t l) (kept t l) (p .put-choice .ensures .0) (p .put-choice .ensures .1) (no-tilde t (p .before .before)) (bar t c) .1)
 
 consume-expr-add-unaries-2 : (t : ℕ) → of-consume-expr consume-expr-lts.Need-add-unaries-2 t
 consume-expr-add-unaries-2 t c =
-    let at-if2 = c .before .before in
-    let at-put-choice = at-if2 .before .before .before in
-    let at-if1 = at-put-choice .before .before in
-    let at-kind-at = at-if1 .before in
-    let at-loop = at-kind-at .before in
-    let at-unaries = at-loop .before .before .before .before .before in
-    let start = at-unaries .before .before .before .before .before .before .before in
-    let room = start .pre .1 .1 .1 in
-    let inv = at-loop .loop .inv _ _ room (at-unaries .unaries .ensures) in
-    let closed = at-put-choice .put-choice .ensures in
-    let noseq = misses _ _ _ 10 (at-kind-at .kind-at .ensures) (at-if1 .if1 .left) in
-    let bar = sees _ _ _ 11 (at-kind-at .kind-at .ensures) (at-if2 .if2 .left) in
-    let barred = bar-inside _ _ _ _ _ _ _ _ room _ _ _ _ _ _ _ _ _ _ inv _ _ (closed .0) (closed .1) noseq bar in
-    let lent = start .pre .1 .0 in
-    let few = sizes _ _ lent .1 in
-    omega (arith, barred .0, few)
+    let k = c .before .before in
+    let p = k .before .before .before in
+    let l = p .before .before .before .before in
+    omega (arith, bar-inside (expr-room t l) (kept t l) (p .put-choice .ensures .0) (p .put-choice .ensures .1) (no-tilde t (p .before .before)) (bar t k) .0, expr-few t l)
 
 consume-expr-unaries-requires-3 : (t : ℕ) → of-consume-expr consume-expr-lts.Need-unaries-requires-3 t
 consume-expr-unaries-requires-3 t c κs =
-    let at-if2 = c .before .before in
-    let at-put-choice = at-if2 .before .before .before in
-    let at-if1 = at-put-choice .before .before in
-    let at-kind-at = at-if1 .before in
-    let at-loop = at-kind-at .before in
-    let at-unaries = at-loop .before .before .before .before .before in
-    let start = at-unaries .before .before .before .before .before .before .before in
-    let measured = start .pre .0 in
-    let lent = start .pre .1 .0 in
-    let room = start .pre .1 .1 .1 in
-    let inv = at-loop .loop .inv _ _ room (at-unaries .unaries .ensures) in
-    let closed = at-put-choice .put-choice .ensures in
-    let noseq = misses _ _ _ 10 (at-kind-at .kind-at .ensures) (at-if1 .if1 .left) in
-    let bar = sees _ _ _ 11 (at-kind-at .kind-at .ensures) (at-if2 .if2 .left) in
-    let barred = bar-inside _ _ _ _ _ _ _ _ room _ _ _ _ _ _ _ _ _ _ inv _ _ (closed .0) (closed .1) noseq bar in
-    let fewer-bar = fewer (start .args .text .now) (start .args .at) (at-loop .loop .i + 1) (omega (arith, inv .past)) (omega (arith, barred .0)) in
-    let scalars = start .pre .1 .1 .0 in
-    (omega (arith, measured, fewer-bar), (lent, (scalars, bar-room _ _ _ _ _ _ _ _ room _ _ _ _ _ _ _ _ _ _ inv _ _ (closed .0) (closed .1) noseq bar)))
+    let k = c .before .before in
+    let p = k .before .before .before in
+    let l = p .before .before .before .before in
+    let s = expr-start t l in
+    let less = bar-falls (expr-room t l) (kept t l) (p .put-choice .ensures .0) (p .put-choice .ensures .1) (no-tilde t (p .before .before)) (bar t k) in
+    (omega (arith, s .pre .0, less), (s .pre .1 .0, (s .pre .1 .1 .0, bar-room (expr-room t l) (kept t l) (p .put-choice .ensures .0) (p .put-choice .ensures .1) (no-tilde t (p .before .before)) (bar t k))))
 
 consume-expr-loop-less-2 : (t : ℕ) → of-consume-expr consume-expr-lts.Need-loop-less-2 t
 consume-expr-loop-less-2 t c =
-    let at-unaries3 = c .before .before .before .before in
-    let at-if2 = at-unaries3 .before .before .before in
-    let at-put-choice = at-if2 .before .before .before in
-    let at-if1 = at-put-choice .before .before in
-    let at-kind-at = at-if1 .before in
-    let at-loop = at-kind-at .before in
-    let at-unaries = at-loop .before .before .before .before .before in
-    let start = at-unaries .before .before .before .before .before .before .before in
-    let room = start .pre .1 .1 .1 in
-    let inv = at-loop .loop .inv _ _ room (at-unaries .unaries .ensures) in
-    let closed = at-put-choice .put-choice .ensures in
-    let noseq = misses _ _ _ 10 (at-kind-at .kind-at .ensures) (at-if1 .if1 .left) in
-    let bar = sees _ _ _ 11 (at-kind-at .kind-at .ensures) (at-if2 .if2 .left) in
-    let again = bar-more _ _ _ _ _ _ _ _ room _ _ _ _ _ _ _ _ _ _ inv _ _ (closed .0) (closed .1) noseq bar _ _ _ (at-unaries3 .unaries3 .ensures) in
+    let u = c .before .before .before .before in
+    let k = u .before .before .before in
+    let p = k .before .before .before in
+    let l = p .before .before .before .before in
+    let again = bar-more (expr-room t l) (kept t l) (p .put-choice .ensures .0) (p .put-choice .ensures .1) (no-tilde t (p .before .before)) (bar t k) (u .unaries3 .ensures) in
     omega (arith, again .0, again .1 .within)
 
 consume-expr-loop-again-2 : (t : ℕ) → of-consume-expr consume-expr-lts.Need-loop-again-2 t
 consume-expr-loop-again-2 t c =
-    let at-unaries3 = c .before .before .before .before in
-    let at-if2 = at-unaries3 .before .before .before in
-    let at-put-choice = at-if2 .before .before .before in
-    let at-if1 = at-put-choice .before .before in
-    let at-kind-at = at-if1 .before in
-    let at-loop = at-kind-at .before in
-    let closed = at-put-choice .put-choice .ensures in
-    let noseq = misses _ _ _ 10 (at-kind-at .kind-at .ensures) (at-if1 .if1 .left) in
-    let bar = sees _ _ _ 11 (at-kind-at .kind-at .ensures) (at-if2 .if2 .left) in
-    λ table store g d. bar-more _ _ _ _ _ _ _ _ g _ _ _ _ _ _ _ _ _ _ (at-loop .loop .inv table store g d) _ _ (closed .0) (closed .1) noseq bar _ _ _ (at-unaries3 .unaries3 .ensures) .1
+    let u = c .before .before .before .before in
+    let k = u .before .before .before in
+    let p = k .before .before .before in
+    let l = p .before .before .before .before in
+    λ table store g d. bar-more g (l .loop .inv table store g d) (p .put-choice .ensures .0) (p .put-choice .ensures .1) (no-tilde t (p .before .before)) (bar t k) (u .unaries3 .ensures) .1
 
-consume-node-kind-at-requires : (t : ℕ) → of-consume-node consume-node-lts.Need-kind-at-requires t
-consume-node-kind-at-requires t c κs = search needs
+-- ---- `consume_node`
+
+-- `(` expression `)`
+module _ (t : ℕ) (c : of-consume-node consume-node-lts.Then1 t) where
+  abbrev group-start : of-consume-node consume-node-lts.Start t
+  group-start = c .before .before .before .before .before .before
+
+  opens : Table.is (group-start .args .text .now) (group-start .args .at) 6 ≡ true
+  opens = sees _ _ _ 6 (c .before .kind-at .ensures) (c .if1 .taken)
+
+-- no bracket; then PUSH or a leaf
+module _ (t : ℕ) (c : of-consume-node consume-node-lts.After-spelled t) where
+  abbrev bare-start : of-consume-node consume-node-lts.Start t
+  bare-start = c .before .before .before .before .before .before .before .before
+
+  bare : Table.is (bare-start .args .text .now) (bare-start .args .at) 6 ≡ false
+  bare = misses _ _ _ 6 (c .before .before .before .kind-at .ensures) (c .before .before .if1 .left)
+
+is-push : (t : ℕ) (c : of-consume-node consume-node-lts.Then2 t) → let s = bare-start t (c .before) in spells push (s .args .text .now) (s .args .at) ≡ true
+is-push t c = sym (c .before .spelled .ensures) ∙ c .if2 .taken
 
 consume-node-add-consume-expr : (t : ℕ) → of-consume-node consume-node-lts.Need-add-consume-expr t
 consume-node-add-consume-expr t c =
-    let at-if1 = c .before .before in
-    let at-kind-at = at-if1 .before in
-    let start = at-kind-at .before .before .before .before .before in
-    let room = start .pre .1 .1 .1 in
-    let opens = sees _ _ _ 6 (at-kind-at .kind-at .ensures) (at-if1 .if1 .taken) in
-    let shallow = group-deep _ _ _ _ _ _ _ _ room opens in
-    omega (arith, shallow)
+    let k = c .before .before in
+    let s = group-start t k in
+    omega (arith, group-deep _ _ _ _ (s .pre .1 .1 .1) (opens t k))
 
 consume-node-add-consume-expr-2 : (t : ℕ) → of-consume-node consume-node-lts.Need-add-consume-expr-2 t
 consume-node-add-consume-expr-2 t c =
-    let at-if1 = c .before .before in
-    let at-kind-at = at-if1 .before in
-    let start = at-kind-at .before .before .before .before .before in
-    let room = start .pre .1 .1 .1 in
-    let opens = sees _ _ _ 6 (at-kind-at .kind-at .ensures) (at-if1 .if1 .taken) in
-    let open-in = group-in _ _ _ _ _ _ _ _ room opens in
-    let lent = start .pre .1 .0 in
-    let few = sizes _ _ lent .1 in
-    omega (arith, open-in, few)
+    let k = c .before .before in
+    let s = group-start t k in
+    omega (arith, group-in _ _ _ _ (s .pre .1 .1 .1) (opens t k), sizes _ _ (s .pre .1 .0) .1)
 
 consume-node-consume-expr-requires : (t : ℕ) → of-consume-node consume-node-lts.Need-consume-expr-requires t
 consume-node-consume-expr-requires t c κs =
-    let at-if1 = c .before .before in
-    let at-kind-at = at-if1 .before in
-    let start = at-kind-at .before .before .before .before .before in
-    let measured = start .pre .0 in
-    let lent = start .pre .1 .0 in
-    let room = start .pre .1 .1 .1 in
-    let opens = sees _ _ _ 6 (at-kind-at .kind-at .ensures) (at-if1 .if1 .taken) in
-    let open-in = group-in _ _ _ _ _ _ _ _ room opens in
-    let fewer-group = fewer (start .args .text .now) (start .args .at) (start .args .at + 1) (omega arith) (omega (arith, open-in)) in
-    let scalars = start .pre .1 .1 .0 in
-    (omega (arith, measured, fewer-group), (lent, (scalars, group-room _ _ _ _ _ _ _ _ room opens)))
-
-consume-node-end-at-requires : (t : ℕ) → of-consume-node consume-node-lts.Need-end-at-requires t
-consume-node-end-at-requires t c κs = search needs
+    let k = c .before .before in
+    let s = group-start t k in
+    (omega (arith, s .pre .0, group-falls _ _ _ _ (s .pre .1 .1 .1) (opens t k)), (s .pre .1 .0, (s .pre .1 .1 .0, group-room _ _ _ _ (s .pre .1 .1 .1) (opens t k))))
 
 consume-node-move-end-requires : (t : ℕ) → of-consume-node consume-node-lts.Need-move-end-requires t
 consume-node-move-end-requires t c κs =
-    let at-end-at = c .before in
-    let at-consume-expr = at-end-at .before .before .before .before .before in
-    let at-if1 = at-consume-expr .before .before .before in
-    let at-kind-at = at-if1 .before in
-    let start = at-kind-at .before .before .before .before .before in
-    let room = start .pre .1 .1 .1 in
-    let opens = sees _ _ _ 6 (at-kind-at .kind-at .ensures) (at-if1 .if1 .taken) in
-    let last = group-last _ _ _ _ _ _ _ _ room opens _ _ _ (at-consume-expr .consume-expr .ensures) in
-    let lent = start .pre .1 .0 in
-    let z-low = end-low (start .args .text .now) (at-consume-expr .consume-expr .result .next) _ (lent .short) (at-end-at .end-at .ensures) in
-    (last .0, last .1, z-low)
+    let e = c .before in
+    let x = e .before .before .before .before .before in
+    let k = x .before .before .before in
+    let s = group-start t k in
+    group-last _ _ _ _ (s .pre .1 .1 .1) (opens t k) (x .consume-expr .ensures) (e .end-at .ensures) (s .pre .1 .0 .short)
 
 consume-node-add-t21 : (t : ℕ) → of-consume-node consume-node-lts.Need-add-t21 t
 consume-node-add-t21 t c =
-    let at-move-end = c .before .before .before in
-    let at-end-at = at-move-end .before .before in
-    let at-consume-expr = at-end-at .before .before .before .before .before in
-    let at-if1 = at-consume-expr .before .before .before in
-    let at-kind-at = at-if1 .before in
-    let start = at-kind-at .before .before .before .before .before in
-    let room = start .pre .1 .1 .1 in
-    let opens = sees _ _ _ 6 (at-kind-at .kind-at .ensures) (at-if1 .if1 .taken) in
-    let lent = start .pre .1 .0 in
-    let z-low = end-low (start .args .text .now) (at-consume-expr .consume-expr .result .next) _ (lent .short) (at-end-at .end-at .ensures) in
-    let group = group-built _ _ _ _ _ _ _ _ room opens _ _ _ (at-consume-expr .consume-expr .ensures) _ (at-end-at .end-at .ensures) z-low _ (at-move-end .move-end .ensures) in
-    let few = sizes _ _ lent .1 in
-    omega (arith, group .0, few)
+    let x = c .before .before .before .before .before .before .before .before .before .before in
+    let k = x .before .before .before in
+    let s = group-start t k in
+    omega (arith, group-within _ _ _ _ (s .pre .1 .1 .1) (opens t k) (x .consume-expr .ensures), sizes _ _ (s .pre .1 .0) .1)
 
 consume-node-returns : (t : ℕ) → of-consume-node consume-node-lts.Need-returns t
 consume-node-returns t c =
-    let at-move-end = c .before .before .before in
-    let at-end-at = at-move-end .before .before in
-    let at-consume-expr = at-end-at .before .before .before .before .before in
-    let at-if1 = at-consume-expr .before .before .before in
-    let at-kind-at = at-if1 .before in
-    let start = at-kind-at .before .before .before .before .before in
-    let room = start .pre .1 .1 .1 in
-    let opens = sees _ _ _ 6 (at-kind-at .kind-at .ensures) (at-if1 .if1 .taken) in
-    let lent = start .pre .1 .0 in
-    let z-low = end-low (start .args .text .now) (at-consume-expr .consume-expr .result .next) _ (lent .short) (at-end-at .end-at .ensures) in
-    group-built _ _ _ _ _ _ _ _ room opens _ _ _ (at-consume-expr .consume-expr .ensures) _ (at-end-at .end-at .ensures) z-low _ (at-move-end .move-end .ensures) .1
-
-consume-node-same-length : (t : ℕ) → of-consume-node consume-node-lts.Need-same-length t
-consume-node-same-length t c = built-long _ _ _ _ _ _ _ _ (consume-node-returns t c) .0
-
-consume-node-same-length-2 : (t : ℕ) → of-consume-node consume-node-lts.Need-same-length-2 t
-consume-node-same-length-2 t c = built-long _ _ _ _ _ _ _ _ (consume-node-returns t c) .1
-
-consume-node-slice-aggregate-spelled : (t : ℕ) → of-consume-node consume-node-lts.Need-slice-aggregate-spelled t
-consume-node-slice-aggregate-spelled t c = search needs
-
-consume-node-spelled-requires : (t : ℕ) → of-consume-node consume-node-lts.Need-spelled-requires t
-consume-node-spelled-requires t c κs = search needs
+    let m = c .before .before .before in
+    let e = m .before .before in
+    let x = e .before .before .before .before .before in
+    let k = x .before .before .before in
+    let s = group-start t k in
+    group-built _ _ _ _ (s .pre .1 .1 .1) (opens t k) (x .consume-expr .ensures) (e .end-at .ensures) (s .pre .1 .0 .short) (m .move-end .ensures)
 
 consume-node-add-consume-expr-3 : (t : ℕ) → of-consume-node consume-node-lts.Need-add-consume-expr-3 t
 consume-node-add-consume-expr-3 t c =
-    let at-if2 = c .before .before in
-    let at-spelled = at-if2 .before in
-    let at-if1 = at-spelled .before .before in
-    let at-kind-at = at-if1 .before in
-    let start = at-kind-at .before .before .before .before .before in
-    let room = start .pre .1 .1 .1 in
-    let bare = misses _ _ _ 6 (at-kind-at .kind-at .ensures) (at-if1 .if1 .left) in
-    let is-push = sym (at-spelled .spelled .ensures) ∙ at-if2 .if2 .taken in
-    let inner = push-in _ _ _ _ _ _ _ _ room bare is-push in
-    omega (arith, inner .1)
+    let k = c .before .before in
+    let s = bare-start t (k .before) in
+    omega (arith, push-in _ _ _ _ (s .pre .1 .1 .1) (bare t (k .before)) (is-push t k) .1)
 
 consume-node-add-consume-expr-4 : (t : ℕ) → of-consume-node consume-node-lts.Need-add-consume-expr-4 t
 consume-node-add-consume-expr-4 t c =
-    let at-if2 = c .before .before in
-    let at-spelled = at-if2 .before in
-    let at-if1 = at-spelled .before .before in
-    let at-kind-at = at-if1 .before in
-    let start = at-kind-at .before .before .before .before .before in
-    let room = start .pre .1 .1 .1 in
-    let bare = misses _ _ _ 6 (at-kind-at .kind-at .ensures) (at-if1 .if1 .left) in
-    let is-push = sym (at-spelled .spelled .ensures) ∙ at-if2 .if2 .taken in
-    let inner = push-in _ _ _ _ _ _ _ _ room bare is-push in
-    let lent = start .pre .1 .0 in
-    let few = sizes _ _ lent .1 in
-    omega (arith, inner .0, few)
+    let k = c .before .before in
+    let s = bare-start t (k .before) in
+    omega (arith, push-in _ _ _ _ (s .pre .1 .1 .1) (bare t (k .before)) (is-push t k) .0, sizes _ _ (s .pre .1 .0) .1)
 
 consume-node-add-consume-expr-5 : (t : ℕ) → of-consume-node consume-node-lts.Need-add-consume-expr-5 t
 consume-node-add-consume-expr-5 t c =
-    let at-if2 = c .before .before in
-    let at-spelled = at-if2 .before in
-    let at-if1 = at-spelled .before .before in
-    let at-kind-at = at-if1 .before in
-    let start = at-kind-at .before .before .before .before .before in
-    let room = start .pre .1 .1 .1 in
-    let bare = misses _ _ _ 6 (at-kind-at .kind-at .ensures) (at-if1 .if1 .left) in
-    let is-push = sym (at-spelled .spelled .ensures) ∙ at-if2 .if2 .taken in
-    let inner = push-in _ _ _ _ _ _ _ _ room bare is-push in
-    let lent = start .pre .1 .0 in
-    let few = sizes _ _ lent .1 in
-    omega (arith, inner .0, few)
+    let k = c .before .before in
+    let s = bare-start t (k .before) in
+    omega (arith, push-in _ _ _ _ (s .pre .1 .1 .1) (bare t (k .before)) (is-push t k) .0, sizes _ _ (s .pre .1 .0) .1)
 
 consume-node-consume-expr-requires-2 : (t : ℕ) → of-consume-node consume-node-lts.Need-consume-expr-requires-2 t
 consume-node-consume-expr-requires-2 t c κs =
-    let at-if2 = c .before .before in
-    let at-spelled = at-if2 .before in
-    let at-if1 = at-spelled .before .before in
-    let at-kind-at = at-if1 .before in
-    let start = at-kind-at .before .before .before .before .before in
-    let measured = start .pre .0 in
-    let lent = start .pre .1 .0 in
-    let room = start .pre .1 .1 .1 in
-    let bare = misses _ _ _ 6 (at-kind-at .kind-at .ensures) (at-if1 .if1 .left) in
-    let is-push = sym (at-spelled .spelled .ensures) ∙ at-if2 .if2 .taken in
-    let inner = push-in _ _ _ _ _ _ _ _ room bare is-push in
-    let fewer-push = fewer (start .args .text .now) (start .args .at) (start .args .at + 1 + 1) (omega arith) (omega (arith, inner .0)) in
-    let scalars = start .pre .1 .1 .0 in
-    (omega (arith, measured, fewer-push), (lent, (scalars, push-room _ _ _ _ _ _ _ _ room bare is-push)))
+    let k = c .before .before in
+    let s = bare-start t (k .before) in
+    (omega (arith, s .pre .0, push-falls _ _ _ _ (s .pre .1 .1 .1) (bare t (k .before)) (is-push t k)), (s .pre .1 .0, (s .pre .1 .1 .0, push-room _ _ _ _ (s .pre .1 .1 .1) (bare t (k .before)) (is-push t k))))
 
 consume-node-start-at-requires : (t : ℕ) → of-consume-node consume-node-lts.Need-start-at-requires t
 consume-node-start-at-requires t c κs =
-    let start = c .before .before .before .before .before .before .before .before .before .before .before .before .before .before .before .before in
-    start .pre .1 .0
+    let k = c .before .before .before .before .before .before .before in
+    bare-start t (k .before) .pre .1 .0
 
 consume-node-put-unary-requires : (t : ℕ) → of-consume-node consume-node-lts.Need-put-unary-requires t
 consume-node-put-unary-requires t c κs =
-    let at-start-at = c .before in
-    let at-consume-expr2 = at-start-at .before .before .before .before .before in
-    let at-if2 = at-consume-expr2 .before .before .before in
-    let at-spelled = at-if2 .before in
-    let at-if1 = at-spelled .before .before in
-    let at-kind-at = at-if1 .before in
-    let start = at-kind-at .before .before .before .before .before in
-    let room = start .pre .1 .1 .1 in
-    let bare = misses _ _ _ 6 (at-kind-at .kind-at .ensures) (at-if1 .if1 .left) in
-    let is-push = sym (at-spelled .spelled .ensures) ∙ at-if2 .if2 .taken in
-    let lent = start .pre .1 .0 in
-    let a-low = start-low (start .args .text .now) (start .args .at) _ (lent .short) (at-start-at .start-at .ensures) in
-    let put = push-over _ _ _ _ _ _ _ _ room bare is-push _ _ _ (at-consume-expr2 .consume-expr2 .ensures) _ a-low in
-    put .0
+    let a = c .before in
+    let x = a .before .before .before .before .before in
+    let k = x .before .before .before in
+    let s = bare-start t (k .before) in
+    push-over _ _ _ _ (s .pre .1 .1 .1) (bare t (k .before)) (is-push t k) (x .consume-expr2 .ensures) (a .start-at .ensures) (s .pre .1 .0 .short)
 
 consume-node-add-t33 : (t : ℕ) → of-consume-node consume-node-lts.Need-add-t33 t
 consume-node-add-t33 t c =
-    let at-put-unary = c .before .before .before in
-    let at-start-at = at-put-unary .before .before in
-    let at-consume-expr2 = at-start-at .before .before .before .before .before in
-    let at-if2 = at-consume-expr2 .before .before .before in
-    let at-spelled = at-if2 .before in
-    let at-if1 = at-spelled .before .before in
-    let at-kind-at = at-if1 .before in
-    let start = at-kind-at .before .before .before .before .before in
-    let room = start .pre .1 .1 .1 in
-    let bare = misses _ _ _ 6 (at-kind-at .kind-at .ensures) (at-if1 .if1 .left) in
-    let is-push = sym (at-spelled .spelled .ensures) ∙ at-if2 .if2 .taken in
-    let lent = start .pre .1 .0 in
-    let a-low = start-low (start .args .text .now) (start .args .at) _ (lent .short) (at-start-at .start-at .ensures) in
-    let pushed = push-built _ _ _ _ _ _ _ _ room bare is-push _ _ _ (at-consume-expr2 .consume-expr2 .ensures) _ (at-start-at .start-at .ensures) a-low _ (at-put-unary .put-unary .ensures) in
-    let few = sizes _ _ lent .1 in
-    omega (arith, pushed .0, few)
+    let x = c .before .before .before .before .before .before .before .before .before .before in
+    let k = x .before .before .before in
+    let s = bare-start t (k .before) in
+    omega (arith, push-within _ _ _ _ (s .pre .1 .1 .1) (bare t (k .before)) (is-push t k) (x .consume-expr2 .ensures) .0, sizes _ _ (s .pre .1 .0) .1)
 
 consume-node-add-t34 : (t : ℕ) → of-consume-node consume-node-lts.Need-add-t34 t
 consume-node-add-t34 t c =
-    let at-start-at = c .before .before .before .before .before .before in
-    let at-consume-expr2 = at-start-at .before .before .before .before .before in
-    let at-if2 = at-consume-expr2 .before .before .before in
-    let at-spelled = at-if2 .before in
-    let at-if1 = at-spelled .before .before in
-    let at-kind-at = at-if1 .before in
-    let start = at-kind-at .before .before .before .before .before in
-    let room = start .pre .1 .1 .1 in
-    let bare = misses _ _ _ 6 (at-kind-at .kind-at .ensures) (at-if1 .if1 .left) in
-    let is-push = sym (at-spelled .spelled .ensures) ∙ at-if2 .if2 .taken in
-    let lent = start .pre .1 .0 in
-    let a-low = start-low (start .args .text .now) (start .args .at) _ (lent .short) (at-start-at .start-at .ensures) in
-    let put = push-over _ _ _ _ _ _ _ _ room bare is-push _ _ _ (at-consume-expr2 .consume-expr2 .ensures) _ a-low in
-    omega (arith, put .1)
+    let x = c .before .before .before .before .before .before .before .before .before .before .before in
+    let k = x .before .before .before in
+    let s = bare-start t (k .before) in
+    omega (arith, push-within _ _ _ _ (s .pre .1 .1 .1) (bare t (k .before)) (is-push t k) (x .consume-expr2 .ensures) .1)
 
 consume-node-returns-2 : (t : ℕ) → of-consume-node consume-node-lts.Need-returns-2 t
 consume-node-returns-2 t c =
-    let at-put-unary = c .before .before .before .before in
-    let at-start-at = at-put-unary .before .before in
-    let at-consume-expr2 = at-start-at .before .before .before .before .before in
-    let at-if2 = at-consume-expr2 .before .before .before in
-    let at-spelled = at-if2 .before in
-    let at-if1 = at-spelled .before .before in
-    let at-kind-at = at-if1 .before in
-    let start = at-kind-at .before .before .before .before .before in
-    let room = start .pre .1 .1 .1 in
-    let bare = misses _ _ _ 6 (at-kind-at .kind-at .ensures) (at-if1 .if1 .left) in
-    let is-push = sym (at-spelled .spelled .ensures) ∙ at-if2 .if2 .taken in
-    let lent = start .pre .1 .0 in
-    let a-low = start-low (start .args .text .now) (start .args .at) _ (lent .short) (at-start-at .start-at .ensures) in
-    push-built _ _ _ _ _ _ _ _ room bare is-push _ _ _ (at-consume-expr2 .consume-expr2 .ensures) _ (at-start-at .start-at .ensures) a-low _ (at-put-unary .put-unary .ensures) .1
-
-consume-node-same-length-3 : (t : ℕ) → of-consume-node consume-node-lts.Need-same-length-3 t
-consume-node-same-length-3 t c = built-long _ _ _ _ _ _ _ _ (consume-node-returns-2 t c) .0
-
-consume-node-same-length-4 : (t : ℕ) → of-consume-node consume-node-lts.Need-same-length-4 t
-consume-node-same-length-4 t c = built-long _ _ _ _ _ _ _ _ (consume-node-returns-2 t c) .1
+    let u = c .before .before .before .before in
+    let a = u .before .before in
+    let x = a .before .before .before .before .before in
+    let k = x .before .before .before in
+    let s = bare-start t (k .before) in
+    push-built _ _ _ _ (s .pre .1 .1 .1) (bare t (k .before)) (is-push t k) (x .consume-expr2 .ensures) (a .start-at .ensures) (s .pre .1 .0 .short) (u .put-unary .ensures)
 
 consume-node-put-leaf-requires : (t : ℕ) → of-consume-node consume-node-lts.Need-put-leaf-requires t
 consume-node-put-leaf-requires t c κs =
-    let at-if2 = c .before .before in
-    let at-spelled = at-if2 .before in
-    let at-if1 = at-spelled .before .before in
-    let at-kind-at = at-if1 .before in
-    let start = at-kind-at .before .before .before .before .before in
-    let lent = start .pre .1 .0 in
-    let scalars = start .pre .1 .1 .0 in
-    let room = start .pre .1 .1 .1 in
-    let bare = misses _ _ _ 6 (at-kind-at .kind-at .ensures) (at-if1 .if1 .left) in
-    let no-push = sym (at-spelled .spelled .ensures) ∙ at-if2 .if2 .left in
-    let leaf = leaf-read _ _ _ _ _ _ _ _ room bare no-push in
-    (lent, (scalars, room-same leaf room))
-
-consume-node-same-length-5 : (t : ℕ) → of-consume-node consume-node-lts.Need-same-length-5 t
-consume-node-same-length-5 t c =
-    let at-put-leaf = c .before .before .before .before in
-    built-long _ _ _ _ _ _ _ _ (at-put-leaf .put-leaf .ensures) .0
-
-consume-node-same-length-6 : (t : ℕ) → of-consume-node consume-node-lts.Need-same-length-6 t
-consume-node-same-length-6 t c =
-    let at-put-leaf = c .before .before .before .before in
-    built-long _ _ _ _ _ _ _ _ (at-put-leaf .put-leaf .ensures) .1
+    let k = c .before .before in
+    let s = bare-start t (k .before) in
+    let leaf = leaf-read _ _ _ _ (s .pre .1 .1 .1) (bare t (k .before)) (sym (k .before .spelled .ensures) ∙ k .if2 .left) in
+    (s .pre .1 .0, (s .pre .1 .1 .0, room-same leaf (s .pre .1 .1 .1)))
 
 consume-node-returns-3 : (t : ℕ) → of-consume-node consume-node-lts.Need-returns-3 t
 consume-node-returns-3 t c =
-    let at-put-leaf = c .before .before .before .before in
-    let at-if2 = at-put-leaf .before .before .before in
-    let at-spelled = at-if2 .before in
-    let at-if1 = at-spelled .before .before in
-    let at-kind-at = at-if1 .before in
-    let start = at-kind-at .before .before .before .before .before in
-    let room = start .pre .1 .1 .1 in
-    let bare = misses _ _ _ 6 (at-kind-at .kind-at .ensures) (at-if1 .if1 .left) in
-    let no-push = sym (at-spelled .spelled .ensures) ∙ at-if2 .if2 .left in
-    let leaf = leaf-read _ _ _ _ _ _ _ _ room bare no-push in
-    built-same leaf (at-put-leaf .put-leaf .ensures)
+    let p = c .before .before .before .before in
+    let k = p .before .before .before in
+    let s = bare-start t (k .before) in
+    let leaf = leaf-read _ _ _ _ (s .pre .1 .1 .1) (bare t (k .before)) (sym (k .before .spelled .ensures) ∙ k .if2 .left) in
+    built-same leaf (p .put-leaf .ensures)
+
+-- ---- `unaries`
 
 unaries-get-node-tag-requires : (t : ℕ) → of-unaries unaries-lts.Need-get-node-tag-requires t
 unaries-get-node-tag-requires t c κs =
-    let start = c .before .before .before .before .before in
-    let lent = start .pre .1 .0 in
-    let room = start .pre .1 .1 .1 in
-    (lent, tag-room _ _ _ _ _ _ _ _ room)
-
-unaries-signs-end-requires : (t : ℕ) → of-unaries unaries-lts.Need-predicates-end-requires t
-unaries-signs-end-requires t c κs = search needs
+    let s = c .before .before .before .before .before in
+    (s .pre .1 .0, tag-room _ _ _ _ (s .pre .1 .1 .1))
 
 unaries-consume-node-requires : (t : ℕ) → of-unaries unaries-lts.Need-consume-node-requires t
 unaries-consume-node-requires t c κs =
-    let at-predicates-end = c .before .before in
-    let at-get-node-tag = at-predicates-end .before .before .before in
-    let start = at-get-node-tag .before .before .before .before .before .before in
-    let measured = start .pre .0 in
-    let room = start .pre .1 .1 .1 in
-    let lent = start .pre .1 .0 in
-    let node-falls-to = node-falls _ _ _ _ _ _ _ _ room _ _ _ _ (at-get-node-tag .get-node-tag .ensures .1) (at-get-node-tag .get-node-tag .ensures .0) (at-predicates-end .predicates-end .ensures) in
-    let scalars = start .pre .1 .1 .0 in
-    (omega (arith, measured, node-falls-to), (lent, (scalars, node-room _ _ _ _ _ _ _ _ room _ _ _ _ (at-get-node-tag .get-node-tag .ensures .1) (at-get-node-tag .get-node-tag .ensures .0) (at-predicates-end .predicates-end .ensures))))
+    let e = c .before .before in
+    let g = e .before .before .before in
+    let s = g .before .before .before .before .before .before in
+    (omega (arith, s .pre .0, node-falls _ _ _ _ (s .pre .1 .1 .1) (g .get-node-tag .ensures .1) (g .get-node-tag .ensures .0) (e .predicates-end .ensures)), (s .pre .1 .0, (s .pre .1 .1 .0, node-room _ _ _ _ (s .pre .1 .1 .1) (g .get-node-tag .ensures .1) (g .get-node-tag .ensures .0) (e .predicates-end .ensures))))
 
 unaries-put-postfixes-requires : (t : ℕ) → of-unaries unaries-lts.Need-put-postfixes-requires t
 unaries-put-postfixes-requires t c κs =
-    let at-consume-node = c .before .before .before .before .before in
-    let at-predicates-end = at-consume-node .before .before .before in
-    let at-get-node-tag = at-predicates-end .before .before .before in
-    let start = at-get-node-tag .before .before .before .before .before .before in
-    let lent = start .pre .1 .0 in
-    let room = start .pre .1 .1 .1 in
-    (lent, posts-room _ _ _ _ _ _ _ _ room _ _ _ _ (at-get-node-tag .get-node-tag .ensures .1) (at-get-node-tag .get-node-tag .ensures .0) (at-predicates-end .predicates-end .ensures) _ _ _ (at-consume-node .consume-node .ensures))
+    let n = c .before .before .before .before .before in
+    let e = n .before .before .before in
+    let g = e .before .before .before in
+    let s = g .before .before .before .before .before .before in
+    (s .pre .1 .0, posts-room _ _ _ _ (s .pre .1 .1 .1) (g .get-node-tag .ensures .1) (g .get-node-tag .ensures .0) (e .predicates-end .ensures) (n .consume-node .ensures))
 
-unaries-open-at-requires : (t : ℕ) → of-unaries unaries-lts.Need-move-to-bracket-requires t
-unaries-open-at-requires t c κs =
-    let at-put-postfixes = c .before .before .before in
-    let at-consume-node = at-put-postfixes .before .before .before .before .before .before in
-    let at-predicates-end = at-consume-node .before .before .before in
-    let at-get-node-tag = at-predicates-end .before .before .before in
-    let start = at-get-node-tag .before .before .before .before .before .before in
-    let lent = start .pre .1 .0 in
-    let room = start .pre .1 .1 .1 in
-    (lent, open-room _ _ _ _ _ _ _ _ room _ _ _ _ (at-get-node-tag .get-node-tag .ensures .1) (at-get-node-tag .get-node-tag .ensures .0) (at-predicates-end .predicates-end .ensures) _ _ _ (at-consume-node .consume-node .ensures) _ _ (at-put-postfixes .put-postfixes .ensures))
+unaries-move-to-bracket-requires : (t : ℕ) → of-unaries unaries-lts.Need-move-to-bracket-requires t
+unaries-move-to-bracket-requires t c κs =
+    let x = c .before .before .before in
+    let n = x .before .before .before .before .before .before in
+    let e = n .before .before .before in
+    let g = e .before .before .before in
+    let s = g .before .before .before .before .before .before in
+    (s .pre .1 .0, open-room _ _ _ _ (s .pre .1 .1 .1) (g .get-node-tag .ensures .1) (g .get-node-tag .ensures .0) (e .predicates-end .ensures) (n .consume-node .ensures) (x .put-postfixes .ensures))
 
-unaries-put-signs-requires : (t : ℕ) → of-unaries unaries-lts.Need-put-predicates-requires t
-unaries-put-signs-requires t c κs =
-    let at-move-to-bracket = c .before .before .before in
-    let at-put-postfixes = at-move-to-bracket .before .before .before .before in
-    let at-consume-node = at-put-postfixes .before .before .before .before .before .before in
-    let at-predicates-end = at-consume-node .before .before .before in
-    let at-get-node-tag = at-predicates-end .before .before .before in
-    let start = at-get-node-tag .before .before .before .before .before .before in
-    let lent = start .pre .1 .0 in
-    let room = start .pre .1 .1 .1 in
-    (lent, signs-room _ _ _ _ _ _ _ _ room _ _ _ _ (at-get-node-tag .get-node-tag .ensures .1) (at-get-node-tag .get-node-tag .ensures .0) (at-predicates-end .predicates-end .ensures) _ _ _ (at-consume-node .consume-node .ensures) _ _ (at-put-postfixes .put-postfixes .ensures) _ (at-move-to-bracket .move-to-bracket .ensures))
+unaries-put-predicates-requires : (t : ℕ) → of-unaries unaries-lts.Need-put-predicates-requires t
+unaries-put-predicates-requires t c κs =
+    let m = c .before .before .before in
+    let x = m .before .before .before .before in
+    let n = x .before .before .before .before .before .before in
+    let e = n .before .before .before in
+    let g = e .before .before .before in
+    let s = g .before .before .before .before .before .before in
+    (s .pre .1 .0, signs-room _ _ _ _ (s .pre .1 .1 .1) (g .get-node-tag .ensures .1) (g .get-node-tag .ensures .0) (e .predicates-end .ensures) (n .consume-node .ensures) (x .put-postfixes .ensures) (m .move-to-bracket .ensures))
 
-unaries-head-at-requires : (t : ℕ) → of-unaries unaries-lts.Need-term-start-requires t
-unaries-head-at-requires t c κs =
-    let start = c .before .before .before .before .before .before .before .before .before .before .before .before .before .before .before .before .before .before .before .before .before .before .before .before .before .before .before .before in
-    start .pre .1 .0
+unaries-term-start-requires : (t : ℕ) → of-unaries unaries-lts.Need-term-start-requires t
+unaries-term-start-requires t c κs =
+    let n = c .before .before .before .before .before .before .before .before .before .before .before .before .before .before .before .before in
+    n .before .before .before .before .before .before .before .before .before .before .before .before .pre .1 .0
 
 unaries-put-tag-requires : (t : ℕ) → of-unaries unaries-lts.Need-put-tag-requires t
 unaries-put-tag-requires t c κs =
-    let at-term-start = c .before in
-    let at-put-predicates = at-term-start .before .before .before in
-    let at-move-to-bracket = at-put-predicates .before .before .before .before in
-    let at-put-postfixes = at-move-to-bracket .before .before .before .before in
-    let at-consume-node = at-put-postfixes .before .before .before .before .before .before in
-    let at-predicates-end = at-consume-node .before .before .before in
-    let at-get-node-tag = at-predicates-end .before .before .before in
-    let start = at-get-node-tag .before .before .before .before .before .before in
-    let lent = start .pre .1 .0 in
-    let room = start .pre .1 .1 .1 in
-    (lent, tie-room _ _ _ _ _ _ _ _ room _ _ _ _ (at-get-node-tag .get-node-tag .ensures .1) (at-get-node-tag .get-node-tag .ensures .0) (at-predicates-end .predicates-end .ensures) _ _ _ (at-consume-node .consume-node .ensures) _ _ (at-put-postfixes .put-postfixes .ensures) _ (at-move-to-bracket .move-to-bracket .ensures) _ _ (at-put-predicates .put-predicates .ensures .0) (at-put-predicates .put-predicates .ensures .1) _ (at-term-start .term-start .ensures) (lent .short))
+    let h = c .before in
+    let p = h .before .before .before in
+    let m = p .before .before .before .before in
+    let x = m .before .before .before .before in
+    let n = x .before .before .before .before .before .before in
+    let e = n .before .before .before in
+    let g = e .before .before .before in
+    let s = g .before .before .before .before .before .before in (
+      s .pre .1 .0,
+      tie-room _ _ _ _ (s .pre .1 .1 .1) (g .get-node-tag .ensures .1) (g .get-node-tag .ensures .0) (e .predicates-end .ensures) (n .consume-node .ensures) (x .put-postfixes .ensures) (m .move-to-bracket .ensures)
+          (p .put-predicates .ensures .0) (p .put-predicates .ensures .1) (h .term-start .ensures) (s .pre .1 .0 .short),
+    )
 
 unaries-returns : (t : ℕ) → of-unaries unaries-lts.Need-returns t
 unaries-returns t c =
-    let at-put-tag = c .before .before in
-    let at-term-start = at-put-tag .before .before in
-    let at-put-predicates = at-term-start .before .before .before in
-    let at-move-to-bracket = at-put-predicates .before .before .before .before in
-    let at-put-postfixes = at-move-to-bracket .before .before .before .before in
-    let at-consume-node = at-put-postfixes .before .before .before .before .before .before in
-    let at-predicates-end = at-consume-node .before .before .before in
-    let at-get-node-tag = at-predicates-end .before .before .before in
-    let start = at-get-node-tag .before .before .before .before .before .before in
-    let room = start .pre .1 .1 .1 in
-    let lent = start .pre .1 .0 in
-    term-built _ _ _ _ _ _ _ _ room _ _ _ _ (at-get-node-tag .get-node-tag .ensures .1) (at-get-node-tag .get-node-tag .ensures .0) (at-predicates-end .predicates-end .ensures) _ _ _ (at-consume-node .consume-node .ensures) _ _ (at-put-postfixes .put-postfixes .ensures) _ (at-move-to-bracket .move-to-bracket .ensures) _ _ (at-put-predicates .put-predicates .ensures .0) (at-put-predicates .put-predicates .ensures .1) _ (at-term-start .term-start .ensures) (lent .short) _ _ (at-put-tag .put-tag .ensures)
-
-unaries-same-length : (t : ℕ) → of-unaries unaries-lts.Need-same-length t
-unaries-same-length t c = built-long _ _ _ _ _ _ _ _ (unaries-returns t c) .0
-
-unaries-same-length-2 : (t : ℕ) → of-unaries unaries-lts.Need-same-length-2 t
-unaries-same-length-2 t c = built-long _ _ _ _ _ _ _ _ (unaries-returns t c) .1
+    let tie = c .before .before in
+    let h = tie .before .before in
+    let p = h .before .before .before in
+    let m = p .before .before .before .before in
+    let x = m .before .before .before .before in
+    let n = x .before .before .before .before .before .before in
+    let e = n .before .before .before in
+    let g = e .before .before .before in
+    let s = g .before .before .before .before .before .before in
+    term-built _ _ _ _ (s .pre .1 .1 .1) (g .get-node-tag .ensures .1) (g .get-node-tag .ensures .0) (e .predicates-end .ensures) (n .consume-node .ensures) (x .put-postfixes .ensures) (m .move-to-bracket .ensures)
+    (p .put-predicates .ensures .0) (p .put-predicates .ensures .1) (h .term-start .ensures) (s .pre .1 .0 .short) (tie .put-tag .ensures)
 
 pub +consume-expr+consume-node+unaries-spec : {M : Type 1} → statement M
 +consume-expr+consume-node+unaries-spec =
-    close μ-consume-expr μ-consume-node μ-unaries (λ t. consume-expr-lts.spec (
-      unaries-below t,
-      unaries.Post,
-      kind-at-reads.Asked,
-      kind-at-reads.Learnt,
-      put-join-reads.Asked,
-      put-join-reads.Learnt,
-      put-choice-reads.Asked,
-      put-choice-reads.Learnt,
-    )
+    close μ-consume-expr μ-consume-node μ-unaries (λ t. consume-expr-lts.spec (expr-claims t)
     (consume-expr-at t)
     consume-expr.Post
     consume-expr-Inv-loop
     consume-expr-μ-loop
     (consume-expr-unaries-requires t)
-    (consume-expr-loop-holds t)
-    (consume-expr-kind-at-requires t)
+    (λ c table store g d. build-start _ _ _ _ g d)
+    (λ c κs. search needs)
     (consume-expr-add-unaries t)
     (consume-expr-unaries-requires-2 t)
     (consume-expr-sub-put-join t)
@@ -735,46 +521,29 @@ pub +consume-expr+consume-node+unaries-spec : {M : Type 1} → statement M
     (consume-expr-loop-less t)
     (consume-expr-loop-again t)
     (consume-expr-put-choice-requires t)
-    (consume-expr-same-length t)
-    (consume-expr-same-length-2 t)
+    (λ c. built-long (consume-expr-returns t c) .0)
+    (λ c. built-long (consume-expr-returns t c) .1)
     (consume-expr-returns t)
     (consume-expr-sub-left t)
     (consume-expr-add-unaries-2 t)
     (consume-expr-unaries-requires-3 t)
     (consume-expr-loop-less-2 t)
     (consume-expr-loop-again-2 t))
-    (λ t. consume-node-lts.spec (
-      kind-at-reads.Asked,
-      kind-at-reads.Learnt,
-      consume-expr-below t,
-      consume-expr.Post,
-      end-at-reads.Asked,
-      end-at-reads.Learnt,
-      move-end-reads.Asked,
-      move-end-reads.Learnt,
-      spelled-reads.Asked,
-      spelled-reads.Learnt,
-      start-at-reads.Asked,
-      start-at-reads.Learnt,
-      put-unary-reads.Asked,
-      put-unary-reads.Learnt,
-      put-leaf-reads.Asked,
-      put-leaf-reads.Learnt,
-    )
+    (λ t. consume-node-lts.spec (node-claims t)
     (consume-node-at t)
     consume-node.Post
-    (consume-node-kind-at-requires t)
+    (λ c κs. search needs)
     (consume-node-add-consume-expr t)
     (consume-node-add-consume-expr-2 t)
     (consume-node-consume-expr-requires t)
-    (consume-node-end-at-requires t)
+    (λ c κs. search needs)
     (consume-node-move-end-requires t)
     (consume-node-add-t21 t)
-    (consume-node-same-length t)
-    (consume-node-same-length-2 t)
+    (λ c. built-long (consume-node-returns t c) .0)
+    (λ c. built-long (consume-node-returns t c) .1)
     (consume-node-returns t)
-    (consume-node-slice-aggregate-spelled t)
-    (consume-node-spelled-requires t)
+    (λ c. search needs)
+    (λ c κs. search needs)
     (consume-node-add-consume-expr-3 t)
     (consume-node-add-consume-expr-4 t)
     (consume-node-add-consume-expr-5 t)
@@ -783,41 +552,24 @@ pub +consume-expr+consume-node+unaries-spec : {M : Type 1} → statement M
     (consume-node-put-unary-requires t)
     (consume-node-add-t33 t)
     (consume-node-add-t34 t)
-    (consume-node-same-length-3 t)
-    (consume-node-same-length-4 t)
+    (λ c. built-long (consume-node-returns-2 t c) .0)
+    (λ c. built-long (consume-node-returns-2 t c) .1)
     (consume-node-returns-2 t)
     (consume-node-put-leaf-requires t)
-    (consume-node-same-length-5 t)
-    (consume-node-same-length-6 t)
+    (λ c. built-long (consume-node-returns-3 t c) .0)
+    (λ c. built-long (consume-node-returns-3 t c) .1)
     (consume-node-returns-3 t))
-    λ t. unaries-lts.spec (
-      get-node-tag-reads.Asked,
-      get-node-tag-reads.Learnt,
-      predicates-end-reads.Asked,
-      predicates-end-reads.Learnt,
-      consume-node-below t,
-      consume-node.Post,
-      put-postfixes-reads.Asked,
-      put-postfixes-reads.Learnt,
-      move-to-bracket-reads.Asked,
-      move-to-bracket-reads.Learnt,
-      put-predicates-reads.Asked,
-      put-predicates-reads.Learnt,
-      term-start-reads.Asked,
-      term-start-reads.Learnt,
-      put-tag-reads.Asked,
-      put-tag-reads.Learnt,
-    )
+    λ t. unaries-lts.spec (term-claims t)
     (unaries-at t)
     unaries.Post
     (unaries-get-node-tag-requires t)
-    (unaries-signs-end-requires t)
+    (λ c κs. search needs)
     (unaries-consume-node-requires t)
     (unaries-put-postfixes-requires t)
-    (unaries-open-at-requires t)
-    (unaries-put-signs-requires t)
-    (unaries-head-at-requires t)
+    (unaries-move-to-bracket-requires t)
+    (unaries-put-predicates-requires t)
+    (unaries-term-start-requires t)
     (unaries-put-tag-requires t)
-    (unaries-same-length t)
-    (unaries-same-length-2 t)
+    (λ c. built-long (unaries-returns t c) .0)
+    (λ c. built-long (unaries-returns t c) .1)
     (unaries-returns t)
