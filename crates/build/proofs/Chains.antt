@@ -145,6 +145,7 @@ chosen-more false n = omega arith
 -- ---- the loop
 
 pub record BuildInv (level : Level) (s : List ℕ) (o at used free : ℕ) (table store : List ℕ) (i u f a b z : ℕ) (chosen : Bool) (left : ℕ) (tbl st : List ℕ) : Type 0 where
+  pub room : TreeRoom (Run level s (expr o at)) table store used free
   pub c : Option (Tree Span)
   pub l : Tree Span
   pub meaning : Run level s (expr o at) ≡ Run level s (chain o c l i)
@@ -189,6 +190,7 @@ module _ (level : Level) (s : List ℕ) (o at : ℕ) {used free : ℕ} {table st
       let e₁ = d .used-is in
       let e₂ = d .free-is in
       record {
+        room = g;
         c = none;
         l = d .tree;
         meaning = expr-law level s o at ∙ next-good _ _ (d .read);
@@ -205,16 +207,16 @@ module _ (level : Level) (s : List ℕ) (o at : ℕ) {used free : ℕ} {table st
         held = d .laid;
       }
 
-module _ {level : Level} {s : List ℕ} {o at used free : ℕ} {table store : List ℕ} (g : TreeRoom (Run level s (expr o at)) table store used free)
-    {i u f a b z : ℕ} {chosen : Bool} {left : ℕ} {tbl st : List ℕ} (v : BuildInv level s o at used free table store i u f a b z chosen left tbl st) where
+module _ {level : Level} {s : List ℕ} {o at used free : ℕ} {table store : List ℕ} {i u f a b z : ℕ} {chosen : Bool} {left : ℕ} {tbl st : List ℕ}
+    (v : BuildInv level s o at used free table store i u f a b z chosen left tbl st) where
   abbrev pub whole : Tree Span
   whole = closed (v .c) (v .l)
 
   pub same-long : (length tbl ≡ length table) × (length st ≡ length store)
   same-long = held-long (v .c) (v .l) table store used free tbl st (v .held)
 
-  fits : (count whole ≤ count (g .tree)) × (size whole ≤ size (g .tree))
-  fits = let q = went level s (chain o (v .c) (v .l) i) (g .tree) (g .end) (sym (v .meaning) ∙ g .read) in (q .more, q .large)
+  fits : (count whole ≤ count (v .room .tree)) × (size whole ≤ size (v .room .tree))
+  fits = let q = went level s (chain o (v .c) (v .l) i) (v .room .tree) (v .room .end) (sym (v .meaning) ∙ v .room .read) in (q .more, q .large)
 
   pub choice-room : ChoiceRoom tbl chosen left u a z
   choice-room =
@@ -222,8 +224,8 @@ module _ {level : Level} {s : List ℕ} {o at used free : ℕ} {table store : Li
       let p = fits in
       let l = same-long in
       let x = v .used-is in
-      let h₁ = g .room in
-      let h₂ = g .few in
+      let h₁ = v .room .room in
+      let h₂ = v .room .few in
       let m = chosen-more chosen u in
       record { room = omega arith; few = omega arith; child = v .low; from = v .short .0; to = v .short .2; after = omega arith }
 
@@ -260,7 +262,7 @@ module _ {level : Level} {s : List ℕ} {o at used free : ℕ} {table store : Li
       bar-inside =
           let e = whole-used in
           let p = fits in
-          let h = g .few in
+          let h = v .room .few in
           (inside-is s i 11 (omega arith) n₂, omega arith, omega arith)
 
       pub bar-falls : unread s (i + 1) < unread s at
@@ -268,8 +270,8 @@ module _ {level : Level} {s : List ℕ} {o at used free : ℕ} {table store : Li
 
       pub bar-room : TreeRoom (Run level s (term o (i + 1))) tbl′ st u′ f
       bar-room =
-          let (t, n, e₁, e₂) = next-got _ _ (sym bar-means ∙ g .read) in
-          let q = went level s (chain o (some whole) t n) (g .tree) (g .end) e₂ in
+          let (t, n, e₁, e₂) = next-got _ _ (sym bar-means ∙ v .room .read) in
+          let q = went level s (chain o (some whole) t n) (v .room .tree) (v .room .end) e₂ in
           let m = q .more in
           let k = q .large in
           let c₁ = count-more (v .c) (v .l) t in
@@ -277,10 +279,10 @@ module _ {level : Level} {s : List ℕ} {o at used free : ℕ} {table store : Li
           let e = whole-used in
           let e₃ = whole-free in
           let l = laid-long whole table store used free tbl′ st whole-laid in
-          let h₁ = g .room in
-          let h₂ = g .few in
-          let h₃ = g .fits in
-          let h₄ = g .low in
+          let h₁ = v .room .room in
+          let h₂ = v .room .few in
+          let h₃ = v .room .fits in
+          let h₄ = v .room .low in
           record { tree = t; end = n; read = e₁; room = omega arith; few = omega arith; fits = omega arith; low = omega arith }
 
       pub bar-more : {r : Placed} {tbl₂ st₂ : List ℕ} → Built (Run level s (term o (i + 1))) tbl′ st u′ f r tbl₂ st₂
@@ -297,6 +299,7 @@ module _ {level : Level} {s : List ℕ} {o at used free : ℕ} {table store : Li
           let y₁ = v .past in (
             omega arith,
             record {
+              room = v .room;
               c = some whole;
               l = d .tree;
               meaning = bar-means ∙ next-good _ _ (d .read);
@@ -325,10 +328,10 @@ module _ {level : Level} {s : List ℕ} {o at used free : ℕ} {table store : Li
     pub seq-falls : unread s (i + 1) < unread s at
     seq-falls = fewer s at (i + 1) (omega (arith, v .past)) (omega (arith, seq-inside))
 
-    seq-shape : (t : Tree Span) × (n : ℕ) × (Run level s (term o (i + 1)) ≡ got t n) × (u + count t + 1 ≤ used + count (g .tree)) × (f + size t ≤ free + size (g .tree))
+    seq-shape : (t : Tree Span) × (n : ℕ) × (Run level s (term o (i + 1)) ≡ got t n) × (u + count t + 1 ≤ used + count (v .room .tree)) × (f + size t ≤ free + size (v .room .tree))
     seq-shape =
-        let (t, n, e₁, e₂) = next-got _ _ (sym seq-means ∙ g .read) in
-        let q = went level s (chain o (v .c) (join Seq (v .l) t) n) (g .tree) (g .end) e₂ in
+        let (t, n, e₁, e₂) = next-got _ _ (sym seq-means ∙ v .room .read) in
+        let q = went level s (chain o (v .c) (join Seq (v .l) t) n) (v .room .tree) (v .room .end) e₂ in
         let m = q .more in
         let k = q .large in
         let c₁ = count-closed (v .c) (v .l) t in
@@ -342,10 +345,10 @@ module _ {level : Level} {s : List ℕ} {o at used free : ℕ} {table store : Li
     seq-room =
         let (t, n, e₁, h₁, h₂) = seq-shape in
         let x = same-long in
-        let h = g .room in
-        let j = g .few in
-        let k = g .fits in
-        let m = g .low in
+        let h = v .room .room in
+        let j = v .room .few in
+        let k = v .room .fits in
+        let m = v .room .low in
         record { tree = t; end = n; read = e₁; room = omega arith; few = omega arith; fits = omega arith; low = omega arith }
 
     module _ {r : Placed} {tbl₁ st₁ : List ℕ} (d : Built (Run level s (term o (i + 1))) tbl st u f r tbl₁ st₁) where
@@ -356,8 +359,8 @@ module _ {level : Level} {s : List ℕ} {o at used free : ℕ} {table store : Li
           let c = ap (count {P = Span}) y in
           let x = same-long in
           let x₁ = laid-long (d .tree) tbl st u f tbl₁ st₁ (d .laid) in
-          let h = g .room in
-          let j = g .few in
+          let h = v .room .room in
+          let j = v .room .few in
           let m = d .used-is in
           let q = v .used-is in
           (record { room = omega arith; from = v .short .1; to = d .short .1; few = omega arith; after = omega arith }, omega arith, omega arith, omega arith)
@@ -379,6 +382,7 @@ module _ {level : Level} {s : List ℕ} {o at used free : ℕ} {table store : Li
           let c₂ = size-join Seq (v .l) (d .tree) in (
             omega arith,
             record {
+              room = v .room;
               c = v .c;
               l = join Seq (v .l) (d .tree);
               meaning = seq-means ∙ next-good _ _ (d .read);
