@@ -1,5 +1,5 @@
 -- The steps of an expression's loop: the choices so far and the last sequence, in the buffers.
-use Prim.Native.Nat.{ℕ, _+_, _-_, _≤_, _<_}
+use Prim.Native.Nat.{ℕ, _+_, _-_, _*_, _≤_, _<_}
 use mathlib.Core.Path.{_≡_, refl, sym, ap, _∙_}
 use mathlib.Core.Bool.{Bool, true, false}
 use mathlib.Core.List.{List}
@@ -12,6 +12,7 @@ use Rattle.token.specs.Table.{toks, is}
 use Rattle.table.specs.declared.Join.the-variants.{Seq, Choice}
 use Rattle.table.specs.declared.Node.the-variants.{Two}
 use Rattle.table.specs.Tree.{Span, Tree, below, count, size, stored, placeOf}
+use Rattle.table.specs.Record.{nodeSize}
 use Rattle.table.specs.Flat.{recordOf, flat}
 use Rattle.structure.specs.declared.Level.{Level}
 use Rattle.structure.specs.Answers.{unread}
@@ -229,12 +230,12 @@ module _ {level : Level} {s : List ℕ} {o at used free : ℕ} {table store : Li
       let m = chosen-more chosen u in
       record { room = omega arith; few = omega arith; child = v .low; from = v .short .0; to = v .short .2; after = omega arith }
 
-  module _ {u′ : ℕ} {tbl′ : List ℕ} (q₁ : u′ ≡ chosenEnd chosen u) (q₂ : tbl′ ≡ written tbl u (chosenOf chosen left u a z)) where
+  module _ {u′ : ℕ} {tbl′ : List ℕ} (q : (u′ ≡ chosenEnd chosen u) × (tbl′ ≡ written tbl u (chosenOf chosen left u a z))) where
     whole-laid : Laid whole table store used free tbl′ st
-    whole-laid = closed-laid (v .c) (v .l) table store used free tbl st tbl′ chosen left u a z (v .held) (v .marked) (v .used-is) (v .head-is) (v .to-is) q₂
+    whole-laid = closed-laid (v .c) (v .l) table store used free tbl st tbl′ chosen left u a z (v .held) (v .marked) (v .used-is) (v .head-is) (v .to-is) (q .1)
 
     whole-used : u′ ≡ used + count whole
-    whole-used = q₁ ∙ closed-count (v .c) (v .l) chosen left used u (v .marked) (v .used-is)
+    whole-used = q .0 ∙ closed-count (v .c) (v .l) chosen left used u (v .marked) (v .used-is)
 
     whole-free : f ≡ free + size whole
     whole-free = closed-size (v .c) (v .l) free f (v .free-is)
@@ -352,8 +353,8 @@ module _ {level : Level} {s : List ℕ} {o at used free : ℕ} {table store : Li
         record { tree = t; end = n; read = e₁; room = omega arith; few = omega arith; fits = omega arith; low = omega arith }
 
     module _ {r : Placed} {tbl₁ st₁ : List ℕ} (d : Built (Run level s (term o (i + 1))) tbl st u f r tbl₁ st₁) where
-      pub seq-over : Over tbl₁ (r .used) b (r .to) × (u ≤ most) × (0 < u) × (r .used < most)
-      seq-over =
+      pub seq-fits : (u ≤ most) × (0 < u) × (r .used < most) × (nodeSize * (r .used + 1) ≤ length tbl₁)
+      seq-fits =
           let (t, n, e₁, h₁, h₂) = seq-shape in
           let y : t ≡ d .tree = cc (e₁, d .read) in
           let c = ap (count {P = Span}) y in
@@ -363,7 +364,13 @@ module _ {level : Level} {s : List ℕ} {o at used free : ℕ} {table store : Li
           let j = v .room .few in
           let m = d .used-is in
           let q = v .used-is in
-          (record { room = omega arith; from = v .short .1; to = d .short .1; few = omega arith; after = omega arith }, omega arith, omega arith, omega arith)
+          (omega arith, omega arith, omega arith, omega arith)
+
+      pub seq-over : Over tbl₁ (r .used) b (r .to) × (u - 1 ≤ most)
+      seq-over =
+          let f = seq-fits in
+          let m = d .used-is in
+          (record { room = omega arith; from = v .short .1; to = d .short .1; few = omega arith; after = omega arith }, omega arith)
 
       pub seq-more : {tbl₂ : List ℕ} → tbl₂ ≡ written tbl₁ (r .used) (recordOf (spanned b (r .to)) (Two Seq (u - 1) (r .used - 1)))
           → (i < r .next) × BuildInv level s o at used free table store (r .next) (r .used + 1) (r .free) a b (r .to) chosen left tbl₂ st₁

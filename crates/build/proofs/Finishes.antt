@@ -249,7 +249,7 @@ module _ {level : Level} {s : List ℕ} {o at used free : ℕ} {table store stor
             let l = q .long in
             record { from = head .signs .from; room = omega arith; few = omega arith; to = p .stop; after = omega arith }
 
-        module _ {u : ℕ} {tbl₃ : List ℕ} (y : u ≡ tail .used + (first - from)) (z : SignsPut s from first (tail .to) (tail .used) tbl₂ tbl₃) {a : ℕ} (b : a ≡ termStart s from first (r .from)) where
+        module _ {u : ℕ} {tbl₃ : List ℕ} (z : (u ≡ tail .used + (first - from)) × SignsPut s from first (tail .to) (tail .used) tbl₂ tbl₃) {a : ℕ} (b : a ≡ termStart s from first (r .from)) where
           abbrev rest : Placed
           rest = record { next = tail .next; used = u; free = r .free; from = a; to = tail .to }
 
@@ -260,6 +260,7 @@ module _ {level : Level} {s : List ℕ} {o at used free : ℕ} {table store stor
               let k = tail-room in
               let c = grown-finished x in
               let i = d .free-is in
+              let y = z .0 in
               let j = ap length (h .kept) in
               let x₁ = bracketed s first x in
               let f = grown-bracket x (start s first) (is s first 6) .counts in
@@ -274,7 +275,7 @@ module _ {level : Level} {s : List ℕ} {o at used free : ℕ} {table store stor
                 to-is = e₁ ∙ sym (stop-signs s from (first - from) x₁);
                 short = (omega arith, p .stop);
                 laid = record {
-                  holds = z .same table x₁ used mid (omega arith) (sym e₁) (q .same table x used mid (omega arith) (h .holds table used mid (d .used-is) (d .laid .holds)));
+                  holds = z .1 .same table x₁ used mid (omega arith) (sym e₁) (q .same table x used mid (omega arith) (h .holds table used mid (d .used-is) (d .laid .holds)));
                   keeps = d .laid .keeps ∙ ap (sets store₁ mid) (sym (stored-signs s from (first - from) x₁ ∙ stored-bracket x (start s first) (is s first 6) ∙ h .kept));
                 };
               }
@@ -283,7 +284,8 @@ module _ {level : Level} {s : List ℕ} {o at used free : ℕ} {table store stor
           tie-room =
               let h = tail-room in
               let l₁ = q .long in
-              let l₂ = z .long in
+              let l₂ = z .1 .long in
+              let y = z .0 in
               let (_, _, _, _, i) = signed-shape level s o at (head .room) in
               let j = head .room .low in
               let k = head .tag .next in

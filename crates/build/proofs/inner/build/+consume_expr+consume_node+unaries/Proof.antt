@@ -2,7 +2,8 @@
 -- The loop keeps `LoopInv`: the choices so far and the last sequence lie in the buffers, and reading on from them at token i gives the whole. Tokens left fall.
 use Rattle.build.proofs.Finishes.{Headed, built-long, tag-room, node-falls, node-room, posts-room, open-room, signs-room, tie-room, term-built}
 use Rattle.build.proofs.Nodes.{Grouped, Pushed, group-in, group-falls, group-deep, group-room, group-last, group-within, group-built, push-in, push-falls, push-room, push-within, push-over, push-built, leaf-read}
-use Rattle.build.proofs.Chains.{LoopInv, BuildInv, first-room, build-start, choice-room, build-done, bar-inside, bar-falls, bar-room, bar-more, seq-inside, seq-falls, seq-room, seq-over, seq-more}
+use Rattle.build.proofs.Chains.{LoopInv, BuildInv, first-room, build-start, choice-room, build-done, bar-inside, bar-falls, bar-room, bar-more, seq-inside, seq-falls, seq-room, seq-fits, seq-over, seq-more}
+use Rattle.records.specs.Records.{most}
 use Rattle.build.proofs.Leaves.{room-same, built-same}
 use Rattle.structure.proofs.Steps.{sees, misses}
 use Rattle.structure.specs.Answers.{unread}
@@ -119,6 +120,12 @@ module _ (t : ℕ) (c : of-consume-expr consume-expr-lts.At-loop t) where
 tilde : (t : ℕ) (c : of-consume-expr consume-expr-lts.Then1 t) → Table.is (expr-start t (c .before .before) .args .text .now) (c .before .before .loop .i) 10 ≡ true
 tilde t c = sees _ _ _ 10 (c .before .kind-at .ensures) (c .if1 .taken)
 
+joins : (t : ℕ) (c : of-consume-expr consume-expr-lts.After-unaries2 t) → let u = c .before .before .before .before .before .loop .u in (0 < u) × (c .unaries2 .result .used < most)
+joins t c =
+    let k = c .before .before .before in
+    let f = seq-fits (kept t (k .before .before)) (tilde t k) (c .unaries2 .ensures) in
+    (f .1, f .2)
+
 -- no `~`; then a `|` or the end
 no-tilde : (t : ℕ) (c : of-consume-expr consume-expr-lts.Else1 t) → Table.is (expr-start t (c .before .before) .args .text .now) (c .before .before .loop .i) 10 ≡ false
 no-tilde t c = misses _ _ _ 10 (c .before .kind-at .ensures) (c .if1 .left)
@@ -144,26 +151,11 @@ consume-expr-unaries-requires-2 t c κs =
     let s = expr-start t l in
     (omega (arith, s .pre .0, seq-falls (kept t l) (tilde t k)), (s .pre .1 .0, (s .pre .1 .1 .0, seq-room (kept t l) (tilde t k))))
 
-consume-expr-sub-put-join : (t : ℕ) → of-consume-expr consume-expr-lts.Need-sub-put-join t
-consume-expr-sub-put-join t c =
-    let u = c .before .before .before .before .before in
-    let k = u .before .before .before in
-    let over = seq-over (kept t (k .before .before)) (tilde t k) (u .unaries2 .ensures) in
-    omega (arith, over .2)
-
 consume-expr-put-join-requires : (t : ℕ) → of-consume-expr consume-expr-lts.Need-put-join-requires t
 consume-expr-put-join-requires t c κs =
     let u = c .before .before .before .before .before in
     let k = u .before .before .before in
-    let over = seq-over (kept t (k .before .before)) (tilde t k) (u .unaries2 .ensures) in
-    (over .0, omega (arith, over .1))
-
-consume-expr-add-u : (t : ℕ) → of-consume-expr consume-expr-lts.Need-add-u t
-consume-expr-add-u t c =
-    let u = c .before .before .before .before .before .before .before .before .before in
-    let k = u .before .before .before in
-    let over = seq-over (kept t (k .before .before)) (tilde t k) (u .unaries2 .ensures) in
-    omega (arith, over .3)
+    seq-over (kept t (k .before .before)) (tilde t k) (u .unaries2 .ensures)
 
 consume-expr-loop-less : (t : ℕ) → of-consume-expr consume-expr-lts.Need-loop-less t
 consume-expr-loop-less t c =
@@ -185,20 +177,20 @@ consume-expr-returns t c =
     let p = c .before .before .before in
     let k = p .before .before in
     let no-bar = misses _ _ _ 11 (k .before .kind-at .ensures) (c .if2 .taken) in
-    build-done (kept t (k .before .before)) (p .put-choice .ensures .0) (p .put-choice .ensures .1) (no-tilde t k) no-bar
+    build-done (kept t (k .before .before)) (p .put-choice .ensures) (no-tilde t k) no-bar
 
 consume-expr-sub-left : (t : ℕ) → of-consume-expr consume-expr-lts.Need-sub-left t
 consume-expr-sub-left t c =
     let p = c .before .before .before in
     let l = p .before .before .before .before in
-    omega (arith, bar-inside (kept t l) (p .put-choice .ensures .0) (p .put-choice .ensures .1) (no-tilde t (p .before .before)) (bar t c) .1)
+    omega (arith, bar-inside (kept t l) (p .put-choice .ensures) (no-tilde t (p .before .before)) (bar t c) .1)
 
 consume-expr-add-unaries-2 : (t : ℕ) → of-consume-expr consume-expr-lts.Need-add-unaries-2 t
 consume-expr-add-unaries-2 t c =
     let k = c .before .before in
     let p = k .before .before .before in
     let l = p .before .before .before .before in
-    omega (arith, bar-inside (kept t l) (p .put-choice .ensures .0) (p .put-choice .ensures .1) (no-tilde t (p .before .before)) (bar t k) .0, expr-few t l)
+    omega (arith, bar-inside (kept t l) (p .put-choice .ensures) (no-tilde t (p .before .before)) (bar t k) .0, expr-few t l)
 
 consume-expr-unaries-requires-3 : (t : ℕ) → of-consume-expr consume-expr-lts.Need-unaries-requires-3 t
 consume-expr-unaries-requires-3 t c κs =
@@ -206,8 +198,8 @@ consume-expr-unaries-requires-3 t c κs =
     let p = k .before .before .before in
     let l = p .before .before .before .before in
     let s = expr-start t l in
-    let less = bar-falls (kept t l) (p .put-choice .ensures .0) (p .put-choice .ensures .1) (no-tilde t (p .before .before)) (bar t k) in
-    (omega (arith, s .pre .0, less), (s .pre .1 .0, (s .pre .1 .1 .0, bar-room (kept t l) (p .put-choice .ensures .0) (p .put-choice .ensures .1) (no-tilde t (p .before .before)) (bar t k))))
+    let less = bar-falls (kept t l) (p .put-choice .ensures) (no-tilde t (p .before .before)) (bar t k) in
+    (omega (arith, s .pre .0, less), (s .pre .1 .0, (s .pre .1 .1 .0, bar-room (kept t l) (p .put-choice .ensures) (no-tilde t (p .before .before)) (bar t k))))
 
 consume-expr-loop-less-2 : (t : ℕ) → of-consume-expr consume-expr-lts.Need-loop-less-2 t
 consume-expr-loop-less-2 t c =
@@ -215,7 +207,7 @@ consume-expr-loop-less-2 t c =
     let k = u .before .before .before in
     let p = k .before .before .before in
     let l = p .before .before .before .before in
-    let again = bar-more (kept t l) (p .put-choice .ensures .0) (p .put-choice .ensures .1) (no-tilde t (p .before .before)) (bar t k) (u .unaries3 .ensures) in
+    let again = bar-more (kept t l) (p .put-choice .ensures) (no-tilde t (p .before .before)) (bar t k) (u .unaries3 .ensures) in
     omega (arith, again .0, again .1 .within)
 
 consume-expr-loop-again-2 : (t : ℕ) → of-consume-expr consume-expr-lts.Need-loop-again-2 t
@@ -224,7 +216,7 @@ consume-expr-loop-again-2 t c =
     let k = u .before .before .before in
     let p = k .before .before .before in
     let l = p .before .before .before .before in
-    λ table store g d. bar-more (l .loop .inv table store g d) (p .put-choice .ensures .0) (p .put-choice .ensures .1) (no-tilde t (p .before .before)) (bar t k) (u .unaries3 .ensures) .1
+    λ table store g d. bar-more (l .loop .inv table store g d) (p .put-choice .ensures) (no-tilde t (p .before .before)) (bar t k) (u .unaries3 .ensures) .1
 
 -- ---- `consume_node`
 
@@ -380,7 +372,7 @@ unaries-put-tag-requires t c κs =
     let x = m .before .before .before .before in
     let n = x .before .before .before .before .before .before in
     let e = n .before .before .before in
-    (term-start t e .pre .1 .0, tie-room (headed t e) (n .consume-node .ensures) (x .put-postfixes .ensures) (m .move-to-bracket .ensures) (p .put-predicates .ensures .0) (p .put-predicates .ensures .1) (h .term-start .ensures))
+    (term-start t e .pre .1 .0, tie-room (headed t e) (n .consume-node .ensures) (x .put-postfixes .ensures) (m .move-to-bracket .ensures) (p .put-predicates .ensures) (h .term-start .ensures))
 
 unaries-returns : (t : ℕ) → of-unaries unaries-lts.Need-returns t
 unaries-returns t c =
@@ -391,7 +383,7 @@ unaries-returns t c =
     let x = m .before .before .before .before in
     let n = x .before .before .before .before .before .before in
     let e = n .before .before .before in
-    term-built (headed t e) (n .consume-node .ensures) (x .put-postfixes .ensures) (m .move-to-bracket .ensures) (p .put-predicates .ensures .0) (p .put-predicates .ensures .1) (h .term-start .ensures) (tie .put-tag .ensures)
+    term-built (headed t e) (n .consume-node .ensures) (x .put-postfixes .ensures) (m .move-to-bracket .ensures) (p .put-predicates .ensures) (h .term-start .ensures) (tie .put-tag .ensures)
 
 pub +consume-expr+consume-node+unaries-spec : {M : Type 1} → statement M
 +consume-expr+consume-node+unaries-spec =
@@ -405,9 +397,9 @@ pub +consume-expr+consume-node+unaries-spec : {M : Type 1} → statement M
     (λ c κs. search needs)
     (consume-expr-add-unaries t)
     (consume-expr-unaries-requires-2 t)
-    (consume-expr-sub-put-join t)
+    (λ c. omega (arith, joins t (c .before .before .before .before .before) .0))
     (consume-expr-put-join-requires t)
-    (consume-expr-add-u t)
+    (λ c. omega (arith, joins t (c .before .before .before .before .before .before .before .before .before) .1))
     (consume-expr-loop-less t)
     (consume-expr-loop-again t)
     (λ c κs. choice-room (kept t (c .before .before .before)))
