@@ -10,10 +10,9 @@ use Rattle.structure.specs.Answers.{unread}
 use borrow.Author.Needs.{needs}
 use native.Mathlib.Omega.{arith}
 use lib.ListN.{length}
-use Prim.Native.Nat.{_-_, _+_, _*_}
 use mathlib.Core.Path.{_≡_, sym, _∙_}
 use mathlib.Core.Bool.{true, false}
-use Prim.Native.Nat.{ℕ, _<_, _≤_}
+use Prim.Native.Nat.{ℕ, _-_, _+_, _*_, _<_, _≤_}
 use borrow.Fn.Kinds.{In, Out}
 use borrow.Fn.PlainCycle.{Measures, is, falls, and}
 use Rattle.token.specs.Table.{toks}
@@ -116,14 +115,14 @@ module _ (t : ℕ) (c : of-consume-expr consume-expr-lts.At-loop t) where
       (l .i) (l .u) (l .f) (c .before .before .before .before .before .unaries .result .from) (l .b) (l .z) (l .chosen) (l .left) (l .nodes) (l .store)
   kept = c .loop .inv _ _ (expr-start .pre .1 .1 .1) (c .before .before .before .before .before .unaries .ensures)
 
--- a `~`
+-- a `~`; then the numbers of the nodes that are joined
 tilde : (t : ℕ) (c : of-consume-expr consume-expr-lts.Then1 t) → Table.is (expr-start t (c .before .before) .args .text .now) (c .before .before .loop .i) 10 ≡ true
 tilde t c = sees _ _ _ 10 (c .before .kind-at .ensures) (c .if1 .taken)
 
 joins : (t : ℕ) (c : of-consume-expr consume-expr-lts.After-unaries2 t) → let u = c .before .before .before .before .before .loop .u in (0 < u) × (c .unaries2 .result .used < most)
 joins t c =
-    let k = c .before .before .before in
-    let f = seq-fits (kept t (k .before .before)) (tilde t k) (c .unaries2 .ensures) in
+    let at-tilde = c .before .before .before in
+    let f = seq-fits (kept t (at-tilde .before .before)) (tilde t at-tilde) (c .unaries2 .ensures) in
     (f .1, f .2)
 
 -- no `~`; then a `|` or the end
@@ -135,88 +134,88 @@ bar t c = sees _ _ _ 11 (c .before .before .before .before .before .before .kind
 
 consume-expr-unaries-requires : (t : ℕ) → of-consume-expr consume-expr-lts.Need-unaries-requires t
 consume-expr-unaries-requires t c κs =
-    let s = c .before .before .before .before .before .before in
-    (omega (arith, s .pre .0), (s .pre .1 .0, (s .pre .1 .1 .0, first-room _ _ _ _ (s .pre .1 .1 .1))))
+    let start = c .before .before .before .before .before .before in
+    (omega (arith, start .pre .0), (start .pre .1 .0, (start .pre .1 .1 .0, first-room _ _ _ _ (start .pre .1 .1 .1))))
 
 consume-expr-add-unaries : (t : ℕ) → of-consume-expr consume-expr-lts.Need-add-unaries t
 consume-expr-add-unaries t c =
-    let k = c .before .before in
-    let l = k .before .before in
-    omega (arith, seq-inside (kept t l) (tilde t k), expr-few t l)
+    let at-tilde = c .before .before in
+    let at-loop = at-tilde .before .before in
+    omega (arith, seq-inside (kept t at-loop) (tilde t at-tilde), expr-few t at-loop)
 
 consume-expr-unaries-requires-2 : (t : ℕ) → of-consume-expr consume-expr-lts.Need-unaries-requires-2 t
 consume-expr-unaries-requires-2 t c κs =
-    let k = c .before .before in
-    let l = k .before .before in
-    let s = expr-start t l in
-    (omega (arith, s .pre .0, seq-falls (kept t l) (tilde t k)), (s .pre .1 .0, (s .pre .1 .1 .0, seq-room (kept t l) (tilde t k))))
+    let at-tilde = c .before .before in
+    let at-loop = at-tilde .before .before in
+    let start = expr-start t at-loop in
+    (omega (arith, start .pre .0, seq-falls (kept t at-loop) (tilde t at-tilde)), (start .pre .1 .0, (start .pre .1 .1 .0, seq-room (kept t at-loop) (tilde t at-tilde))))
 
 consume-expr-put-join-requires : (t : ℕ) → of-consume-expr consume-expr-lts.Need-put-join-requires t
 consume-expr-put-join-requires t c κs =
-    let u = c .before .before .before .before .before in
-    let k = u .before .before .before in
-    seq-over (kept t (k .before .before)) (tilde t k) (u .unaries2 .ensures)
+    let at-unaries = c .before .before .before .before .before in
+    let at-tilde = at-unaries .before .before .before in
+    seq-over (kept t (at-tilde .before .before)) (tilde t at-tilde) (at-unaries .unaries2 .ensures)
 
 consume-expr-loop-less : (t : ℕ) → of-consume-expr consume-expr-lts.Need-loop-less t
 consume-expr-loop-less t c =
-    let j = c .before .before .before in
-    let u = j .before .before .before .before .before .before in
-    let k = u .before .before .before in
-    let more = seq-more (kept t (k .before .before)) (tilde t k) (u .unaries2 .ensures) (j .put-join .ensures) in
+    let at-put-join = c .before .before .before in
+    let at-unaries = at-put-join .before .before .before .before .before .before in
+    let at-tilde = at-unaries .before .before .before in
+    let more = seq-more (kept t (at-tilde .before .before)) (tilde t at-tilde) (at-unaries .unaries2 .ensures) (at-put-join .put-join .ensures) in
     omega (arith, more .0, more .1 .within)
 
 consume-expr-loop-again : (t : ℕ) → of-consume-expr consume-expr-lts.Need-loop-again t
 consume-expr-loop-again t c =
-    let j = c .before .before .before in
-    let u = j .before .before .before .before .before .before in
-    let k = u .before .before .before in
-    λ table store g d. seq-more (k .before .before .loop .inv table store g d) (tilde t k) (u .unaries2 .ensures) (j .put-join .ensures) .1
+    let at-put-join = c .before .before .before in
+    let at-unaries = at-put-join .before .before .before .before .before .before in
+    let at-tilde = at-unaries .before .before .before in
+    λ table store g d. seq-more (at-tilde .before .before .loop .inv table store g d) (tilde t at-tilde) (at-unaries .unaries2 .ensures) (at-put-join .put-join .ensures) .1
 
 consume-expr-returns : (t : ℕ) → of-consume-expr consume-expr-lts.Need-returns t
 consume-expr-returns t c =
-    let p = c .before .before .before in
-    let k = p .before .before in
-    let no-bar = misses _ _ _ 11 (k .before .kind-at .ensures) (c .if2 .taken) in
-    build-done (kept t (k .before .before)) (p .put-choice .ensures) (no-tilde t k) no-bar
+    let at-put-choice = c .before .before .before in
+    let at-else = at-put-choice .before .before in
+    let no-bar = misses _ _ _ 11 (at-else .before .kind-at .ensures) (c .if2 .taken) in
+    build-done (kept t (at-else .before .before)) (at-put-choice .put-choice .ensures) (no-tilde t at-else) no-bar
 
 consume-expr-sub-left : (t : ℕ) → of-consume-expr consume-expr-lts.Need-sub-left t
 consume-expr-sub-left t c =
-    let p = c .before .before .before in
-    let l = p .before .before .before .before in
-    omega (arith, bar-inside (kept t l) (p .put-choice .ensures) (no-tilde t (p .before .before)) (bar t c) .1)
+    let at-put-choice = c .before .before .before in
+    let at-loop = at-put-choice .before .before .before .before in
+    omega (arith, bar-inside (kept t at-loop) (at-put-choice .put-choice .ensures) (no-tilde t (at-put-choice .before .before)) (bar t c) .1)
 
 consume-expr-add-unaries-2 : (t : ℕ) → of-consume-expr consume-expr-lts.Need-add-unaries-2 t
 consume-expr-add-unaries-2 t c =
-    let k = c .before .before in
-    let p = k .before .before .before in
-    let l = p .before .before .before .before in
-    omega (arith, bar-inside (kept t l) (p .put-choice .ensures) (no-tilde t (p .before .before)) (bar t k) .0, expr-few t l)
+    let at-bar = c .before .before in
+    let at-put-choice = at-bar .before .before .before in
+    let at-loop = at-put-choice .before .before .before .before in
+    omega (arith, bar-inside (kept t at-loop) (at-put-choice .put-choice .ensures) (no-tilde t (at-put-choice .before .before)) (bar t at-bar) .0, expr-few t at-loop)
 
 consume-expr-unaries-requires-3 : (t : ℕ) → of-consume-expr consume-expr-lts.Need-unaries-requires-3 t
 consume-expr-unaries-requires-3 t c κs =
-    let k = c .before .before in
-    let p = k .before .before .before in
-    let l = p .before .before .before .before in
-    let s = expr-start t l in
-    let less = bar-falls (kept t l) (p .put-choice .ensures) (no-tilde t (p .before .before)) (bar t k) in
-    (omega (arith, s .pre .0, less), (s .pre .1 .0, (s .pre .1 .1 .0, bar-room (kept t l) (p .put-choice .ensures) (no-tilde t (p .before .before)) (bar t k))))
+    let at-bar = c .before .before in
+    let at-put-choice = at-bar .before .before .before in
+    let at-loop = at-put-choice .before .before .before .before in
+    let start = expr-start t at-loop in
+    let less = bar-falls (kept t at-loop) (at-put-choice .put-choice .ensures) (no-tilde t (at-put-choice .before .before)) (bar t at-bar) in
+    (omega (arith, start .pre .0, less), (start .pre .1 .0, (start .pre .1 .1 .0, bar-room (kept t at-loop) (at-put-choice .put-choice .ensures) (no-tilde t (at-put-choice .before .before)) (bar t at-bar))))
 
 consume-expr-loop-less-2 : (t : ℕ) → of-consume-expr consume-expr-lts.Need-loop-less-2 t
 consume-expr-loop-less-2 t c =
-    let u = c .before .before .before .before in
-    let k = u .before .before .before in
-    let p = k .before .before .before in
-    let l = p .before .before .before .before in
-    let again = bar-more (kept t l) (p .put-choice .ensures) (no-tilde t (p .before .before)) (bar t k) (u .unaries3 .ensures) in
+    let at-unaries = c .before .before .before .before in
+    let at-bar = at-unaries .before .before .before in
+    let at-put-choice = at-bar .before .before .before in
+    let at-loop = at-put-choice .before .before .before .before in
+    let again = bar-more (kept t at-loop) (at-put-choice .put-choice .ensures) (no-tilde t (at-put-choice .before .before)) (bar t at-bar) (at-unaries .unaries3 .ensures) in
     omega (arith, again .0, again .1 .within)
 
 consume-expr-loop-again-2 : (t : ℕ) → of-consume-expr consume-expr-lts.Need-loop-again-2 t
 consume-expr-loop-again-2 t c =
-    let u = c .before .before .before .before in
-    let k = u .before .before .before in
-    let p = k .before .before .before in
-    let l = p .before .before .before .before in
-    λ table store g d. bar-more (l .loop .inv table store g d) (p .put-choice .ensures) (no-tilde t (p .before .before)) (bar t k) (u .unaries3 .ensures) .1
+    let at-unaries = c .before .before .before .before in
+    let at-bar = at-unaries .before .before .before in
+    let at-put-choice = at-bar .before .before .before in
+    let at-loop = at-put-choice .before .before .before .before in
+    λ table store g d. bar-more (at-loop .loop .inv table store g d) (at-put-choice .put-choice .ensures) (no-tilde t (at-put-choice .before .before)) (bar t at-bar) (at-unaries .unaries3 .ensures) .1
 
 -- ---- `consume_node`
 
@@ -238,75 +237,75 @@ module _ (t : ℕ) (c : of-consume-node consume-node-lts.After-spelled t) where
 
 pushed : (t : ℕ) (c : of-consume-node consume-node-lts.Then2 t) → let a = bare-start t (c .before) .args in Pushed (a .level) (a .text .now) (a .deep) (a .at) (a .used) (a .free) (a .nodes .now) (a .store .now)
 pushed t c =
-    let s = bare-start t (c .before) in
-    record { room = s .pre .1 .1 .1; short = s .pre .1 .0 .short; bare = bare t (c .before); pushes = sym (c .before .spelled .ensures) ∙ c .if2 .taken }
+    let start = bare-start t (c .before) in
+    record { room = start .pre .1 .1 .1; short = start .pre .1 .0 .short; bare = bare t (c .before); pushes = sym (c .before .spelled .ensures) ∙ c .if2 .taken }
 
 consume-node-consume-expr-requires : (t : ℕ) → of-consume-node consume-node-lts.Need-consume-expr-requires t
 consume-node-consume-expr-requires t c κs =
-    let k = c .before .before in
-    let s = group-start t k in
-    (omega (arith, s .pre .0, group-falls (group t k)), (s .pre .1 .0, (s .pre .1 .1 .0, group-room (group t k))))
+    let at-if = c .before .before in
+    let start = group-start t at-if in
+    (omega (arith, start .pre .0, group-falls (group t at-if)), (start .pre .1 .0, (start .pre .1 .1 .0, group-room (group t at-if))))
 
 consume-node-move-end-requires : (t : ℕ) → of-consume-node consume-node-lts.Need-move-end-requires t
 consume-node-move-end-requires t c κs =
-    let e = c .before in
-    let x = e .before .before .before .before .before in
-    group-last (group t (x .before .before .before)) (x .consume-expr .ensures) (e .end-at .ensures)
+    let at-end = c .before in
+    let at-expr = at-end .before .before .before .before .before in
+    group-last (group t (at-expr .before .before .before)) (at-expr .consume-expr .ensures) (at-end .end-at .ensures)
 
 consume-node-add-t21 : (t : ℕ) → of-consume-node consume-node-lts.Need-add-t21 t
 consume-node-add-t21 t c =
-    let x = c .before .before .before .before .before .before .before .before .before .before in
-    omega (arith, group-within (group t (x .before .before .before)) (x .consume-expr .ensures))
+    let at-expr = c .before .before .before .before .before .before .before .before .before .before in
+    omega (arith, group-within (group t (at-expr .before .before .before)) (at-expr .consume-expr .ensures))
 
 consume-node-returns : (t : ℕ) → of-consume-node consume-node-lts.Need-returns t
 consume-node-returns t c =
-    let m = c .before .before .before in
-    let e = m .before .before in
-    let x = e .before .before .before .before .before in
-    group-built (group t (x .before .before .before)) (x .consume-expr .ensures) (e .end-at .ensures) (m .move-end .ensures)
+    let at-move-end = c .before .before .before in
+    let at-end = at-move-end .before .before in
+    let at-expr = at-end .before .before .before .before .before in
+    group-built (group t (at-expr .before .before .before)) (at-expr .consume-expr .ensures) (at-end .end-at .ensures) (at-move-end .move-end .ensures)
 
 consume-node-consume-expr-requires-2 : (t : ℕ) → of-consume-node consume-node-lts.Need-consume-expr-requires-2 t
 consume-node-consume-expr-requires-2 t c κs =
-    let k = c .before .before in
-    let s = bare-start t (k .before) in
-    (omega (arith, s .pre .0, push-falls (pushed t k)), (s .pre .1 .0, (s .pre .1 .1 .0, push-room (pushed t k))))
+    let at-if = c .before .before in
+    let start = bare-start t (at-if .before) in
+    (omega (arith, start .pre .0, push-falls (pushed t at-if)), (start .pre .1 .0, (start .pre .1 .1 .0, push-room (pushed t at-if))))
 
 consume-node-put-unary-requires : (t : ℕ) → of-consume-node consume-node-lts.Need-put-unary-requires t
 consume-node-put-unary-requires t c κs =
-    let a = c .before in
-    let x = a .before .before .before .before .before in
-    push-over (pushed t (x .before .before .before)) (x .consume-expr2 .ensures) (a .start-at .ensures)
+    let at-start = c .before in
+    let at-expr = at-start .before .before .before .before .before in
+    push-over (pushed t (at-expr .before .before .before)) (at-expr .consume-expr2 .ensures) (at-start .start-at .ensures)
 
 consume-node-add-t33 : (t : ℕ) → of-consume-node consume-node-lts.Need-add-t33 t
 consume-node-add-t33 t c =
-    let x = c .before .before .before .before .before .before .before .before .before .before in
-    omega (arith, push-within (pushed t (x .before .before .before)) (x .consume-expr2 .ensures) .0)
+    let at-expr = c .before .before .before .before .before .before .before .before .before .before in
+    omega (arith, push-within (pushed t (at-expr .before .before .before)) (at-expr .consume-expr2 .ensures) .0)
 
 consume-node-add-t34 : (t : ℕ) → of-consume-node consume-node-lts.Need-add-t34 t
 consume-node-add-t34 t c =
-    let x = c .before .before .before .before .before .before .before .before .before .before .before in
-    omega (arith, push-within (pushed t (x .before .before .before)) (x .consume-expr2 .ensures) .1)
+    let at-expr = c .before .before .before .before .before .before .before .before .before .before .before in
+    omega (arith, push-within (pushed t (at-expr .before .before .before)) (at-expr .consume-expr2 .ensures) .1)
 
 consume-node-returns-2 : (t : ℕ) → of-consume-node consume-node-lts.Need-returns-2 t
 consume-node-returns-2 t c =
-    let u = c .before .before .before .before in
-    let a = u .before .before in
-    let x = a .before .before .before .before .before in
-    push-built (pushed t (x .before .before .before)) (x .consume-expr2 .ensures) (a .start-at .ensures) (u .put-unary .ensures)
+    let at-put-unary = c .before .before .before .before in
+    let at-start = at-put-unary .before .before in
+    let at-expr = at-start .before .before .before .before .before in
+    push-built (pushed t (at-expr .before .before .before)) (at-expr .consume-expr2 .ensures) (at-start .start-at .ensures) (at-put-unary .put-unary .ensures)
 
 consume-node-put-leaf-requires : (t : ℕ) → of-consume-node consume-node-lts.Need-put-leaf-requires t
 consume-node-put-leaf-requires t c κs =
-    let k = c .before .before in
-    let leaf = leaf-read _ _ _ _ (bare t (k .before)) (sym (k .before .spelled .ensures) ∙ k .if2 .left) in
-    let s = bare-start t (k .before) in
-    (s .pre .1 .0, (s .pre .1 .1 .0, room-same leaf (s .pre .1 .1 .1)))
+    let at-if = c .before .before in
+    let leaf = leaf-read _ _ _ _ (bare t (at-if .before)) (sym (at-if .before .spelled .ensures) ∙ at-if .if2 .left) in
+    let start = bare-start t (at-if .before) in
+    (start .pre .1 .0, (start .pre .1 .1 .0, room-same leaf (start .pre .1 .1 .1)))
 
 consume-node-returns-3 : (t : ℕ) → of-consume-node consume-node-lts.Need-returns-3 t
 consume-node-returns-3 t c =
-    let p = c .before .before .before .before in
-    let k = p .before .before .before in
-    let leaf = leaf-read _ _ _ _ (bare t (k .before)) (sym (k .before .spelled .ensures) ∙ k .if2 .left) in
-    built-same leaf (p .put-leaf .ensures)
+    let at-put-leaf = c .before .before .before .before in
+    let at-if = at-put-leaf .before .before .before in
+    let leaf = leaf-read _ _ _ _ (bare t (at-if .before)) (sym (at-if .before .spelled .ensures) ∙ at-if .if2 .left) in
+    built-same leaf (at-put-leaf .put-leaf .ensures)
 
 -- ---- `unaries`
 
@@ -329,61 +328,65 @@ module _ (t : ℕ) (c : of-unaries unaries-lts.After-predicates-end t) where
 
 unaries-get-node-tag-requires : (t : ℕ) → of-unaries unaries-lts.Need-get-node-tag-requires t
 unaries-get-node-tag-requires t c κs =
-    let s = c .before .before .before .before .before in
-    (s .pre .1 .0, tag-room _ _ _ _ (s .pre .1 .1 .1))
+    let start = c .before .before .before .before .before in
+    (start .pre .1 .0, tag-room _ _ _ _ (start .pre .1 .1 .1))
 
 unaries-consume-node-requires : (t : ℕ) → of-unaries unaries-lts.Need-consume-node-requires t
 unaries-consume-node-requires t c κs =
-    let e = c .before .before in
-    let s = term-start t e in
-    (omega (arith, s .pre .0, node-falls (headed t e)), (s .pre .1 .0, (s .pre .1 .1 .0, node-room (headed t e))))
+    let at-end = c .before .before in
+    let start = term-start t at-end in
+    (omega (arith, start .pre .0, node-falls (headed t at-end)), (start .pre .1 .0, (start .pre .1 .1 .0, node-room (headed t at-end))))
 
 unaries-put-postfixes-requires : (t : ℕ) → of-unaries unaries-lts.Need-put-postfixes-requires t
 unaries-put-postfixes-requires t c κs =
-    let n = c .before .before .before .before .before in
-    let e = n .before .before .before in
-    (term-start t e .pre .1 .0, posts-room (headed t e) (n .consume-node .ensures))
+    let at-node = c .before .before .before .before .before in
+    let at-end = at-node .before .before .before in
+    (term-start t at-end .pre .1 .0, posts-room (headed t at-end) (at-node .consume-node .ensures))
 
 unaries-move-to-bracket-requires : (t : ℕ) → of-unaries unaries-lts.Need-move-to-bracket-requires t
 unaries-move-to-bracket-requires t c κs =
-    let x = c .before .before .before in
-    let n = x .before .before .before .before .before .before in
-    let e = n .before .before .before in
-    (term-start t e .pre .1 .0, open-room (headed t e) (n .consume-node .ensures) (x .put-postfixes .ensures))
+    let at-postfixes = c .before .before .before in
+    let at-node = at-postfixes .before .before .before .before .before .before in
+    let at-end = at-node .before .before .before in
+    (term-start t at-end .pre .1 .0, open-room (headed t at-end) (at-node .consume-node .ensures) (at-postfixes .put-postfixes .ensures))
 
 unaries-put-predicates-requires : (t : ℕ) → of-unaries unaries-lts.Need-put-predicates-requires t
 unaries-put-predicates-requires t c κs =
-    let m = c .before .before .before in
-    let x = m .before .before .before .before in
-    let n = x .before .before .before .before .before .before in
-    let e = n .before .before .before in
-    (term-start t e .pre .1 .0, signs-room (headed t e) (n .consume-node .ensures) (x .put-postfixes .ensures) (m .move-to-bracket .ensures))
+    let at-bracket = c .before .before .before in
+    let at-postfixes = at-bracket .before .before .before .before in
+    let at-node = at-postfixes .before .before .before .before .before .before in
+    let at-end = at-node .before .before .before in
+    (term-start t at-end .pre .1 .0, signs-room (headed t at-end) (at-node .consume-node .ensures) (at-postfixes .put-postfixes .ensures) (at-bracket .move-to-bracket .ensures))
 
 unaries-term-start-requires : (t : ℕ) → of-unaries unaries-lts.Need-term-start-requires t
 unaries-term-start-requires t c κs =
-    let e = c .before .before .before .before .before .before .before .before .before .before .before .before .before .before .before .before .before .before .before in
-    term-start t e .pre .1 .0
+    let at-end = c .before .before .before .before .before .before .before .before .before .before .before .before .before .before .before .before .before .before .before in
+    term-start t at-end .pre .1 .0
 
 unaries-put-tag-requires : (t : ℕ) → of-unaries unaries-lts.Need-put-tag-requires t
 unaries-put-tag-requires t c κs =
-    let h = c .before in
-    let p = h .before .before .before in
-    let m = p .before .before .before .before in
-    let x = m .before .before .before .before in
-    let n = x .before .before .before .before .before .before in
-    let e = n .before .before .before in
-    (term-start t e .pre .1 .0, tie-room (headed t e) (n .consume-node .ensures) (x .put-postfixes .ensures) (m .move-to-bracket .ensures) (p .put-predicates .ensures) (h .term-start .ensures))
+    let at-start = c .before in
+    let at-predicates = at-start .before .before .before in
+    let at-bracket = at-predicates .before .before .before .before in
+    let at-postfixes = at-bracket .before .before .before .before in
+    let at-node = at-postfixes .before .before .before .before .before .before in
+    let at-end = at-node .before .before .before in (
+      term-start t at-end .pre .1 .0,
+      tie-room (headed t at-end) (at-node .consume-node .ensures) (at-postfixes .put-postfixes .ensures) (at-bracket .move-to-bracket .ensures)
+          (at-predicates .put-predicates .ensures) (at-start .term-start .ensures),
+    )
 
 unaries-returns : (t : ℕ) → of-unaries unaries-lts.Need-returns t
 unaries-returns t c =
-    let tie = c .before .before in
-    let h = tie .before .before in
-    let p = h .before .before .before in
-    let m = p .before .before .before .before in
-    let x = m .before .before .before .before in
-    let n = x .before .before .before .before .before .before in
-    let e = n .before .before .before in
-    term-built (headed t e) (n .consume-node .ensures) (x .put-postfixes .ensures) (m .move-to-bracket .ensures) (p .put-predicates .ensures) (h .term-start .ensures) (tie .put-tag .ensures)
+    let at-put-tag = c .before .before in
+    let at-start = at-put-tag .before .before in
+    let at-predicates = at-start .before .before .before in
+    let at-bracket = at-predicates .before .before .before .before in
+    let at-postfixes = at-bracket .before .before .before .before in
+    let at-node = at-postfixes .before .before .before .before .before .before in
+    let at-end = at-node .before .before .before in
+    term-built (headed t at-end) (at-node .consume-node .ensures) (at-postfixes .put-postfixes .ensures) (at-bracket .move-to-bracket .ensures)
+    (at-predicates .put-predicates .ensures) (at-start .term-start .ensures) (at-put-tag .put-tag .ensures)
 
 pub +consume-expr+consume-node+unaries-spec : {M : Type 1} → statement M
 +consume-expr+consume-node+unaries-spec =
