@@ -1,5 +1,5 @@
 -- The steps of an expression's loop: the choices so far and the last sequence, in the buffers.
-use Prim.Native.Nat.{ℕ, _+_, _-_, _≤_, _<_}
+use Prim.Native.Nat.{ℕ, _+_, _-_, _*_, _≤_, _<_}
 use mathlib.Core.Path.{_≡_, refl, sym, ap, _∙_}
 use mathlib.Core.Bool.{Bool, true, false}
 use mathlib.Core.List.{List}
@@ -12,12 +12,15 @@ use Rattle.token.specs.Table.{toks, is}
 use Rattle.table.specs.declared.Join.the-variants.{Seq, Choice}
 use Rattle.table.specs.declared.Node.the-variants.{Two}
 use Rattle.table.specs.Tree.{Span, Tree, below, count, size, stored, placeOf}
+use Rattle.table.specs.Record.{nodeSize}
 use Rattle.table.specs.Flat.{recordOf, flat}
 use Rattle.structure.specs.declared.Level.{Level}
+use Rattle.structure.specs.Answers.{unread}
 use Rattle.structure.specs.Structure.{got, next, join, closed, expr, term, chain, Run}
 use Rattle.structure.proofs.Steps.{inside-is, next-got, next-good}
 use Rattle.structure.proofs.Sizes.{count-join, size-join, count-closed, size-closed, count-more, size-more}
 use Rattle.structure.proofs.Fuel.{went}
+use Rattle.structure.proofs.Wants.{fewer}
 use Rattle.structure.proofs.Grammar.{expr-law, chain-law}
 use Rattle.build.specs.declared.Placed.{Placed}
 use Rattle.build.specs.Build.{TreeRoom, Laid, Built, chosenEnd, chosenOf, ChoiceRoom}
@@ -143,6 +146,7 @@ chosen-more false n = omega arith
 -- ---- the loop
 
 pub record BuildInv (level : Level) (s : List ℕ) (o at used free : ℕ) (table store : List ℕ) (i u f a b z : ℕ) (chosen : Bool) (left : ℕ) (tbl st : List ℕ) : Type 0 where
+  pub room : TreeRoom (Run level s (expr o at)) table store used free
   pub c : Option (Tree Span)
   pub l : Tree Span
   pub meaning : Run level s (expr o at) ≡ Run level s (chain o c l i)
@@ -164,7 +168,7 @@ LoopInv level s o at used free first table₀ store₀ i u f a b z chosen left t
     (table store : List ℕ) → TreeRoom (Run level s (expr o at)) table store used free → Built (Run level s (term o at)) table store used free first table₀ store₀
     → BuildInv level s o at used free table store i u f a b z chosen left tbl st
 
-module _ (level : Level) (s : List ℕ) (o at used free : ℕ) (table store : List ℕ) (g : TreeRoom (Run level s (expr o at)) table store used free) where
+module _ (level : Level) (s : List ℕ) (o at : ℕ) {used free : ℕ} {table store : List ℕ} (g : TreeRoom (Run level s (expr o at)) table store used free) where
   pub first-room : TreeRoom (Run level s (term o at)) table store used free
   unfolding closed
   first-room =
@@ -178,15 +182,16 @@ module _ (level : Level) (s : List ℕ) (o at used free : ℕ) (table store : Li
       let h₄ = g .low in
       record { tree = t; end = i; read = e₁; room = omega arith; few = omega arith; fits = omega arith; low = omega arith }
 
-  pub build-start : (r : Placed) (tbl st : List ℕ) → Built (Run level s (term o at)) table store used free r tbl st
+  pub build-start : {r : Placed} {tbl st : List ℕ} → Built (Run level s (term o at)) table store used free r tbl st
       → BuildInv level s o at used free table store (r .next) (r .used) (r .free) (r .from) (r .from) (r .to) false 0 tbl st
-  build-start r tbl st d =
+  build-start {r} {tbl} {st} d =
       let p = went level s (term o at) (d .tree) (r .next) (d .read) in
       let x = p .on in
       let y = p .within in
       let e₁ = d .used-is in
       let e₂ = d .free-is in
       record {
+        room = g;
         c = none;
         l = d .tree;
         meaning = expr-law level s o at ∙ next-good _ _ (d .read);
@@ -203,186 +208,201 @@ module _ (level : Level) (s : List ℕ) (o at used free : ℕ) (table store : Li
         held = d .laid;
       }
 
-  module _ (i u f a b z : ℕ) (chosen : Bool) (left : ℕ) (tbl st : List ℕ) (v : BuildInv level s o at used free table store i u f a b z chosen left tbl st) where
-    abbrev pub whole : Tree Span
-    whole = closed (v .c) (v .l)
+module _ {level : Level} {s : List ℕ} {o at used free : ℕ} {table store : List ℕ} {i u f a b z : ℕ} {chosen : Bool} {left : ℕ} {tbl st : List ℕ}
+    (v : BuildInv level s o at used free table store i u f a b z chosen left tbl st) where
+  abbrev pub whole : Tree Span
+  whole = closed (v .c) (v .l)
 
-    pub same-long : (length tbl ≡ length table) × (length st ≡ length store)
-    same-long = held-long (v .c) (v .l) table store used free tbl st (v .held)
+  pub same-long : (length tbl ≡ length table) × (length st ≡ length store)
+  same-long = held-long (v .c) (v .l) table store used free tbl st (v .held)
 
-    fits : (count whole ≤ count (g .tree)) × (size whole ≤ size (g .tree))
-    fits = let q = went level s (chain o (v .c) (v .l) i) (g .tree) (g .end) (sym (v .meaning) ∙ g .read) in (q .more, q .large)
+  fits : (count whole ≤ count (v .room .tree)) × (size whole ≤ size (v .room .tree))
+  fits = let q = went level s (chain o (v .c) (v .l) i) (v .room .tree) (v .room .end) (sym (v .meaning) ∙ v .room .read) in (q .more, q .large)
 
-    pub choice-room : ChoiceRoom tbl chosen left u a z
-    choice-room =
-        let e = closed-count (v .c) (v .l) chosen left used u (v .marked) (v .used-is) in
-        let p = fits in
-        let l = same-long in
-        let x = v .used-is in
-        let h₁ = g .room in
-        let h₂ = g .few in
-        let m = chosen-more chosen u in
-        record { room = omega arith; few = omega arith; child = v .low; from = v .short .0; to = v .short .2; after = omega arith }
+  pub choice-room : ChoiceRoom tbl chosen left u a z
+  choice-room =
+      let e = closed-count (v .c) (v .l) chosen left used u (v .marked) (v .used-is) in
+      let p = fits in
+      let l = same-long in
+      let x = v .used-is in
+      let h₁ = v .room .room in
+      let h₂ = v .room .few in
+      let m = chosen-more chosen u in
+      record { room = omega arith; few = omega arith; child = v .low; from = v .short .0; to = v .short .2; after = omega arith }
 
-    module _ (u′ : ℕ) (tbl′ : List ℕ) (q₁ : u′ ≡ chosenEnd chosen u) (q₂ : tbl′ ≡ written tbl u (chosenOf chosen left u a z)) where
-      whole-laid : Laid whole table store used free tbl′ st
-      whole-laid = closed-laid (v .c) (v .l) table store used free tbl st tbl′ chosen left u a z (v .held) (v .marked) (v .used-is) (v .head-is) (v .to-is) q₂
+  module _ {u′ : ℕ} {tbl′ : List ℕ} (q : (u′ ≡ chosenEnd chosen u) × (tbl′ ≡ written tbl u (chosenOf chosen left u a z))) where
+    whole-laid : Laid whole table store used free tbl′ st
+    whole-laid = closed-laid (v .c) (v .l) table store used free tbl st tbl′ chosen left u a z (v .held) (v .marked) (v .used-is) (v .head-is) (v .to-is) (q .1)
 
-      whole-used : u′ ≡ used + count whole
-      whole-used = q₁ ∙ closed-count (v .c) (v .l) chosen left used u (v .marked) (v .used-is)
+    whole-used : u′ ≡ used + count whole
+    whole-used = q .0 ∙ closed-count (v .c) (v .l) chosen left used u (v .marked) (v .used-is)
 
-      whole-free : f ≡ free + size whole
-      whole-free = closed-size (v .c) (v .l) free f (v .free-is)
+    whole-free : f ≡ free + size whole
+    whole-free = closed-size (v .c) (v .l) free f (v .free-is)
 
-      -- the end of the expression
-      pub build-done : is s i 10 ≡ false → is s i 11 ≡ false
-          → Built (Run level s (expr o at)) table store used free (record { next = i; used = u′; free = f; from = a; to = z }) tbl′ st
-      build-done n₁ n₂ = record {
-        tree = whole;
-        read = v .meaning ∙ chain-law level s o (v .c) (v .l) i ∙ choose-false (is s i 10) _ _ n₁ ∙ choose-false (is s i 11) _ _ n₂;
-        used-is = whole-used;
-        free-is = whole-free;
-        from-is = v .head-is ∙ sym (head-closed (v .c) (v .l));
-        to-is = v .to-is ∙ sym (stop-closed (v .c) (v .l));
-        short = (v .short .0, v .short .2);
-        laid = whole-laid;
-      }
+    -- the end of the expression
+    pub build-done : is s i 10 ≡ false → is s i 11 ≡ false
+        → Built (Run level s (expr o at)) table store used free (record { next = i; used = u′; free = f; from = a; to = z }) tbl′ st
+    build-done n₁ n₂ = record {
+      tree = whole;
+      read = v .meaning ∙ chain-law level s o (v .c) (v .l) i ∙ choose-false (is s i 10) _ _ n₁ ∙ choose-false (is s i 11) _ _ n₂;
+      used-is = whole-used;
+      free-is = whole-free;
+      from-is = v .head-is ∙ sym (head-closed (v .c) (v .l));
+      to-is = v .to-is ∙ sym (stop-closed (v .c) (v .l));
+      short = (v .short .0, v .short .2);
+      laid = whole-laid;
+    }
 
-      -- a `|`
-      module _ (n₁ : is s i 10 ≡ false) (n₂ : is s i 11 ≡ true) where
-        bar-means : Run level s (expr o at) ≡ next (Run level s (term o (i + 1))) (λ r n. Run level s (chain o (some whole) r n))
-        bar-means = v .meaning ∙ chain-law level s o (v .c) (v .l) i ∙ choose-false (is s i 10) _ _ n₁ ∙ choose-true (is s i 11) _ _ n₂
+    -- a `|`
+    module _ (n₁ : is s i 10 ≡ false) (n₂ : is s i 11 ≡ true) where
+      bar-means : Run level s (expr o at) ≡ next (Run level s (term o (i + 1))) (λ r n. Run level s (chain o (some whole) r n))
+      bar-means = v .meaning ∙ chain-law level s o (v .c) (v .l) i ∙ choose-false (is s i 10) _ _ n₁ ∙ choose-true (is s i 11) _ _ n₂
 
-        pub bar-inside : (i < length (toks s)) × (0 < u′) × (u′ ≤ most)
-        bar-inside =
-            let e = whole-used in
-            let p = fits in
-            let h = g .few in
-            (inside-is s i 11 (omega arith) n₂, omega arith, omega arith)
+      pub bar-inside : (i < length (toks s)) × (0 < u′) × (u′ ≤ most)
+      bar-inside =
+          let e = whole-used in
+          let p = fits in
+          let h = v .room .few in
+          (inside-is s i 11 (omega arith) n₂, omega arith, omega arith)
 
-        pub bar-room : TreeRoom (Run level s (term o (i + 1))) tbl′ st u′ f
-        bar-room =
-            let (t, n, e₁, e₂) = next-got _ _ (sym bar-means ∙ g .read) in
-            let q = went level s (chain o (some whole) t n) (g .tree) (g .end) e₂ in
-            let m = q .more in
-            let k = q .large in
-            let c₁ = count-more (v .c) (v .l) t in
-            let c₂ = size-more (v .c) (v .l) t in
-            let e = whole-used in
-            let e₃ = whole-free in
-            let l = laid-long whole table store used free tbl′ st whole-laid in
-            let h₁ = g .room in
-            let h₂ = g .few in
-            let h₃ = g .fits in
-            let h₄ = g .low in
-            record { tree = t; end = n; read = e₁; room = omega arith; few = omega arith; fits = omega arith; low = omega arith }
+      pub bar-falls : unread s (i + 1) < unread s at
+      bar-falls = fewer s at (i + 1) (omega (arith, v .past)) (omega (arith, bar-inside .0))
 
-        pub bar-more : (r : Placed) (tbl₂ st₂ : List ℕ) → Built (Run level s (term o (i + 1))) tbl′ st u′ f r tbl₂ st₂
-            → (i < r .next) × BuildInv level s o at used free table store (r .next) (r .used) (r .free) a (r .from) (r .to) true (u′ - 1) tbl₂ st₂
-        bar-more r tbl₂ st₂ d =
-            let p = went level s (term o (i + 1)) (d .tree) (r .next) (d .read) in
-            let x = p .on in
-            let y = p .within in
-            let w = bar-inside in
-            let e = whole-used in
-            let e₁ = d .used-is in
-            let e₂ = d .free-is in
-            let e₃ = whole-free in
-            let y₁ = v .past in (
-              omega arith,
-              record {
-                c = some whole;
-                l = d .tree;
-                meaning = bar-means ∙ next-good _ _ (d .read);
-                past = omega arith;
-                within = omega arith;
-                used-is = omega arith;
-                free-is = omega arith;
-                marked = (refl, omega arith);
-                low = omega arith;
-                head-is = v .head-is ∙ sym (head-closed (v .c) (v .l));
-                from-is = d .from-is;
-                to-is = d .to-is;
-                short = (v .short .0, d .short .0, d .short .1);
-                held = bar-held whole (d .tree) table store used free tbl′ st tbl₂ st₂ u′ f whole-laid whole-used whole-free (d .laid);
-              },
-            )
-
-    -- a `~`
-    module _ (e : is s i 10 ≡ true) where
-      seq-means : Run level s (expr o at) ≡ next (Run level s (term o (i + 1))) (λ r n. Run level s (chain o (v .c) (join Seq (v .l) r) n))
-      seq-means = v .meaning ∙ chain-law level s o (v .c) (v .l) i ∙ choose-true (is s i 10) _ _ e
-
-      pub seq-inside : i < length (toks s)
-      seq-inside = inside-is s i 10 (omega arith) e
-
-      seq-shape : (t : Tree Span) × (n : ℕ) × (Run level s (term o (i + 1)) ≡ got t n) × (u + count t + 1 ≤ used + count (g .tree)) × (f + size t ≤ free + size (g .tree))
-      seq-shape =
-          let (t, n, e₁, e₂) = next-got _ _ (sym seq-means ∙ g .read) in
-          let q = went level s (chain o (v .c) (join Seq (v .l) t) n) (g .tree) (g .end) e₂ in
+      pub bar-room : TreeRoom (Run level s (term o (i + 1))) tbl′ st u′ f
+      bar-room =
+          let (t, n, e₁, e₂) = next-got _ _ (sym bar-means ∙ v .room .read) in
+          let q = went level s (chain o (some whole) t n) (v .room .tree) (v .room .end) e₂ in
           let m = q .more in
           let k = q .large in
-          let c₁ = count-closed (v .c) (v .l) t in
-          let c₂ = size-closed (v .c) (v .l) t in
-          let x = closed-count (v .c) (v .l) chosen left used u (v .marked) (v .used-is) in
-          let y = closed-size (v .c) (v .l) free f (v .free-is) in
-          let w = chosen-more chosen u in
-          (t, n, e₁, omega arith, omega arith)
-
-      pub seq-room : TreeRoom (Run level s (term o (i + 1))) tbl st u f
-      seq-room =
-          let (t, n, e₁, h₁, h₂) = seq-shape in
-          let x = same-long in
-          let h = g .room in
-          let j = g .few in
-          let k = g .fits in
-          let m = g .low in
+          let c₁ = count-more (v .c) (v .l) t in
+          let c₂ = size-more (v .c) (v .l) t in
+          let e = whole-used in
+          let e₃ = whole-free in
+          let l = laid-long whole table store used free tbl′ st whole-laid in
+          let h₁ = v .room .room in
+          let h₂ = v .room .few in
+          let h₃ = v .room .fits in
+          let h₄ = v .room .low in
           record { tree = t; end = n; read = e₁; room = omega arith; few = omega arith; fits = omega arith; low = omega arith }
 
-      module _ (r : Placed) (tbl₁ st₁ : List ℕ) (d : Built (Run level s (term o (i + 1))) tbl st u f r tbl₁ st₁) where
-        pub seq-over : Over tbl₁ (r .used) b (r .to) × (u ≤ most) × (0 < u) × (r .used < most)
-        seq-over =
-            let (t, n, e₁, h₁, h₂) = seq-shape in
-            let y : t ≡ d .tree = cc (e₁, d .read) in
-            let c = ap (count {P = Span}) y in
-            let x = same-long in
-            let x₁ = laid-long (d .tree) tbl st u f tbl₁ st₁ (d .laid) in
-            let h = g .room in
-            let j = g .few in
-            let m = d .used-is in
-            let q = v .used-is in
-            (record { room = omega arith; from = v .short .1; to = d .short .1; few = omega arith; after = omega arith }, omega arith, omega arith, omega arith)
+      pub bar-more : {r : Placed} {tbl₂ st₂ : List ℕ} → Built (Run level s (term o (i + 1))) tbl′ st u′ f r tbl₂ st₂
+          → (i < r .next) × BuildInv level s o at used free table store (r .next) (r .used) (r .free) a (r .from) (r .to) true (u′ - 1) tbl₂ st₂
+      bar-more {r} {tbl₂} {st₂} d =
+          let p = went level s (term o (i + 1)) (d .tree) (r .next) (d .read) in
+          let x = p .on in
+          let y = p .within in
+          let w = bar-inside in
+          let e = whole-used in
+          let e₁ = d .used-is in
+          let e₂ = d .free-is in
+          let e₃ = whole-free in
+          let y₁ = v .past in (
+            omega arith,
+            record {
+              room = v .room;
+              c = some whole;
+              l = d .tree;
+              meaning = bar-means ∙ next-good _ _ (d .read);
+              past = omega arith;
+              within = omega arith;
+              used-is = omega arith;
+              free-is = omega arith;
+              marked = (refl, omega arith);
+              low = omega arith;
+              head-is = v .head-is ∙ sym (head-closed (v .c) (v .l));
+              from-is = d .from-is;
+              to-is = d .to-is;
+              short = (v .short .0, d .short .0, d .short .1);
+              held = bar-held whole (d .tree) table store used free tbl′ st tbl₂ st₂ u′ f whole-laid whole-used whole-free (d .laid);
+            },
+          )
 
-        pub seq-more : (tbl₂ : List ℕ) → tbl₂ ≡ written tbl₁ (r .used) (recordOf (spanned b (r .to)) (Two Seq (u - 1) (r .used - 1)))
-            → (i < r .next) × BuildInv level s o at used free table store (r .next) (r .used + 1) (r .free) a b (r .to) chosen left tbl₂ st₁
-        unfolding join below
-        seq-more tbl₂ q =
-            let p = went level s (term o (i + 1)) (d .tree) (r .next) (d .read) in
-            let x = p .on in
-            let y = p .within in
-            let m = seq-inside in
-            let y₁ = v .past in
-            let e₁ = d .used-is in
-            let e₂ = d .free-is in
-            let e₃ = v .used-is in
-            let e₄ = v .free-is in
-            let c₁ = count-join Seq (v .l) (d .tree) in
-            let c₂ = size-join Seq (v .l) (d .tree) in (
-              omega arith,
-              record {
-                c = v .c;
-                l = join Seq (v .l) (d .tree);
-                meaning = seq-means ∙ next-good _ _ (d .read);
-                past = omega arith;
-                within = omega arith;
-                used-is = omega arith;
-                free-is = omega arith;
-                marked = v .marked;
-                low = v .low;
-                head-is = v .head-is ∙ head-join (v .c) (v .l) (d .tree);
-                from-is = v .from-is;
-                to-is = d .to-is;
-                short = (v .short .0, v .short .1, d .short .1);
-                held = seq-held (v .c) (v .l) (d .tree) table store used free tbl st tbl₁ st₁ tbl₂ u f (r .used) b (r .to) (v .held) (v .used-is) (v .free-is) (d .laid) (d .used-is) (v .from-is) (d .to-is) q;
-              },
-            )
+  -- a `~`
+  module _ (e : is s i 10 ≡ true) where
+    seq-means : Run level s (expr o at) ≡ next (Run level s (term o (i + 1))) (λ r n. Run level s (chain o (v .c) (join Seq (v .l) r) n))
+    seq-means = v .meaning ∙ chain-law level s o (v .c) (v .l) i ∙ choose-true (is s i 10) _ _ e
+
+    pub seq-inside : i < length (toks s)
+    seq-inside = inside-is s i 10 (omega arith) e
+
+    pub seq-falls : unread s (i + 1) < unread s at
+    seq-falls = fewer s at (i + 1) (omega (arith, v .past)) (omega (arith, seq-inside))
+
+    seq-shape : (t : Tree Span) × (n : ℕ) × (Run level s (term o (i + 1)) ≡ got t n) × (u + count t + 1 ≤ used + count (v .room .tree)) × (f + size t ≤ free + size (v .room .tree))
+    seq-shape =
+        let (t, n, e₁, e₂) = next-got _ _ (sym seq-means ∙ v .room .read) in
+        let q = went level s (chain o (v .c) (join Seq (v .l) t) n) (v .room .tree) (v .room .end) e₂ in
+        let m = q .more in
+        let k = q .large in
+        let c₁ = count-closed (v .c) (v .l) t in
+        let c₂ = size-closed (v .c) (v .l) t in
+        let x = closed-count (v .c) (v .l) chosen left used u (v .marked) (v .used-is) in
+        let y = closed-size (v .c) (v .l) free f (v .free-is) in
+        let w = chosen-more chosen u in
+        (t, n, e₁, omega arith, omega arith)
+
+    pub seq-room : TreeRoom (Run level s (term o (i + 1))) tbl st u f
+    seq-room =
+        let (t, n, e₁, h₁, h₂) = seq-shape in
+        let x = same-long in
+        let h = v .room .room in
+        let j = v .room .few in
+        let k = v .room .fits in
+        let m = v .room .low in
+        record { tree = t; end = n; read = e₁; room = omega arith; few = omega arith; fits = omega arith; low = omega arith }
+
+    module _ {r : Placed} {tbl₁ st₁ : List ℕ} (d : Built (Run level s (term o (i + 1))) tbl st u f r tbl₁ st₁) where
+      pub seq-fits : (u ≤ most) × (0 < u) × (r .used < most) × (nodeSize * (r .used + 1) ≤ length tbl₁)
+      seq-fits =
+          let (t, n, e₁, h₁, h₂) = seq-shape in
+          let y : t ≡ d .tree = cc (e₁, d .read) in
+          let c = ap (count {P = Span}) y in
+          let x = same-long in
+          let x₁ = laid-long (d .tree) tbl st u f tbl₁ st₁ (d .laid) in
+          let h = v .room .room in
+          let j = v .room .few in
+          let m = d .used-is in
+          let q = v .used-is in
+          (omega arith, omega arith, omega arith, omega arith)
+
+      pub seq-over : Over tbl₁ (r .used) b (r .to) × (u - 1 ≤ most)
+      seq-over =
+          let f = seq-fits in
+          let m = d .used-is in
+          (record { room = omega arith; from = v .short .1; to = d .short .1; few = omega arith; after = omega arith }, omega arith)
+
+      pub seq-more : {tbl₂ : List ℕ} → tbl₂ ≡ written tbl₁ (r .used) (recordOf (spanned b (r .to)) (Two Seq (u - 1) (r .used - 1)))
+          → (i < r .next) × BuildInv level s o at used free table store (r .next) (r .used + 1) (r .free) a b (r .to) chosen left tbl₂ st₁
+      unfolding join below
+      seq-more {tbl₂} q =
+          let p = went level s (term o (i + 1)) (d .tree) (r .next) (d .read) in
+          let x = p .on in
+          let y = p .within in
+          let m = seq-inside in
+          let y₁ = v .past in
+          let e₁ = d .used-is in
+          let e₂ = d .free-is in
+          let e₃ = v .used-is in
+          let e₄ = v .free-is in
+          let c₁ = count-join Seq (v .l) (d .tree) in
+          let c₂ = size-join Seq (v .l) (d .tree) in (
+            omega arith,
+            record {
+              room = v .room;
+              c = v .c;
+              l = join Seq (v .l) (d .tree);
+              meaning = seq-means ∙ next-good _ _ (d .read);
+              past = omega arith;
+              within = omega arith;
+              used-is = omega arith;
+              free-is = omega arith;
+              marked = v .marked;
+              low = v .low;
+              head-is = v .head-is ∙ head-join (v .c) (v .l) (d .tree);
+              from-is = v .from-is;
+              to-is = d .to-is;
+              short = (v .short .0, v .short .1, d .short .1);
+              held = seq-held (v .c) (v .l) (d .tree) table store used free tbl st tbl₁ st₁ tbl₂ u f (r .used) b (r .to) (v .held) (v .used-is) (v .free-is) (d .laid) (d .used-is) (v .from-is) (d .to-is) q;
+            },
+          )

@@ -109,7 +109,7 @@ opening-yes level s at f f₁ =
     let e : at + 2 ≡ at + 1 + 1 = omega arith in
     rw (f, f₁) (ap (λ (k : ℕ). From k (tagNodes level) (tagBytes level (length (label s at)))) e ∙ ap (From (at + 1 + 1) (tagNodes level)) (tag-length level (label s at)))
 
-module _ (level : Level) (s : List ℕ) (o at used free : ℕ) (table store : List ℕ) (g : TreeRoom (Run level s (term o at)) table store used free) where
+module _ (level : Level) (s : List ℕ) (o at : ℕ) {used free : ℕ} {table store : List ℕ} (g : TreeRoom (Run level s (term o at)) table store used free) where
   opening-is : openingOf level s at ≡ From (pastTag s at) (tagCount level s at) (length (tagText level s at))
   opening-is = go (is s at 19) refl
     where
@@ -135,155 +135,164 @@ module _ (level : Level) (s : List ℕ) (o at used free : ℕ) (table store : Li
       let h = g .fits in
       record { fits = omega arith }
 
-  module _ (store₁ : List ℕ) (mid from first : ℕ) (w : Wrote store free (tagText level s at) store₁ mid) (e : from ≡ pastTag s at) (v : Signed s from first) where
-    pub node-falls : unread s first ≤ unread s at
-    node-falls = falls-term level s at (pastTag s at) (tagCount level s at) (length (tagText level s at)) first opened-term (subst (λ (k : ℕ). Signed s k first) e v)
+-- a term whose tag is stored and whose predicates are passed: the node starts at `first`
+pub record Headed (level : Level) (s : List ℕ) (o at used free : ℕ) (table store store₁ : List ℕ) (mid from first : ℕ) : Type 0 where
+  pub room : TreeRoom (Run level s (term o at)) table store used free
+  pub short : length s ≤ 65536
+  pub tag : Wrote store free (tagText level s at) store₁ mid
+  pub past : from ≡ pastTag s at
+  pub signs : Signed s from first
 
-    abbrev finished : Tree Span → Tree Span
-    finished x = predicates s from (first - from) (bracketed s first x)
+module _ {level : Level} {s : List ℕ} {o at used free : ℕ} {table store store₁ : List ℕ} {mid from first : ℕ} (head : Headed level s o at used free table store store₁ mid from first) where
+  pub node-falls : unread s first ≤ unread s at
+  node-falls = falls-term level s at (pastTag s at) (tagCount level s at) (length (tagText level s at)) first (opened-term level s o at (head .room)) (subst (λ (k : ℕ). Signed s k first) (head .past) (head .signs))
 
-    grown-finished : (x : Tree Span) → (count (finished x) ≡ count x + (first - from)) × (size (finished x) ≡ size x)
-    grown-finished x =
-        let p = grown-bracket x (start s first) (is s first 6) in
-        let q = grown-signs s from (first - from) (bracketed s first x) in
-        let p₁ = p .counts in
-        let p₂ = p .sizes in
-        let q₁ = q .counts in
-        let q₂ = q .sizes in
-        (omega arith, omega arith)
+  abbrev finished : Tree Span → Tree Span
+  finished x = predicates s from (first - from) (bracketed s first x)
 
-    signed-read : Run level s (signed o (pastTag s at)) ≡ next (Run level s (node o first)) (λ t n. next (Run level s (posts t n)) (λ x m. got (finished x) m))
-    signed-read =
-        ap (λ (k : ℕ). Run level s (signed o k)) (sym e) ∙ v .same level o
-        ∙ ap (λ (m : Parsed). next m (λ t n. got (predicates s from (first - from) t) n)) (signed-law level s o first ∙ choose-false (is s first 8) _ _ (v .noPos) ∙ choose-false (is s first 9) _ _ (v .noNeg))
-        ∙ next-assoc (Run level s (node o first)) _ _
-        ∙ next-fun (Run level s (node o first)) _ _ (λ t n. next-assoc (Run level s (posts t n)) _ _ ∙ next-fun (Run level s (posts t n)) _ _ (λ x m. next-on _ _ _))
+  grown-finished : (x : Tree Span) → (count (finished x) ≡ count x + (first - from)) × (size (finished x) ≡ size x)
+  grown-finished x =
+      let p = grown-bracket x (start s first) (is s first 6) in
+      let q = grown-signs s from (first - from) (bracketed s first x) in
+      let p₁ = p .counts in
+      let p₂ = p .sizes in
+      let q₁ = q .counts in
+      let q₂ = q .sizes in
+      (omega arith, omega arith)
 
-    pub node-room : TreeRoom (Run level s (node o first)) table store₁ used mid
-    node-room =
-        let (x, n, e₁, c, d) = signed-shape in
-        let (t, i, k₁, k₂) = next-got _ _ (sym signed-read ∙ e₁) in
-        let (y, j, k₃, k₄) = next-got _ _ k₂ in
-        let q = went level s (posts t i) y j k₃ in
-        let m₁ = q .more in
-        let m₂ = q .large in
-        let z : finished y ≡ x = cc k₄ in
+  signed-read : Run level s (signed o (pastTag s at)) ≡ next (Run level s (node o first)) (λ t n. next (Run level s (posts t n)) (λ x m. got (finished x) m))
+  signed-read =
+      ap (λ (k : ℕ). Run level s (signed o k)) (sym (head .past)) ∙ head .signs .same level o
+      ∙ ap (λ (m : Parsed). next m (λ t n. got (predicates s from (first - from) t) n)) (signed-law level s o first ∙ choose-false (is s first 8) _ _ (head .signs .noPos) ∙ choose-false (is s first 9) _ _ (head .signs .noNeg))
+      ∙ next-assoc (Run level s (node o first)) _ _
+      ∙ next-fun (Run level s (node o first)) _ _ (λ t n. next-assoc (Run level s (posts t n)) _ _ ∙ next-fun (Run level s (posts t n)) _ _ (λ x m. next-on _ _ _))
+
+  pub node-room : TreeRoom (Run level s (node o first)) table store₁ used mid
+  node-room =
+      let (x, n, e₁, c, d) = signed-shape level s o at (head .room) in
+      let (t, i, k₁, k₂) = next-got _ _ (sym signed-read ∙ e₁) in
+      let (y, j, k₃, k₄) = next-got _ _ k₂ in
+      let q = went level s (posts t i) y j k₃ in
+      let m₁ = q .more in
+      let m₂ = q .large in
+      let z : finished y ≡ x = cc k₄ in
+      let z₁ = ap (count {P = Span}) z in
+      let z₂ = ap (size {P = Span}) z in
+      let f = grown-finished y in
+      let l = wrote-length (head .tag) in
+      let r = head .tag .next in
+      let h₁ = head .room .room in
+      let h₂ = head .room .few in
+      let h₃ = head .room .fits in
+      let h₄ = head .room .low in
+      record { tree = t; end = i; read = k₁; room = omega arith; few = omega arith; fits = omega arith; low = omega arith }
+
+  module _ {r : Placed} {tbl st : List ℕ} (d : Built (Run level s (node o first)) table store₁ used mid r tbl st) where
+    -- the tree with its postfixes, and how much room there is for what comes after them
+    trailed : (x : Tree Span) × (n : ℕ) × (Run level s (posts (d .tree) (r .next)) ≡ got x n) × (Run level s (signed o (pastTag s at)) ≡ got (finished x) n)
+        × (count (head .room .tree) ≡ count x + (first - from) + tagCount level s at) × (count (d .tree) ≤ count x)
+    trailed =
+        let (x, n, e₁, c, _) = signed-shape level s o at (head .room) in
+        let y = signed-read ∙ next-good _ _ (d .read) in
+        let (t, i, k₁, k₂) = next-got _ _ (sym y ∙ e₁) in
+        let q = went level s (posts (d .tree) (r .next)) t i k₁ .more in
+        let z : finished t ≡ x = cc k₂ in
         let z₁ = ap (count {P = Span}) z in
-        let z₂ = ap (size {P = Span}) z in
-        let f = grown-finished y in
-        let l = wrote-length w in
-        let r = w .next in
-        let h₁ = g .room in
-        let h₂ = g .few in
-        let h₃ = g .fits in
-        let h₄ = g .low in
-        record { tree = t; end = i; read = k₁; room = omega arith; few = omega arith; fits = omega arith; low = omega arith }
+        let f = grown-finished t in
+        (t, i, k₁, y ∙ next-good _ _ k₁, omega arith, q)
 
-    module _ (r : Placed) (tbl st : List ℕ) (d : Built (Run level s (node o first)) table store₁ used mid r tbl st) where
-      -- the tree with its postfixes, and how much room there is for what comes after them
-      trailed : (x : Tree Span) × (n : ℕ) × (Run level s (posts (d .tree) (r .next)) ≡ got x n) × (Run level s (signed o (pastTag s at)) ≡ got (finished x) n)
-          × (count (g .tree) ≡ count x + (first - from) + tagCount level s at) × (count (d .tree) ≤ count x)
-      trailed =
-          let (x, n, e₁, c, _) = signed-shape in
-          let y = signed-read ∙ next-good _ _ (d .read) in
-          let (t, i, k₁, k₂) = next-got _ _ (sym y ∙ e₁) in
-          let q = went level s (posts (d .tree) (r .next)) t i k₁ .more in
-          let z : finished t ≡ x = cc k₂ in
-          let z₁ = ap (count {P = Span}) z in
-          let f = grown-finished t in
-          (t, i, k₁, y ∙ next-good _ _ k₁, omega arith, q)
+    pub posts-room : PostsRoom s tbl (r .next) (r .used) (r .from) (r .to)
+    posts-room =
+        let (x, n, e₁, e₂, c, m) = trailed in
+        let l = laid-long (d .tree) table store₁ used mid tbl st (d .laid) in
+        let h₁ = head .room .room in
+        let h₂ = head .room .few in
+        let u = d .used-is in
+        record {
+          level = level;
+          tree = d .tree;
+          out = x;
+          end = n;
+          read = e₁;
+          from-is = d .from-is;
+          to-is = d .to-is;
+          room = omega arith;
+          few = omega arith;
+          after = omega arith;
+          start = d .short .0;
+          stop = d .short .1;
+        }
 
-      pub posts-room : PostsRoom s tbl (r .next) (r .used) (r .from) (r .to)
-      posts-room =
+    module _ {tail : PutPostfixes} {tbl₁ : List ℕ} (p : PostsPut s (r .next) (r .used) (r .from) (r .to) tbl tail tbl₁) where
+      trails : Trails (d .tree) (trailed .0) (trailed .1) (r .used) (r .from) tbl tail tbl₁
+      trails = p .same level (d .tree) (d .from-is) (d .to-is) (trailed .0) (trailed .1) (trailed .2)
+
+      tail-room : (length tbl₁ ≡ length table) × (tail .used ≡ used + count (trailed .0)) × (nodeSize * (tail .used + (first - from) + tagCount level s at) ≤ length table)
+          × (tail .used + (first - from) + tagCount level s at ≤ most)
+      tail-room =
           let (x, n, e₁, e₂, c, m) = trailed in
           let l = laid-long (d .tree) table store₁ used mid tbl st (d .laid) in
-          let h₁ = g .room in
-          let h₂ = g .few in
+          let h = p .long in
+          let h₁ = head .room .room in
+          let h₂ = head .room .few in
           let u = d .used-is in
-          record {
-            level = level;
-            tree = d .tree;
-            out = x;
-            end = n;
-            read = e₁;
-            from-is = d .from-is;
-            to-is = d .to-is;
-            room = omega arith;
-            few = omega arith;
-            after = omega arith;
-            start = d .short .0;
-            stop = d .short .1;
-          }
+          let t = trails .used-is in
+          (omega arith, omega arith, omega arith, omega arith)
 
-      module _ (tail : PutPostfixes) (tbl₁ : List ℕ) (p : PostsPut s (r .next) (r .used) (r .from) (r .to) tbl tail tbl₁) where
-        trails : Trails (d .tree) (trailed .0) (trailed .1) (r .used) (r .from) tbl tail tbl₁
-        trails = p .same level (d .tree) (d .from-is) (d .to-is) (trailed .0) (trailed .1) (trailed .2)
+      pub open-room : (nodeSize * tail .used ≤ length tbl₁) × (0 < tail .used)
+      open-room = let q = tail-room in (omega arith, omega arith)
 
-        tail-room : (length tbl₁ ≡ length table) × (tail .used ≡ used + count (trailed .0)) × (nodeSize * (tail .used + (first - from) + tagCount level s at) ≤ length table)
-            × (tail .used + (first - from) + tagCount level s at ≤ most)
-        tail-room =
-            let (x, n, e₁, e₂, c, m) = trailed in
-            let l = laid-long (d .tree) table store₁ used mid tbl st (d .laid) in
-            let h = p .long in
-            let h₁ = g .room in
-            let h₂ = g .few in
-            let u = d .used-is in
-            let t = trails .used-is in
-            (omega arith, omega arith, omega arith, omega arith)
+      module _ {tbl₂ : List ℕ} (q : Opened s first (tail .used) tbl₁ tbl₂) where
+        pub signs-room : SignsRoom tbl₂ from first (tail .to) (tail .used)
+        signs-room =
+            let h = tail-room in
+            let l = q .long in
+            record { from = head .signs .from; room = omega arith; few = omega arith; to = p .stop; after = omega arith }
 
-        pub open-room : (nodeSize * tail .used ≤ length tbl₁) × (0 < tail .used)
-        open-room = let q = tail-room in (omega arith, omega arith)
+        module _ {u : ℕ} {tbl₃ : List ℕ} (z : (u ≡ tail .used + (first - from)) × SignsPut s from first (tail .to) (tail .used) tbl₂ tbl₃) {a : ℕ} (b : a ≡ termStart s from first (r .from)) where
+          abbrev rest : Placed
+          rest = record { next = tail .next; used = u; free = r .free; from = a; to = tail .to }
 
-        module _ (tbl₂ : List ℕ) (q : Opened s first (tail .used) tbl₁ tbl₂) where
-          pub signs-room : SignsRoom tbl₂ from first (tail .to) (tail .used)
-          signs-room =
+          signed-built : Built (Run level s (signed o (pastTag s at))) table store₁ used mid rest tbl₃ st
+          signed-built =
+              let x = trailed .0 in
+              let h = trails in
+              let k = tail-room in
+              let c = grown-finished x in
+              let i = d .free-is in
+              let y = z .0 in
+              let j = ap length (h .kept) in
+              let x₁ = bracketed s first x in
+              let f = grown-bracket x (start s first) (is s first 6) .counts in
+              let e₁ : tail .to ≡ placeOf x₁ .stop = h .to-is ∙ sym (stop-bracket x (start s first) (is s first 6)) in
+              let e₂ = head-low s from first (r .from) (head .short) (d .short .0) in
+              record {
+                tree = finished x;
+                read = trailed .3 ∙ ap (got (finished x)) (sym (h .next-is));
+                used-is = omega arith;
+                free-is = omega arith;
+                from-is = b ∙ head-is s from first x (r .from) (head .signs .from) (h .from-is);
+                to-is = e₁ ∙ sym (stop-signs s from (first - from) x₁);
+                short = (omega arith, p .stop);
+                laid = record {
+                  holds = z .1 .same table x₁ used mid (omega arith) (sym e₁) (q .same table x used mid (omega arith) (h .holds table used mid (d .used-is) (d .laid .holds)));
+                  keeps = d .laid .keeps ∙ ap (sets store₁ mid) (sym (stored-signs s from (first - from) x₁ ∙ stored-bracket x (start s first) (is s first 6) ∙ h .kept));
+                };
+              }
+
+          pub tie-room : TagRoom level s tbl₃ at free mid rest
+          tie-room =
               let h = tail-room in
-              let l = q .long in
-              record { from = v .from; room = omega arith; few = omega arith; to = p .stop; after = omega arith }
+              let l₁ = q .long in
+              let l₂ = z .1 .long in
+              let y = z .0 in
+              let (_, _, _, _, i) = signed-shape level s o at (head .room) in
+              let j = head .room .low in
+              let k = head .tag .next in
+              record { room = omega arith; few = omega arith; after = omega arith; to = p .stop; past = omega arith; low = omega arith }
 
-          module _ (u : ℕ) (tbl₃ : List ℕ) (y : u ≡ tail .used + (first - from)) (z : SignsPut s from first (tail .to) (tail .used) tbl₂ tbl₃) (a : ℕ) (b : a ≡ termStart s from first (r .from))
-              (short : length s ≤ 65536) where
-            abbrev rest : Placed
-            rest = record { next = tail .next; used = u; free = r .free; from = a; to = tail .to }
+          pub term-built : {out : Placed} {tbl₄ : List ℕ} → Tied level s at free mid rest tbl₃ out tbl₄ → Built (Run level s (term o at)) table store used free out tbl₄ st
+          term-built t = t .same o used table store store₁ st (head .tag) (head .room) signed-built
 
-            signed-built : Built (Run level s (signed o (pastTag s at))) table store₁ used mid rest tbl₃ st
-            signed-built =
-                let x = trailed .0 in
-                let h = trails in
-                let k = tail-room in
-                let c = grown-finished x in
-                let i = d .free-is in
-                let j = ap length (h .kept) in
-                let x₁ = bracketed s first x in
-                let f = grown-bracket x (start s first) (is s first 6) .counts in
-                let e₁ : tail .to ≡ placeOf x₁ .stop = h .to-is ∙ sym (stop-bracket x (start s first) (is s first 6)) in
-                let e₂ = head-low s from first (r .from) short (d .short .0) in
-                record {
-                  tree = finished x;
-                  read = trailed .3 ∙ ap (got (finished x)) (sym (h .next-is));
-                  used-is = omega arith;
-                  free-is = omega arith;
-                  from-is = b ∙ head-is s from first x (r .from) (v .from) (h .from-is);
-                  to-is = e₁ ∙ sym (stop-signs s from (first - from) x₁);
-                  short = (omega arith, p .stop);
-                  laid = record {
-                    holds = z .same table x₁ used mid (omega arith) (sym e₁) (q .same table x used mid (omega arith) (h .holds table used mid (d .used-is) (d .laid .holds)));
-                    keeps = d .laid .keeps ∙ ap (sets store₁ mid) (sym (stored-signs s from (first - from) x₁ ∙ stored-bracket x (start s first) (is s first 6) ∙ h .kept));
-                  };
-                }
-
-            pub tie-room : TagRoom level s tbl₃ at free mid rest
-            tie-room =
-                let h = tail-room in
-                let l₁ = q .long in
-                let l₂ = z .long in
-                let (_, _, _, _, i) = signed-shape in
-                let j = g .low in
-                let k = w .next in
-                record { room = omega arith; few = omega arith; after = omega arith; to = p .stop; past = omega arith; low = omega arith }
-
-            pub term-built : (out : Placed) (tbl₄ : List ℕ) → Tied level s at free mid rest tbl₃ out tbl₄ → Built (Run level s (term o at)) table store used free out tbl₄ st
-            term-built out tbl₄ t = t .same o used table store store₁ st w g signed-built
-
-pub built-long : (m : Parsed) (table store : List ℕ) (used free : ℕ) (r : Placed) (tbl st : List ℕ) → Built m table store used free r tbl st → (length tbl ≡ length table) × (length st ≡ length store)
-built-long m table store used free r tbl st d = laid-long (d .tree) table store used free tbl st (d .laid)
+pub built-long : {m : Parsed} {table store : List ℕ} {used free : ℕ} {r : Placed} {tbl st : List ℕ} → Built m table store used free r tbl st → (length tbl ≡ length table) × (length st ≡ length store)
+built-long {m} {table} {store} {used} {free} {r} {tbl} {st} d = laid-long (d .tree) table store used free tbl st (d .laid)
