@@ -1,3 +1,4 @@
+-- At most all of the output is lent (`part`), so the part lies in it.
 use lib.Seq.{length-take-le}
 use mathlib.Core.Path.{sym}
 use borrow.Author.Needs.{needs}
