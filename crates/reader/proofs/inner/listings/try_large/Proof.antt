@@ -1,4 +1,4 @@
--- A table of 196608 numbers has 65536 rows; what `work` ensures for so many is handed on.
+-- A table of 196608 numbers has 65536 rows; what `list_and_read` ensures for so many is handed on.
 use borrow.Author.Needs.{needs}
 use Rattle.reader.proofs.inner.listings.try_large.Statement.{statement}
 use Rattle.reader.proofs.inner.listings.try_large.Tie as tie
