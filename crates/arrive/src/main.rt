@@ -7,6 +7,8 @@
 use states::Call;
 use states::Feed;
 use text::Put;
+use text::limits;
+use token::inner::listing::TOKEN_SIZE;
 
 // What to keep for the next packet; or the program is to end, and has told why.
 enum Turn {
@@ -105,7 +107,7 @@ fn take_turn(state: Feed, list: &mut [u32]) -> Turn {
 }
 
 fn main() {
-    let mut list = [0u32; 196608];
+    let mut list = [0u32; TOKEN_SIZE * limits::TEXT];
     let mut state = fresh();
     // a proved loop has to end: no run uses up its turns
     let mut turns = u64::MAX;

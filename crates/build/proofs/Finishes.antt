@@ -14,6 +14,7 @@ use Rattle.text.specs.Splice.{Wrote}
 use Rattle.text.specs.Splice as Splice
 use Rattle.text.proofs.Splices.{wrote-length}
 use Rattle.text.proofs.Booleans.{choose-false, choose-true}
+use Rattle.text.specs.Limits.{maxText}
 use Rattle.token.specs.Table.{start, is, label}
 use Rattle.token.proofs.Table.{low}
 use Rattle.table.specs.Tree.{Span, Tree, count, size, stored, placeOf, startsAt}
@@ -85,7 +86,7 @@ head-is s from first v a h e = go (decLt from first)
         choose-false (ltb from first) _ _ (le-ltb from first (omega arith)) ∙ ap (λ (k : ℕ). choose (is s first 6) (λ u. start s first) (λ u. k)) e
         ∙ sym (ap (λ (τ : Tree Span). placeOf τ .start) (no-signs s from (first - from) (bracketed s first v) (omega arith)) ∙ start-bracket v (start s first) (is s first 6))
 
-head-low : (s : List ℕ) (from first a : ℕ) → length s ≤ 65536 → a ≤ most → termStart s from first a ≤ most
+head-low : (s : List ℕ) (from first a : ℕ) → length s ≤ maxText → a ≤ most → termStart s from first a ≤ most
 head-low s from first a h l = let l₁ = low s from in let l₂ = low s first in go (ltb from first) (is s first 6) (start s from) (start s first) (omega arith) (omega arith)
   where
     go : (b c : Bool) (x y : ℕ) → x ≤ most → y ≤ most → choose b (λ u. x) (λ u. choose c (λ u. y) (λ u. a)) ≤ most
@@ -138,7 +139,7 @@ module _ (level : Level) (s : List ℕ) (o at : ℕ) {used free : ℕ} {table st
 -- a term whose tag is stored and whose predicates are passed: the node starts at `first`
 pub record Headed (level : Level) (s : List ℕ) (o at used free : ℕ) (table store store₁ : List ℕ) (mid from first : ℕ) : Type 0 where
   pub room : TreeRoom (Run level s (term o at)) table store used free
-  pub short : length s ≤ 65536
+  pub short : length s ≤ maxText
   pub tag : Wrote store free (tagText level s at) store₁ mid
   pub past : from ≡ pastTag s at
   pub signs : Signed s from first

@@ -8,7 +8,7 @@ use lib.ListN.{length}
 use lib.Seq.{sets}
 use Rattle.text.specs.Splice.{Wrote}
 use Rattle.text.specs.Splice as Splice
-use Rattle.text.specs.declared.Check.the-variants as Check
+use Rattle.text.specs.declared.Scan.the-variants as Scan
 use Rattle.literal.specs.Escapes.{badEscape, unescaped}
 use Rattle.table.specs.declared.Sort.{Sort}
 use Rattle.table.specs.declared.Sort.the-variants.{Str, Insens, Ident, PushLiteral}
@@ -21,6 +21,7 @@ use Rattle.table.specs.Flat.{recordOf}
 use Rattle.table.specs.Flat as Flat
 use Rattle.text.specs.Booleans.{choose, and}
 use Rattle.text.proofs.Booleans.{and-left, choose-false, choose-true, split}
+use Rattle.text.specs.Limits.{maxText}
 use Rattle.token.specs.Table.{toks, start, end, is, between, word}
 use Rattle.token.specs.Tokens.{pushLiteral}
 use Rattle.token.proofs.Table.{low, spans, word-is, part-length}
@@ -77,7 +78,7 @@ module _ (table store : List ℕ) (used free : ℕ) where
 
 -- ---- a word
 
-module _ (s table store : List ℕ) (at used free : ℕ) (short : length s ≤ 65536) (here : at < length (toks s))
+module _ (s table store : List ℕ) (at used free : ℕ) (short : length s ≤ maxText) (here : at < length (toks s))
     (g : TreeRoom (got (leaf (across s at at) (text Ident (word s at))) (at + 1)) table store used free) (a z : ℕ) (e₁ : a ≡ start s at) (e₂ : z ≡ end s at) where
   word-bytes : length (between s a z) ≡ length (word s at)
   word-bytes = ap length (word-is s at a z e₁ e₂)
@@ -113,9 +114,9 @@ module _ (s table store : List ℕ) (at used free : ℕ) (short : length s ≤ 6
 
 -- ---- a string, of any sort
 
-module _ (s table store : List ℕ) (at next used free : ℕ) (sort : Sort) (short : length s ≤ 65536) (long : start s at + opening s at < end s at) (good : badEscape (literalBytes s at) ≡ Check.Good)
+module _ (s table store : List ℕ) (at next used free : ℕ) (sort : Sort) (short : length s ≤ maxText) (long : start s at + opening s at < end s at) (good : badEscape (literalBytes s at) ≡ Scan.Through)
     (g : TreeRoom (got (leaf (across s at at) (text sort (string s at))) next) table store used free) (a z k : ℕ) (e₁ : a ≡ start s at) (e₂ : z ≡ end s at) (e₃ : k ≡ opening s at) where
-  pub string-inside : (1 ≤ z) × (z ≤ 65536) × (z - 1 ≤ length s) × (a ≤ 65536) × (a + k ≤ z - 1)
+  pub string-inside : (1 ≤ z) × (z ≤ maxText) × (z - 1 ≤ length s) × (a ≤ maxText) × (a + k ≤ z - 1)
   string-inside = let p = low s at in (omega arith, omega arith, omega arith, omega arith, omega arith)
 
   string-part : between s (a + k) (z - 1) ≡ literalBytes s at
@@ -127,7 +128,7 @@ module _ (s table store : List ℕ) (at next used free : ℕ) (sort : Sort) (sho
   unfolding string
   string-is = ap unescaped string-part
 
-  pub string-good : badEscape (between s (a + k) (z - 1)) ≡ Check.Good
+  pub string-good : badEscape (between s (a + k) (z - 1)) ≡ Scan.Through
   string-good = ap badEscape string-part ∙ good
 
   string-leaf : LeafRoom table store used free (length (string s at))
@@ -185,7 +186,7 @@ built-same e d = record {
 
 -- ---- a leaf without a text
 
-module _ (s table : List ℕ) (used free : ℕ) (short : length s ≤ 65536) (i j a z : ℕ) (e₁ : a ≡ start s i) (e₂ : z ≡ end s j) where
+module _ (s table : List ℕ) (used free : ℕ) (short : length s ≤ maxText) (i j a z : ℕ) (e₁ : a ≡ start s i) (e₂ : z ≡ end s j) where
   bare-low : (start s i ≤ most) × (end s j ≤ most)
   bare-low = let p = low s i in let q = low s j in (omega arith, omega arith)
 

@@ -6,6 +6,7 @@ use mathlib.Core.List.{List, []}
 use native.Mathlib.Omega.{arith}
 use lib.ListN.{length}
 use lib.Seq.{sets}
+use Rattle.text.specs.Limits.{maxText}
 use Rattle.token.specs.Table.{toks, kind, start, end}
 use Rattle.token.proofs.Table.{low}
 use Rattle.table.specs.declared.Unary.{Unary}
@@ -65,7 +66,7 @@ signs-start s table at last z used g =
       },
     )
 
-module _ (s table : List ℕ) (at last z used : ℕ) (short : length s ≤ 65536) (g : SignsRoom table at last z used) (tbl : List ℕ) (i u : ℕ) (v : SignsInv s table at last z used tbl i u) (h : at < i) where
+module _ (s table : List ℕ) (at last z used : ℕ) (short : length s ≤ maxText) (g : SignsRoom table at last z used) (tbl : List ℕ) (i u : ℕ) (v : SignsInv s table at last z used tbl i u) (h : at < i) where
   pub signs-over : (a : ℕ) → a ≡ start s (i - 1) → Over tbl u a z
   signs-over a e =
       let l = low s (i - 1) in
@@ -168,7 +169,7 @@ was-none (post w m) r v e q = let z : _≡_ {A = ℕ} 0 1 = cc in absurd (omega 
 was-none (notPost x) r v e q = absurd (v .good x refl)
 was-none noPost r v e q = refl
 
-module _ (s table : List ℕ) (at used from to : ℕ) (short : length s ≤ 65536) (g : PostsRoom s table at used from to) (tbl : List ℕ) (i u z : ℕ) (v : PostsInv s table at used from to tbl i u z) where
+module _ (s table : List ℕ) (at used from to : ℕ) (short : length s ≤ maxText) (g : PostsRoom s table at used from to) (tbl : List ℕ) (i u z : ℕ) (v : PostsInv s table at used from to tbl i u z) where
   now : Along (g .level) s table at used from (g .tree) tbl i u z
   now = v .same (g .level) (g .tree) (g .from-is) (g .to-is)
 

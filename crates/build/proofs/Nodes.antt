@@ -10,6 +10,7 @@ use lib.Seq.{sets}
 use borrow.Author.Tests.{leb-false}
 use Rattle.text.specs.Words.{push}
 use Rattle.text.proofs.Booleans.{choose-false, choose-true}
+use Rattle.text.specs.Limits.{maxOpen, maxText}
 use Rattle.token.proofs.Lists.{few}
 use Rattle.token.specs.Table.{toks, start, end, is}
 use Rattle.table.specs.declared.Unary.the-variants.{Push}
@@ -21,7 +22,7 @@ use Rattle.table.specs.Flat.{recordOf, flat}
 use Rattle.structure.specs.declared.Level.{Level}
 use Rattle.structure.specs.Answers.{unread}
 use Rattle.structure.specs.Tokens.{spells}
-use Rattle.structure.specs.Structure.{got, refused, next, want, limit, prefixed, expr, node, Run, leafAt}
+use Rattle.structure.specs.Structure.{got, refused, next, want, prefixed, expr, node, Run, leafAt}
 use Rattle.structure.proofs.Steps.{inside-is, next-got, next-good, want-true, want-got, opened-got, opened-false}
 use Rattle.structure.proofs.Wants.{fewer}
 use Rattle.structure.proofs.Sizes.{stored-placed, grown-ends, grown-before}
@@ -42,24 +43,24 @@ place-placed p (two _ j a b) = refl
 
 pub record Grouped (level : Level) (s : List ℕ) (o at used free : ℕ) (table store : List ℕ) : Type 0 where
   pub room : TreeRoom (Run level s (node o at)) table store used free
-  pub short : length s ≤ 65536
+  pub short : length s ≤ maxText
   pub opens : is s at 6 ≡ true
 
 module _ {level : Level} {s : List ℕ} {o at used free : ℕ} {table store : List ℕ} (b : Grouped level s o at used free table store) where
   group-token : at < length (toks s)
   group-token = inside-is s at 6 (omega arith) (b .opens)
 
-  pub group-in : at < 65536
+  pub group-in : at < maxText
   group-in = omega (arith, group-token, few s, b .short)
 
   pub group-falls : unread s (at + 1) < unread s at
   group-falls = fewer s at (at + 1) (omega arith) (omega (arith, group-token))
 
-  group-open : leb limit o ≡ false
+  group-open : leb maxOpen o ≡ false
   group-open = opened-got o s at _ (sym (node-law level s o at ∙ choose-true (is s at 6) _ _ (b .opens)) ∙ b .room .read) .0
 
-  pub group-deep : o < 1024
-  group-deep = leb-false limit o group-open
+  pub group-deep : o < maxOpen
+  group-deep = leb-false maxOpen o group-open
 
   group-read : Run level s (node o at) ≡ next (Run level s (expr (o + 1) (at + 1))) (λ t n. want refused s n 7 (λ m. got (endsAt t (end s n)) m))
   group-read = node-law level s o at ∙ choose-true (is s at 6) _ _ (b .opens) ∙ opened-false o s at _ group-open
@@ -95,7 +96,7 @@ module _ {level : Level} {s : List ℕ} {o at used free : ℕ} {table store : Li
   group-shut : {r : Placed} {tbl st : List ℕ} → Built (Run level s (expr (o + 1) (at + 1))) table store used free r tbl st → (is s (r .next) 7 ≡ true) × (r .next < length (toks s))
   group-shut {r} {tbl} {st} d = let (a, p, e) = want-got s (r .next) 7 _ (omega arith) (sym (group-read ∙ next-good _ _ (d .read)) ∙ b .room .read) in (a, p)
 
-  pub group-within : {r : Placed} {tbl st : List ℕ} → Built (Run level s (expr (o + 1) (at + 1))) table store used free r tbl st → r .next < 65536
+  pub group-within : {r : Placed} {tbl st : List ℕ} → Built (Run level s (expr (o + 1) (at + 1))) table store used free r tbl st → r .next < maxText
   group-within d = omega (arith, group-shut d .1, few s, b .short)
 
   pub group-built : {r : Placed} {tbl st : List ℕ} → Built (Run level s (expr (o + 1) (at + 1))) table store used free r tbl st → {z : ℕ} → z ≡ end s (r .next)
@@ -128,18 +129,18 @@ module _ {level : Level} {s : List ℕ} {o at used free : ℕ} {table store : Li
 
 pub record Pushed (level : Level) (s : List ℕ) (o at used free : ℕ) (table store : List ℕ) : Type 0 where
   pub room : TreeRoom (Run level s (node o at)) table store used free
-  pub short : length s ≤ 65536
+  pub short : length s ≤ maxText
   pub bare : is s at 6 ≡ false
   pub pushes : spells push s at ≡ true
 
 module _ {level : Level} {s : List ℕ} {o at used free : ℕ} {table store : List ℕ} (b : Pushed level s o at used free table store) where
-  push-shape : (is s (at + 1) 6 ≡ true) × (at + 1 < length (toks s)) × (leb limit o ≡ false)
+  push-shape : (is s (at + 1) 6 ≡ true) × (at + 1 < length (toks s)) × (leb maxOpen o ≡ false)
   push-shape =
       let (a, p, e) = want-got s (at + 1) 6 _ (omega arith) (sym (node-law level s o at ∙ choose-false (is s at 6) _ _ (b .bare) ∙ choose-true (spells push s at) _ _ (b .pushes)) ∙ b .room .read) in
       (a, p, opened-got o s (at + 1) _ e .0)
 
-  pub push-in : (at + 1 < 65536) × (o < 1024)
-  push-in = (omega (arith, push-shape .1, few s, b .short), leb-false limit o (push-shape .2))
+  pub push-in : (at + 1 < maxText) × (o < maxOpen)
+  push-in = (omega (arith, push-shape .1, few s, b .short), leb-false maxOpen o (push-shape .2))
 
   pub push-falls : unread s (at + 1 + 1) < unread s at
   push-falls = fewer s at (at + 1 + 1) (omega arith) (omega (arith, push-shape .1))
@@ -173,7 +174,7 @@ module _ {level : Level} {s : List ℕ} {o at used free : ℕ} {table store : Li
 
   -- there is room for the node above, and its number fits
   pub push-within : {r : Placed} {tbl st : List ℕ} → Built (Run level s (expr (o + 1) (at + 1 + 1))) table store used free r tbl st
-      → (r .next < 65536) × (r .used < most) × (0 < r .used) × (nodeSize * (r .used + 1) ≤ length tbl)
+      → (r .next < maxText) × (r .used < most) × (0 < r .used) × (nodeSize * (r .used + 1) ≤ length tbl)
   push-within {r} {tbl} {st} d =
       let c = ap (count {P = Span}) (push-shut d .2) in
       let w₁ = grown-before (start s at) Push (d .tree) .counts in

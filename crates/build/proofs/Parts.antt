@@ -6,6 +6,7 @@ use mathlib.Core.List.{List}
 use native.Mathlib.Omega.{arith}
 use lib.ListN.{length}
 use borrow.Author.Tests.{eqb-true, ne-eqb}
+use Rattle.text.specs.Limits.{maxText}
 use Rattle.token.specs.Lists.{tok}
 use Rattle.token.proofs.Bounds.{least}
 use Rattle.token.proofs.Lists.{inside-at}
@@ -61,8 +62,8 @@ module _ (s : List ℕ) (i : ℕ) where
 
 -- ---- places fit 32 bits
 
-pub start-low : (s : List ℕ) (i a : ℕ) → length s ≤ 65536 → a ≡ start s i → a ≤ most
+pub start-low : (s : List ℕ) (i a : ℕ) → length s ≤ maxText → a ≡ start s i → a ≤ most
 start-low s i a h e = let l = low s i in omega arith
 
-pub end-low : (s : List ℕ) (i z : ℕ) → length s ≤ 65536 → z ≡ end s i → z ≤ most
+pub end-low : (s : List ℕ) (i z : ℕ) → length s ≤ maxText → z ≡ end s i → z ≤ most
 end-low s i z h e = let l = low s i in omega arith

@@ -11,6 +11,7 @@ use Rattle.text.specs.Splice.{Wrote}
 use Rattle.text.specs.Splice as Splice
 use Rattle.text.proofs.Splices.{sets-front}
 use Rattle.text.proofs.Booleans.{split}
+use Rattle.text.specs.Limits.{maxText}
 use Rattle.table.specs.Tree.{Span, Tree, Rule, below, count, counts, size, stored, ruleStored, rulesStored}
 use Rattle.table.specs.Flat.{flat, ruleRecord, nodesFrom, recordsFrom, nodesOf, recordsOf}
 use Rattle.table.proofs.Flats.{length-flat}
@@ -49,8 +50,8 @@ made s at t = record { name = word s at; mark = markAt s (at + 1 + 1); tree = t;
 pub mark-near : (s : List ℕ) (i x : ℕ) → x ≡ pastMark s i → x ≤ i + 1
 mark-near s i x e = split (eqb (markAt s i) 0) _ _ (λ a f. omega arith) (λ a f. omega arith) (sym e)
 
-module _ (level : Level) (s nodes rows store : List ℕ) (at index used free : ℕ) (short : length s ≤ 65536) (g : RuleRoom (ruleFrom level s at) nodes rows store index used free) where
-  pub rule-inside : (at + count (g .rule .tree) < g .end) × (g .end ≤ length (toks s)) × (length (toks s) ≤ 65536)
+module _ (level : Level) (s nodes rows store : List ℕ) (at index used free : ℕ) (short : length s ≤ maxText) (g : RuleRoom (ruleFrom level s at) nodes rows store index used free) where
+  pub rule-inside : (at + count (g .rule .tree) < g .end) × (g .end ≤ length (toks s)) × (length (toks s) ≤ maxText)
   rule-inside = let p = rule-went level s at (g .rule) (g .end) short (g .read) in let f = few s in (p .0, p .1, omega arith)
 
   module _ (a z : ℕ) (e₁ : a ≡ start s at) (e₂ : z ≡ end s at) where
@@ -105,7 +106,7 @@ module _ (level : Level) (s nodes rows store : List ℕ) (at index used free : �
         rule-is : g .rule ≡ made s at (b .tree)
         rule-is = rule-read level s at (g .read) .rule ∙ ap (made s at) tree-is
 
-        pub past-inside : r .next + 1 ≤ 65536
+        pub past-inside : r .next + 1 ≤ maxText
         past-inside =
             let p = past-is in
             let q = rule-read level s at (g .read) .next in
@@ -279,7 +280,7 @@ module _ (level : Level) (s : List ℕ) where
               low = omega arith;
             }
 
-        module _ (short : length s ≤ 65536) (r : RuleEnd) (nodes₁ rows₁ store₁ : List ℕ) (d : RuleBuilt (ruleFrom level s i) nodes rows store index used free r nodes₁ rows₁ store₁) where
+        module _ (short : length s ≤ maxText) (r : RuleEnd) (nodes₁ rows₁ store₁ : List ℕ) (d : RuleBuilt (ruleFrom level s i) nodes rows store index used free r nodes₁ rows₁ store₁) where
           pub rules-more : (i < r .next) × RulesInv us nodes₀ rows₀ store₀ (r .next) (index + 1) (r .used) (r .free) nodes₁ rows₁ store₁
           unfolding counts rulesStored nodesFrom recordsFrom
           rules-more =

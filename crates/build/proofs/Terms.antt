@@ -12,6 +12,7 @@ use Rattle.text.specs.Splice.{Wrote}
 use Rattle.text.specs.Splice as Splice
 use Rattle.text.proofs.Splices.{wrote-none}
 use Rattle.text.proofs.Booleans.{choose-false, choose-true}
+use Rattle.text.specs.Limits.{maxText}
 use Rattle.token.specs.Table.{toks, kind, start, end, is, between, label}
 use Rattle.token.proofs.Table.{low, spans}
 use Rattle.table.specs.declared.Op.the-variants.{NodeTag}
@@ -169,7 +170,7 @@ module _ (s : List ℕ) (at free mid : ℕ) (p : Placed) (table : List ℕ) (x :
               (tagged-read level deep (g .read) ∙ next-good _ _ (d .read) ∙ ap (λ (l : Level). got (inTag l (start s at) (label s at) (d .tree)) (p .next)) v) (w .now ∙ ap (sets store free) n) (omega arith);
         }
 
-    module _ (short : length s ≤ 65536) (a : ℕ) (e₁ : a ≡ start s at) where
+    module _ (short : length s ≤ maxText) (a : ℕ) (e₁ : a ≡ start s at) where
       pub tag-fits : {level : Level} → level ≡ Level.Tagged → TagRoom level s table at free mid p → Over table (p .used) a (p .to) × ((free ≤ most) × (mid - free ≤ most)) × (p .used < most)
       tag-fits {level} v g =
           let n : tagCount level s at ≡ 1 = choose-true (is s at 19) _ _ tagged-at ∙ ap (λ (l : Level). tagNodes l) v in

@@ -6,8 +6,8 @@ use mathlib.Core.List.{List, []}
 use lib.Dec.{ltb}
 use lib.ListN.{length}
 use lib.Seq.{sets}
-use Rattle.text.specs.declared.Check.{Check}
-use Rattle.text.specs.declared.Check.the-variants as Check
+use Rattle.text.specs.declared.Scan.{Scan}
+use Rattle.text.specs.declared.Scan.the-variants as Scan
 use Rattle.literal.specs.Escapes.{badEscape}
 use Rattle.table.specs.Tree.{Span, text, Tree, leaf, count, size, stored, placeOf, startsAt}
 use Rattle.table.specs.Record.{nodeSize}
@@ -60,8 +60,8 @@ pub record Built (m : Parsed) (table store : List ℕ) (used free : ℕ) (r : Pl
 
 -- every string of a text means characters
 pub record Scalars (s : List ℕ) : Type 0 where
-  pub strings : (i : ℕ) → is s i 23 ≡ true → badEscape (literalBytes s i) ≡ Check.Good
-  pub insens : (i : ℕ) → is s i 24 ≡ true → badEscape (literalBytes s i) ≡ Check.Good
+  pub strings : (i : ℕ) → is s i 23 ≡ true → badEscape (literalBytes s i) ≡ Scan.Through
+  pub insens : (i : ℕ) → is s i 24 ≡ true → badEscape (literalBytes s i) ≡ Scan.Through
 
 -- a word's node, and the token after it
 abbrev pub wordLeaf : List ℕ → ℕ → Parsed

@@ -1,6 +1,6 @@
 // Rules, expressions and terms over tokens, then what stands around a node, leaves, values and texts.
 pub mod around;
-pub mod build;
+pub mod descent;
 pub mod leaves;
 pub mod rules;
 pub mod store;

@@ -17,13 +17,6 @@ use rows::Block;
 use show::Layout;
 use show::Shown;
 use text::Put;
-ghost use Prim.Native.Nat.{_≤_};
-ghost use lib.ListN.{length};
-
-struct Number {
-    value: u64,
-    end: usize,
-}
 
 fn answer(word: &[u8], n: usize, out: &[u8]) {
     vectors::write(word);
@@ -133,104 +126,64 @@ fn run_layout(text: &[u8], name: &[u8], camera: &[u8], steps: u64, room: usize, 
     }
 }
 
-// A field that is a number, and where it ends.
-fn number_at(line: &[u8], at: usize) -> Number
-    ensures { λ r. ⌜ r .end ≤ length (now (line .entry)) ⌝ }
-{
-    let part = vectors::field(line, at);
-    let a = part.start;
-    let b = part.end;
-    Number {
-        value: vectors::number(&line[a..b]),
-        end: b,
-    }
+fn number(line: &[u8], k: usize) -> u64 {
+    vectors::number(vectors::word(line, k))
 }
 
-fn run_row(line: &[u8], from: usize, room: usize, out: &mut [u8]) {
-    let number = number_at(line, from);
-    let place = number_at(line, number.end);
-    let matched = number_at(line, place.end);
-    let length = number_at(line, matched.end);
-    let steps = number_at(line, length.end);
+fn run_row(line: &[u8], room: usize, out: &mut [u8]) {
     let row = Row {
-        number: number.value,
-        place: place.value,
-        matched: matched.value,
-        length: length.value,
-        steps: steps.value,
+        number: number(line, 2),
+        place: number(line, 3),
+        matched: number(line, 4),
+        length: number(line, 5),
+        steps: number(line, 6),
     };
     run_answer(row, room, out);
 }
 
-fn run_whole(line: &[u8], from: usize) {
+fn run_whole(line: &[u8]) {
     let mut text = [0u8; 65600];
-    let n = vectors::pieces(line, from, &mut text);
+    let n = vectors::pieces(line, 2, &mut text);
     vectors::write_number(rows::whole_lines(&text[..n]));
     vectors::write(b"\n");
 }
 
-fn run_lines(line: &[u8], from: usize, room: usize, out: &mut [u8]) {
+fn run_lines(line: &[u8], room: usize, out: &mut [u8]) {
     let mut text = [0u8; 4096];
     let mut camera = [0u8; 65600];
-    let steps = number_at(line, from);
-    let name = vectors::field(line, steps.end);
-    let layout = vectors::field(line, name.end);
-    let a = name.start;
-    let b = name.end;
-    let c = layout.start;
-    let d = layout.end;
-    let n = vectors::unhex(&line[c..d], &mut text);
-    let m = vectors::pieces(line, d, &mut camera);
+    let n = vectors::unhex(vectors::word(line, 4), &mut text);
+    let m = vectors::pieces(line, 5, &mut camera);
     run_layout(
         &text[..n],
-        &line[a..b],
+        vectors::word(line, 3),
         &camera[..m],
-        steps.value,
+        number(line, 2),
         room,
         out,
     );
 }
 
-fn run_text(style: Style, line: &[u8], from: usize, room: usize, out: &mut [u8]) {
+fn run_text(style: Style, line: &[u8], room: usize, out: &mut [u8]) {
     let mut text = [0u8; 65600];
-    let n = vectors::pieces(line, from, &mut text);
+    let n = vectors::pieces(line, 2, &mut text);
     run_desk(style, &text[..n], room, out);
-}
-
-fn run_numbers(line: &[u8], from: usize, room: usize, out: &mut [u8]) {
-    let first = vectors::field(line, from);
-    let second = vectors::field(line, first.end);
-    let a = first.start;
-    let b = first.end;
-    let c = second.start;
-    let d = second.end;
-    run_refusal(
-        vectors::number(&line[a..b]),
-        vectors::number(&line[c..d]),
-        room,
-        out,
-    );
 }
 
 fn run_line(line: &[u8]) {
     let mut out = [170u8; 65600];
-    let op = vectors::field(line, 0);
-    let size = vectors::field(line, op.end);
-    let a = size.start;
-    let b = size.end;
-    let room = vectors::number(&line[a..b]) as usize;
-    let at = op.start;
+    let op = vectors::word(line, 0);
+    let room = number(line, 1) as usize;
     vectors::write(line);
-    if line.len() <= at {
+    if op.len() == 0 {
         return;
     }
-    match line[at] {
-        b'd' => run_text(Style::Full, line, b, room, &mut out),
-        b's' => run_text(Style::Short, line, b, room, &mut out),
-        b'l' => run_row(line, b, room, &mut out),
-        b'w' => run_whole(line, b),
-        b'b' => run_lines(line, b, room, &mut out),
-        _ => run_numbers(line, b, room, &mut out),
+    match op[0] {
+        b'd' => run_text(Style::Full, line, room, &mut out),
+        b's' => run_text(Style::Short, line, room, &mut out),
+        b'l' => run_row(line, room, &mut out),
+        b'w' => run_whole(line),
+        b'b' => run_lines(line, room, &mut out),
+        _ => run_refusal(number(line, 2), number(line, 3), room, &mut out),
     }
 }
 

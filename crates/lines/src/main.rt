@@ -9,6 +9,9 @@
 use program::Input;
 use rows::Block;
 use show::Layout;
+use table::inner::layout::NODE_SIZE;
+use table::inner::layout::RULE_SIZE;
+use text::limits;
 ghost use Prim.Native.Nat.{_≤_};
 ghost use lib.ListN.{length};
 ghost use Rattle.program.specs.Input.{Within};
@@ -81,7 +84,7 @@ fn answer_some(
 ) -> Turn
     ensures { λ r. ⌜ Holds r (length (now (text .entry))) ⌝ }
 {
-    let mut out = [0u8; 65536];
+    let mut out = [0u8; limits::STORE];
     let block = rows::answer_block(nodes, rules, store, start, text, STEPS, &mut out);
     match block {
         Block::Lines {
@@ -213,7 +216,7 @@ fn take_turn(
 // All lines by the rule at an index. A line has at most one byte less than the buffer: a full buffer has a
 // whole line in it, or one that is too long.
 fn run(nodes: &[u32], rules: &[u32], store: &[u8], start: usize) {
-    let mut text = [0u8; 65537];
+    let mut text = [0u8; limits::TEXT + 1];
     // tables that can't be run are told before a line is waited for
     let first = answer_some(nodes, rules, store, start, b"", false);
     let Turn::At(_, _) = first else {
@@ -235,11 +238,11 @@ fn run(nodes: &[u32], rules: &[u32], store: &[u8], start: usize) {
 }
 
 fn main() {
-    let mut text = [0u8; 65537];
-    let mut name = [0u8; 65537];
-    let mut nodes = [0u32; 12288];
-    let mut rules = [0u32; 6144];
-    let mut store = [0u8; 65536];
+    let mut text = [0u8; limits::TEXT + 1];
+    let mut name = [0u8; limits::TEXT + 1];
+    let mut nodes = [0u32; NODE_SIZE * 2048];
+    let mut rules = [0u32; RULE_SIZE * limits::RULES];
+    let mut store = [0u8; limits::STORE];
     if os::arg_count() < 3 {
         program::fail(b"lines", b": no layout and rule were named\n");
         return;

@@ -13,7 +13,7 @@ use Rattle.table.specs.declared.TableCheck.{TableCheck}
 use Rattle.table.specs.declared.TableCheck.the-variants as Table
 use Rattle.table.specs.Characters.{choose, faultOf}
 use Rattle.table.specs.Record.{nodesIn, rulesIn}
-use Rattle.table.specs.Check.{isGood, lowest, tables, Valid}
+use Rattle.table.specs.Check.{isThrough, lowest, tables, Valid}
 use Rattle.table.proofs.Tables.{tables-valid}
 use Rattle.links.specs.declared.Ready.{Ready}
 use Rattle.links.specs.declared.Ready.the-variants.{Yes, FalseTables, Unfit, NoRule}
@@ -54,15 +54,15 @@ module _ (ns rs st : List ℕ) (start : ℕ) {x : TableCheck} (e : x ≡ tables 
         unfolding named
         ready-start h = no-names (and-first _ _ (le-ltb start (rulesIn rs) h))
 
-        pub ready-own : {t : Bool} → t ≡ isGood (lowest (ownAt rs st) (rulesIn rs)) → t ≡ false → NoRule ≡ readyOf ns rs st start
+        pub ready-own : {t : Bool} → t ≡ isThrough (lowest (ownAt rs st) (rulesIn rs)) → t ≡ false → NoRule ≡ readyOf ns rs st start
         unfolding named
-        ready-own h q = no-names (and-second (ltb start (rulesIn rs)) _ (and-first _ (isGood (lowest (knownAt ns rs st) (nodesIn ns))) (sym h ∙ q)))
+        ready-own h q = no-names (and-second (ltb start (rulesIn rs)) _ (and-first _ (isThrough (lowest (knownAt ns rs st) (nodesIn ns))) (sym h ∙ q)))
 
-        pub ready-known : {t : Bool} → t ≡ isGood (lowest (knownAt ns rs st) (nodesIn ns)) → t ≡ false → NoRule ≡ readyOf ns rs st start
+        pub ready-known : {t : Bool} → t ≡ isThrough (lowest (knownAt ns rs st) (nodesIn ns)) → t ≡ false → NoRule ≡ readyOf ns rs st start
         unfolding named
-        ready-known h q = no-names (and-second (ltb start (rulesIn rs)) _ (and-second (isGood (lowest (ownAt rs st) (rulesIn rs))) _ (sym h ∙ q)))
+        ready-known h q = no-names (and-second (ltb start (rulesIn rs)) _ (and-second (isThrough (lowest (ownAt rs st) (rulesIn rs))) _ (sym h ∙ q)))
 
-        pub ready-yes : {s t : Bool} → start < rulesIn rs → s ≡ isGood (lowest (ownAt rs st) (rulesIn rs)) → s ≡ true → t ≡ isGood (lowest (knownAt ns rs st) (nodesIn ns)) → t ≡ true → Yes ≡ readyOf ns rs st start
+        pub ready-yes : {s t : Bool} → start < rulesIn rs → s ≡ isThrough (lowest (ownAt rs st) (rulesIn rs)) → s ≡ true → t ≡ isThrough (lowest (knownAt ns rs st) (nodesIn ns)) → t ≡ true → Yes ≡ readyOf ns rs st start
         unfolding named readyNames
         ready-yes l h p k q = sym (past-nodes n ∙ choose-true (named ns rs st start) _ _ (and-both _ _ (lt-ltb start (rulesIn rs) l) (and-both _ _ (sym h ∙ p) (sym k ∙ q))))
 

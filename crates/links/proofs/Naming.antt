@@ -10,6 +10,7 @@ use lib.Dec.{eqb, leb}
 use lib.ListN.{length, getD, set, take, drop, length-set, List·getD-eq-default}
 use lib.Seq.{getD-set-same, getD-set-other}
 use Rattle.text.proofs.Booleans.{choose-false, choose-true}
+use Rattle.text.specs.Limits.{maxNodes}
 use Rattle.table.specs.declared.Join.{Join}
 use Rattle.table.specs.declared.Join.the-variants as Join
 use Rattle.table.specs.declared.Unary.{Unary}
@@ -24,10 +25,10 @@ use Rattle.table.specs.declared.Node.the-variants as Node
 use Rattle.table.specs.declared.Head.{Head}
 use Rattle.table.specs.declared.Named.{Named}
 use Rattle.table.specs.declared.Named.the-variants.{By, Nobody}
-use Rattle.table.specs.Characters.{choose, and, Good, faultOf}
+use Rattle.table.specs.Characters.{choose, and, Through, faultOf}
 use Rattle.table.specs.declared.Fault.the-variants as Fault
 use Rattle.table.specs.Record.{nodeSize, nodesIn, rulesIn, part, nodeOf, nodeAt, rootAt, nameAt, headAt}
-use Rattle.table.specs.Check.{maxNodes, isGood, lowest, Valid}
+use Rattle.table.specs.Check.{isThrough, lowest, Valid}
 use Rattle.table.specs.Check as Check
 use Rattle.table.specs.Names.{sameText, ruleNamed}
 use Rattle.table.proofs.Nodes.{sound-tip, sound-one, sound-two, sound-below}
@@ -99,7 +100,7 @@ module _ (ns rs st : List ℕ) (v : Valid ns rs st) where
   leads-link NoName = tt
 
   module _ (i : ℕ) (l : i < nodesIn ns) where
-    up : Check.Sound ns st (i + 1)
+    up : Check.SoundUpTo ns st (i + 1)
     up = sound-below (i + 1) (omega arith) (v .nodes)
 
     leads-at : (x : Node) (k : ℕ) → nodeAt ns i ≡ x → k ≡ number (mentionLink rs st (mentionOf x)) → Leads (nodesIn ns) (length st) (actOf x k)
@@ -191,16 +192,16 @@ module _ (rs st : List ℕ) (k : ℕ) (b : List ℕ) (n : b ≡ nameAt rs st k) 
 -- ---- all tests passed so far, and no longer
 
 module _ (f : ℕ → Bool) (n i : ℕ) where
-  pub every-stop : i < n → lowest f i ≡ Good → f i ≡ false → false ≡ isGood (lowest f n)
-  every-stop l h q = sym (ap isGood (lowest-bad f n i l h q))
+  pub every-stop : i < n → lowest f i ≡ Through → f i ≡ false → false ≡ isThrough (lowest f n)
+  every-stop l h q = sym (ap isThrough (lowest-bad f n i l h q))
 
-  pub every-end : n ≤ i → i ≤ n → lowest f i ≡ Good → true ≡ isGood (lowest f n)
-  every-end l m h = let e : i ≡ n = omega arith in sym (ap isGood (rw e at h))
+  pub every-end : n ≤ i → i ≤ n → lowest f i ≡ Through → true ≡ isThrough (lowest f n)
+  every-end l m h = let e : i ≡ n = omega arith in sym (ap isThrough (rw e at h))
 
-  pub fault-stop : i < n → lowest f i ≡ Good → f i ≡ false → Fault.At i ≡ faultOf (lowest f n)
+  pub fault-stop : i < n → lowest f i ≡ Through → f i ≡ false → Fault.At i ≡ faultOf (lowest f n)
   fault-stop l h q = sym (ap faultOf (lowest-bad f n i l h q))
 
-  pub fault-end : n ≤ i → i ≤ n → lowest f i ≡ Good → Fault.None ≡ faultOf (lowest f n)
+  pub fault-end : n ≤ i → i ≤ n → lowest f i ≡ Through → Fault.None ≡ faultOf (lowest f n)
   fault-end l m h = let e : i ≡ n = omega arith in sym (ap faultOf (rw e at h))
 
 pub fit-two : (j : Join) (a b : ℕ) → isFit (actOf (Node.Two j a b) 0) ≡ true
@@ -244,7 +245,7 @@ fit-one {u = u} {c = c} e f g = g ∙ fit-child u c ∙ sym (ap (λ z. isFit (ac
 
 pub record Some (ns rs st ls : List ℕ) (i : ℕ) : Type 0 where
   pub long : length ls ≡ maxNodes
-  pub found : lowest (knownAt ns rs st) i ≡ Good
+  pub found : lowest (knownAt ns rs st) i ≡ Through
   pub are : (k : ℕ) → k < i → getD ls k 0 ≡ number (linkAt ns rs st k)
 
 pub some-none : (ns rs st ls : List ℕ) → length ls ≡ maxNodes → Some ns rs st ls 0
@@ -269,7 +270,7 @@ module _ (ns rs st ls : List ℕ) (i : ℕ) (s : Some ns rs st ls i) {x : Node} 
       go k z (yes w) = getD-set-other ls i k l 0 (λ q. omega arith) ∙ s .are k w
       go k z (no w) = let y : k ≡ i = omega arith in rw y (getD-set-same ls i l 0 (omega (arith, s .long)) ∙ sym (ap number (sym link-is ∙ q)))
 
-  pub some-stop : (n : ℕ) → n ≡ nodesIn ns → i < n → y ≡ Nowhere → false ≡ isGood (lowest (knownAt ns rs st) (nodesIn ns))
+  pub some-stop : (n : ℕ) → n ≡ nodesIn ns → i < n → y ≡ Nowhere → false ≡ isThrough (lowest (knownAt ns rs st) (nodesIn ns))
   unfolding knownAt
   some-stop n w h q = every-stop (knownAt ns rs st) (nodesIn ns) i (omega arith) (s .found) (ap isTo (sym link-is ∙ q))
 

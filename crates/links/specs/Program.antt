@@ -5,6 +5,7 @@ use mathlib.Core.Path.{_≡_}
 use mathlib.Core.List.{List, [], _∷_}
 use lib.Dec.{eqb, leb, ltb}
 use lib.ListN.{length, getD}
+use Rattle.text.specs.Limits.{maxNodes}
 use Rattle.table.specs.declared.Join.{Join}
 use Rattle.table.specs.declared.Join.the-variants as Join
 use Rattle.table.specs.declared.Unary.{Unary}
@@ -18,7 +19,7 @@ use Rattle.table.specs.declared.Named.{Named}
 use Rattle.table.specs.declared.Named.the-variants.{By, Nobody}
 use Rattle.table.specs.Characters.{choose, and, or}
 use Rattle.table.specs.Record.{nodesIn, rulesIn, part, nodeAt, nameAt, rootAt}
-use Rattle.table.specs.Check.{maxNodes, lowest, isGood}
+use Rattle.table.specs.Check.{lowest, isThrough}
 use Rattle.table.specs.Names.{sameText, ruleNamed}
 use Rattle.links.specs.declared.Most.the-variants.{UpTo, NoEnd}
 use Rattle.links.specs.declared.Link.{Link}
@@ -141,7 +142,7 @@ ownAt rs st k = and (not (sameText (nameAt rs st k) anyName)) (isBy (ruleNamed r
 -- the names of rules are their own, the names in nodes are known, and the starting rule is there
 unfoldable pub named : List ℕ → List ℕ → List ℕ → ℕ → Bool
 named ns rs st start =
-    and (ltb start (rulesIn rs)) (and (isGood (lowest (ownAt rs st) (rulesIn rs))) (isGood (lowest (knownAt ns rs st) (nodesIn ns))))
+    and (ltb start (rulesIn rs)) (and (isThrough (lowest (ownAt rs st) (rulesIn rs))) (isThrough (lowest (knownAt ns rs st) (nodesIn ns))))
 
 -- the links of all nodes
 pub record Linked (ns rs st ls : List ℕ) : Type 0 where

@@ -7,7 +7,7 @@ use lib.ListN.{length}
 use borrow.Author.Tests.{le-leb, lt-leb}
 use Rattle.text.specs.Splice.{Room, Wrote, spent}
 use Rattle.text.specs.Utf8.{firstBad}
-use Rattle.text.specs.declared.Check.the-variants.{Good, Bad}
+use Rattle.text.specs.declared.Scan.the-variants.{Through, StopsAt}
 use Rattle.text.proofs.Splices.{spent-over, spent-fits, wrote-front}
 use Rattle.literal.specs.declared.Quote.{Quote}
 use Rattle.literal.specs.declared.Unescaped.the-variants as Unescaped
@@ -28,21 +28,21 @@ room {o} k x e z = record { fits = rw zero-add (fits (length o) k x e z) }
 -- ---- `unescape`
 
 module _ (s o : List ℕ) where
-  pub unescape-not-utf8 : (i : ℕ) → firstBad s ≡ Bad i → (Unescaped.NotUtf8 i ≡ unescapeOf s (length o)) × (o ≡ unescapeIn s o (Unescaped.NotUtf8 i))
+  pub unescape-not-utf8 : (i : ℕ) → firstBad s ≡ StopsAt i → (Unescaped.NotUtf8 i ≡ unescapeOf s (length o)) × (o ≡ unescapeIn s o (Unescaped.NotUtf8 i))
   unfolding unescapeOf unescapeIn
   unescape-not-utf8 i u = (rw u, refl)
 
-  pub unescape-no-escape : (i : ℕ) → firstBad s ≡ Good → noEscape s ≡ Bad i
+  pub unescape-no-escape : (i : ℕ) → firstBad s ≡ Through → noEscape s ≡ StopsAt i
       → (Unescaped.NoEscape i ≡ unescapeOf s (length o)) × (o ≡ unescapeIn s o (Unescaped.NoEscape i))
   unfolding unescapeOf unescapeIn
   unescape-no-escape i u e = (rw (u, e), refl)
 
-  pub unescape-not-scalar : (i : ℕ) → firstBad s ≡ Good → noEscape s ≡ Good → badEscape s ≡ Bad i
+  pub unescape-not-scalar : (i : ℕ) → firstBad s ≡ Through → noEscape s ≡ Through → badEscape s ≡ StopsAt i
       → (Unescaped.NotScalar i ≡ unescapeOf s (length o)) × (o ≡ unescapeIn s o (Unescaped.NotScalar i))
   unfolding unescapeOf unescapeIn
   unescape-not-scalar i u e b = (rw (u, e, b), refl)
 
-  module _ (u : firstBad s ≡ Good) (e : noEscape s ≡ Good) (b : badEscape s ≡ Good) (k : ℕ) (m : k ≡ spent (length o + 1) (unescaped s)) where
+  module _ (u : firstBad s ≡ Through) (e : noEscape s ≡ Through) (b : badEscape s ≡ Through) (k : ℕ) (m : k ≡ spent (length o + 1) (unescaped s)) where
     pub unescape-no-room : k ≡ 0 → (Unescaped.NoRoom ≡ unescapeOf s (length o)) × (o ≡ unescapeIn s o Unescaped.NoRoom)
     unfolding unescapeOf unescapeIn
     unescape-no-room z = (rw (u, e, b, lt-leb (length (unescaped s)) (length o) (over (length o) k (unescaped s) m z)), refl)
@@ -58,11 +58,11 @@ module _ (s o : List ℕ) where
 -- ---- `fmt_literal`
 
 module _ (s : List ℕ) (q : Quote) (o : List ℕ) where
-  pub format-not-utf8 : (i : ℕ) → firstBad s ≡ Bad i → (Formatted.NotUtf8 i ≡ formatOf s q (length o)) × (o ≡ formatIn s q o (Formatted.NotUtf8 i))
+  pub format-not-utf8 : (i : ℕ) → firstBad s ≡ StopsAt i → (Formatted.NotUtf8 i ≡ formatOf s q (length o)) × (o ≡ formatIn s q o (Formatted.NotUtf8 i))
   unfolding formatOf formatIn
   format-not-utf8 i u = (rw u, refl)
 
-  module _ (u : firstBad s ≡ Good) (b : ℕ) (p : b ≡ quoteByte q) (k : ℕ) (m : k ≡ spent (length o + 1) (literal b s)) where
+  module _ (u : firstBad s ≡ Through) (b : ℕ) (p : b ≡ quoteByte q) (k : ℕ) (m : k ≡ spent (length o + 1) (literal b s)) where
     pub format-no-room : k ≡ 0 → (Formatted.NoRoom ≡ formatOf s q (length o)) × (o ≡ formatIn s q o Formatted.NoRoom)
     unfolding formatOf formatIn
     format-no-room z = (rw (← p, u, lt-leb (length (literal b s)) (length o) (over (length o) k (literal b s) m z)), refl)

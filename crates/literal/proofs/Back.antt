@@ -12,7 +12,7 @@ use Rattle.text.specs.Booleans.{choose, nextIs}
 use Rattle.text.specs.Scans.{spelled, sought, later}
 use Rattle.text.specs.Utf8.{scalar, encoded, charOf, seqLook, firstBad}
 use Rattle.text.specs.declared.Value.the-variants.{Number}
-use Rattle.text.specs.declared.Check.the-variants.{Good, Bad}
+use Rattle.text.specs.declared.Scan.the-variants.{Through, StopsAt}
 use Rattle.text.specs.declared.Look.{Look}
 use Rattle.text.specs.declared.Look.the-variants.{Past, Stop}
 use Rattle.text.specs.declared.Sequence.the-variants.{Is}
@@ -33,7 +33,7 @@ inside-char q c s = gives-piece (charPiece q) (encoded c) (shown q c) (encoded-s
 -- P of a text and the string it stands for: what holds of nothing, and of one more piece before them, holds of what was printed
 module _ (q : ℕ) (w : simpleOf q ≡ Number q) (P : List ℕ → List ℕ → Type 0) (z : P [] [])
     (f : (x : List ℕ) (c : ℕ) (t s : List ℕ) → scalar c ≡ true → Stands q x c → P t s → P (x ++ t) (encoded c ++ s)) where
-  pub printed-by : (s : List ℕ) → firstBad s ≡ Good → P (inside q s) s
+  pub printed-by : (s : List ℕ) → firstBad s ≡ Through → P (inside q s) s
   unfolding inside spelled
   printed-by s h =
       chars-by (λ (l : List ℕ). P (spelled (charPiece q) 0 l) l) z
@@ -41,7 +41,7 @@ module _ (q : ℕ) (w : simpleOf q ≡ Number q) (P : List ℕ → List ℕ → 
 
 -- a search that goes past each piece goes past what was printed
 pub printed-over : (q : ℕ) → simpleOf q ≡ Number q → (p : List ℕ → Look) → ((x : List ℕ) (c : ℕ) → scalar c ≡ true → Stands q x c → Over p x)
-    → (s : List ℕ) → firstBad s ≡ Good → Over p (inside q s)
+    → (s : List ℕ) → firstBad s ≡ Through → Over p (inside q s)
 printed-over q w p f s h =
     printed-by q w (λ (t l : List ℕ). Over p t) (over-none p) (λ x c t l g k ih. over-append p x t (f x c g k) ih) s h
 
@@ -129,11 +129,11 @@ quote-past-escapes q xs c n g e = ap (λ (r : Escape). quoteLookBy q r xs) e
 quote-past-bytes : (q : ℕ) → PastBytes q (quoteLook q)
 quote-past-bytes q x ys m n = ap (λ (r : Escape). quoteLookBy q r (x ∷ ys)) (plain-byte x ys m) ∙ rw (ne-eqb x q n)
 
-quote-stops : (q : ℕ) → (q ≡ 92 → ⊥) → (ys : List ℕ) → sought (quoteLook q) 0 (q ∷ ys) ≡ Bad 0
+quote-stops : (q : ℕ) → (q ≡ 92 → ⊥) → (ys : List ℕ) → sought (quoteLook q) 0 (q ∷ ys) ≡ StopsAt 0
 unfolding sought
 quote-stops q n ys = rw (plain-byte q ys n, eq-eqb q q refl)
 
-module _ (q : ℕ) (w : simpleOf q ≡ Number q) (s : List ℕ) (h : firstBad s ≡ Good) where
+module _ (q : ℕ) (w : simpleOf q ≡ Number q) (s : List ℕ) (h : firstBad s ≡ Through) where
   -- what was printed means the string, whatever comes behind it
   pub inside-gives : Gives escapePiece (inside q s) s
   inside-gives = printed-by q w (λ (t l : List ℕ). Gives escapePiece t l) (gives-none escapePiece) (λ x c t l g k ih. gives-append escapePiece x t (encoded c) l (stands-gives q x c k) ih) s h
@@ -150,14 +150,14 @@ module _ (q : ℕ) (w : simpleOf q ≡ Number q) (s : List ℕ) (h : firstBad s 
   chars-over-inside p f k = printed-over q w p (stands-over q p (escapes-over p f) (chars-over q p k)) s h
 
   -- no escape is bad
-  pub inside-scalars : badEscape (inside q s) ≡ Good
+  pub inside-scalars : badEscape (inside q s) ≡ Through
   unfolding badEscape
   inside-scalars =
       over-good escapeLook (inside q s)
       (bytes-over-inside escapeLook (λ xs c n g e. ap escapeLookBy e ∙ rw g) (λ x ys m n. ap escapeLookBy (plain-byte x ys m)))
 
   -- no backslash begins none
-  pub inside-escapes : noEscape (inside q s) ≡ Good
+  pub inside-escapes : noEscape (inside q s) ≡ Through
   unfolding noEscape
   inside-escapes =
       over-good strayLook (inside q s)
@@ -165,15 +165,15 @@ module _ (q : ℕ) (w : simpleOf q ≡ Number q) (s : List ℕ) (h : firstBad s 
       (λ x ys m n. ap (λ (r : Escape). strayBy r (x ∷ ys)) (plain-byte x ys m) ∙ rw (ne-eqb x 92 m)))
 
   -- it is UTF-8
-  pub inside-utf8 : firstBad (inside q s) ≡ Good
+  pub inside-utf8 : firstBad (inside q s) ≡ Through
   unfolding firstBad
   inside-utf8 = over-good seqLook (inside q s) (printed-over q w seqLook (stands-over q seqLook (λ x c g e. over-ascii x (escapes-ascii x c e)) (λ c g m n. over-char c g)) s h)
 
   -- and the quote is met at the start of none of its pieces: it is first met behind it
-  pub inside-unquoted : sought (quoteLook q) 0 (inside q s) ≡ Good
+  pub inside-unquoted : sought (quoteLook q) 0 (inside q s) ≡ Through
   inside-unquoted = over-good (quoteLook q) (inside q s) (bytes-over-inside (quoteLook q) (quote-past-escapes q) (quote-past-bytes q))
 
-  pub inside-closed : (q ≡ 92 → ⊥) → (ys : List ℕ) → sought (quoteLook q) 0 (inside q s ++ (q ∷ ys)) ≡ Bad (length (inside q s))
+  pub inside-closed : (q ≡ 92 → ⊥) → (ys : List ℕ) → sought (quoteLook q) 0 (inside q s ++ (q ∷ ys)) ≡ StopsAt (length (inside q s))
   inside-closed n ys =
       bytes-over-inside (quoteLook q) (quote-past-escapes q) (quote-past-bytes q) (q ∷ ys)
-      ∙ (ap (later (length (inside q s))) (quote-stops q n ys) ∙ ap Bad (add-zero (length (inside q s))))
+      ∙ (ap (later (length (inside q s))) (quote-stops q n ys) ∙ ap StopsAt (add-zero (length (inside q s))))

@@ -15,7 +15,7 @@ use Rattle.text.specs.Utf8.{scalar, encoded}
 use Rattle.text.specs.Digits.{hexOf}
 use Rattle.text.specs.declared.Value.{Value}
 use Rattle.text.specs.declared.Value.the-variants.{Number, Nothing}
-use Rattle.text.specs.declared.Check.the-variants.{Good, Bad}
+use Rattle.text.specs.declared.Scan.the-variants.{Through, StopsAt}
 use Rattle.text.specs.declared.Look.{Look}
 use Rattle.text.specs.declared.Look.the-variants.{Past}
 use Rattle.text.proofs.Tests.{at-byte, at-end, within-is}
@@ -285,15 +285,15 @@ module _ (s : List ℕ) (i : ℕ) (h : i < length s) where
   pub plain-look : escapeOf (drop i s) ≡ Plain → later i (sought escapeLook 0 (drop i s)) ≡ later (i + 1) (sought escapeLook 0 (drop (i + 1) s))
   plain-look e = sought-past escapeLook s i 0 h (ap escapeLookBy e)
 
-  pub bad-look : (c n : ℕ) → escapeOf (drop i s) ≡ Means c n → scalar c ≡ false → later i (sought escapeLook 0 (drop i s)) ≡ Bad i
+  pub bad-look : (c n : ℕ) → escapeOf (drop i s) ≡ Means c n → scalar c ≡ false → later i (sought escapeLook 0 (drop i s)) ≡ StopsAt i
   bad-look c n e g = sought-stop escapeLook s i h (ap escapeLookBy e ∙ rw g)
 
-  good-by : (c n : ℕ) (b : Bool) → scalar c ≡ b → later i (sought escapeLook 0 (drop i s)) ≡ Good → escapeOf (drop i s) ≡ Means c n → scalar c ≡ true
+  good-by : (c n : ℕ) (b : Bool) → scalar c ≡ b → later i (sought escapeLook 0 (drop i s)) ≡ Through → escapeOf (drop i s) ≡ Means c n → scalar c ≡ true
   good-by c n true g a e = g
   good-by c n false g a e = let z : _≡_ {A = ℕ} 0 1 = cc (bad-look c n e g) in absurd (omega arith)
 
   -- where no escape is bad, this one is not
-  pub good-scalar : (c n : ℕ) → later i (sought escapeLook 0 (drop i s)) ≡ Good → escapeOf (drop i s) ≡ Means c n → scalar c ≡ true
+  pub good-scalar : (c n : ℕ) → later i (sought escapeLook 0 (drop i s)) ≡ Through → escapeOf (drop i s) ≡ Means c n → scalar c ≡ true
   good-scalar c n a e = good-by c n (scalar c) refl a e
 
   pub means-stray : (c n : ℕ) → escapeOf (drop i s) ≡ Means c n → later i (sought strayLook 0 (drop i s)) ≡ later (i + n) (sought strayLook 0 (drop (i + n) s))
@@ -304,7 +304,7 @@ module _ (s : List ℕ) (i : ℕ) (h : i < length s) where
       let b : nextIs 92 (drop i s) ≡ false = rw (at-byte s i h) (ne-eqb (getD s i 0) 92 g) in
       sought-past strayLook s i 0 h (ap (λ (x : Escape). strayBy x (drop i s)) e ∙ rw b)
 
-  pub slash-stray : escapeOf (drop i s) ≡ Plain → getD s i 0 ≡ 92 → later i (sought strayLook 0 (drop i s)) ≡ Bad i
+  pub slash-stray : escapeOf (drop i s) ≡ Plain → getD s i 0 ≡ 92 → later i (sought strayLook 0 (drop i s)) ≡ StopsAt i
   slash-stray e g =
       let b : nextIs 92 (drop i s) ≡ true = rw (at-byte s i h) (eq-eqb (getD s i 0) 92 g) in
       sought-stop strayLook s i h (ap (λ (x : Escape). strayBy x (drop i s)) e ∙ rw b)

@@ -10,7 +10,7 @@ use lib.ListN.{length, take, drop, length-drop, take-append-drop}
 use borrow.Author.Tests.{eqb-true, eqb-false}
 use Rattle.text.specs.Scans.{spelled, sought}
 use Rattle.text.specs.Utf8.{scalar, encoded, seqLook, firstBad}
-use Rattle.text.specs.declared.Check.the-variants.{Good}
+use Rattle.text.specs.declared.Scan.the-variants.{Through}
 use Rattle.text.proofs.Decodes.{encoded-one}
 use Rattle.text.proofs.Walks.{later-zero}
 use Rattle.literal.specs.declared.Escape.{Escape}
@@ -24,11 +24,11 @@ use Rattle.literal.proofs.Back.{plain-byte, bare-gives}
 record First (s : List ℕ) (c : ℕ) (rest : List ℕ) : Type 0 where
   gives : spelled escapePiece 0 s ≡ encoded c ++ spelled escapePiece 0 rest
   good : scalar c ≡ true
-  utf8 : firstBad rest ≡ Good
-  fine : badEscape rest ≡ Good
+  utf8 : firstBad rest ≡ Through
+  fine : badEscape rest ≡ Through
   less : length rest < length s
 
-module _ (x : ℕ) (xs : List ℕ) (g : firstBad (x ∷ xs) ≡ Good) (b : badEscape (x ∷ xs) ≡ Good) where
+module _ (x : ℕ) (xs : List ℕ) (g : firstBad (x ∷ xs) ≡ Through) (b : badEscape (x ∷ xs) ≡ Through) where
   here : 0 < length (x ∷ xs)
   here = omega arith
 
@@ -87,7 +87,7 @@ module _ (x : ℕ) (xs : List ℕ) (g : firstBad (x ∷ xs) ≡ Good) (b : badEs
       (t .0, t .1, plain-by (t .0) (t .1) (t .2) e (eqb (t .0) 92) refl)
 
 MeansUtf8 : List ℕ → Type 0
-MeansUtf8 s = firstBad s ≡ Good → badEscape s ≡ Good → firstBad (unescaped s) ≡ Good
+MeansUtf8 s = firstBad s ≡ Through → badEscape s ≡ Through → firstBad (unescaped s) ≡ Through
 
 step : (s : List ℕ) → ((t : List ℕ) → length t < length s → MeansUtf8 t) → MeansUtf8 s
 unfolding MeansUtf8 firstBad unescaped spelled sought
@@ -95,9 +95,9 @@ step [] ih g b = refl
 step (x ∷ xs) ih g b =
     let t = first-by x xs g b (escapeOf (x ∷ xs)) refl in
     let d = t .2 in
-    let n : sought seqLook 0 (spelled escapePiece 0 (t .1)) ≡ Good = ih (t .1) (d .less) (d .utf8) (d .fine) in
+    let n : sought seqLook 0 (spelled escapePiece 0 (t .1)) ≡ Through = ih (t .1) (d .less) (d .utf8) (d .fine) in
     ap (sought seqLook 0) (d .gives) ∙ (over-char (t .0) (d .good) (spelled escapePiece 0 (t .1)) ∙ rw n)
 
-pub unescaped-utf8 : (s : List ℕ) → firstBad s ≡ Good → badEscape s ≡ Good → firstBad (unescaped s) ≡ Good
+pub unescaped-utf8 : (s : List ℕ) → firstBad s ≡ Through → badEscape s ≡ Through → firstBad (unescaped s) ≡ Through
 unfolding MeansUtf8
 unescaped-utf8 = shorter-by MeansUtf8 step

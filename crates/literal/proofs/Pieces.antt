@@ -9,8 +9,8 @@ use lib.ListN.{length, drop, length-append, take-append-drop}
 use lib.Seq.{drop-at}
 use Rattle.text.specs.Scans.{Piece, spelled, sought, later}
 use Rattle.text.specs.Utf8.{scalar, encoded, charOf, lookBy, seqLook, firstBad}
-use Rattle.text.specs.declared.Check.{Check}
-use Rattle.text.specs.declared.Check.the-variants.{Good, Bad}
+use Rattle.text.specs.declared.Scan.{Scan}
+use Rattle.text.specs.declared.Scan.the-variants.{Through, StopsAt}
 use Rattle.text.specs.declared.Look.{Look}
 use Rattle.text.specs.declared.Look.the-variants.{Past}
 use Rattle.text.specs.declared.Sequence.{Sequence}
@@ -21,9 +21,9 @@ use Rattle.text.proofs.Walks.{later-zero, later-later, past-head, sought-pendin
 use Rattle.text.proofs.Booleans.{choose-by}
 use Rattle.literal.proofs.Escaped.{Each, Ascii}
 
-pub later-good : (k : ℕ) (r : Check) → later k r ≡ Good → r ≡ Good
-later-good k Good e = refl
-later-good k (Bad n) e = let z : _≡_ {A = ℕ} 0 1 = cc in absurd (omega arith)
+pub later-good : (k : ℕ) (r : Scan) → later k r ≡ Through → r ≡ Through
+later-good k Through e = refl
+later-good k (StopsAt n) e = let z : _≡_ {A = ℕ} 0 1 = cc in absurd (omega arith)
 
 -- ---- a search goes past x
 
@@ -58,12 +58,12 @@ module _ (p : List ℕ → Look) where
       over-append (x ∷ []) xs (over-piece (x ∷ []) (omega arith) (λ ys. f x ys (a .0))) (over-bytes P f xs (a .1))
 
   -- to the end
-  pub over-good : (x : List ℕ) → Over p x → sought p 0 x ≡ Good
+  pub over-good : (x : List ℕ) → Over p x → sought p 0 x ≡ Through
   unfolding sought
   over-good x a = ap (sought p 0) (sym (append-nil x)) ∙ a []
 
   -- what comes behind is good if all is
-  pub over-rest : (x ys : List ℕ) → Over p x → sought p 0 (x ++ ys) ≡ Good → sought p 0 ys ≡ Good
+  pub over-rest : (x ys : List ℕ) → Over p x → sought p 0 (x ++ ys) ≡ Through → sought p 0 ys ≡ Through
   over-rest x ys a e = later-good (length x) (sought p 0 ys) (sym (a ys) ∙ e)
 
 -- ---- what x stands for
@@ -120,10 +120,10 @@ encoded-free b c h n =
 pub record Char (s : List ℕ) (c : ℕ) (rest : List ℕ) : Type 0 where
   pub is : encoded c ++ rest ≡ s
   pub good : scalar c ≡ true
-  pub next : firstBad rest ≡ Good
+  pub next : firstBad rest ≡ Through
   pub less : length rest < length s
 
-char-first : (s : List ℕ) (c n : ℕ) → charOf s ≡ Is c n → firstBad s ≡ Good → Char s c (drop n s)
+char-first : (s : List ℕ) (c n : ℕ) → charOf s ≡ Is c n → firstBad s ≡ Through → Char s c (drop n s)
 unfolding firstBad
 char-first s c n e g =
     let d = decoded s c n e in
@@ -135,12 +135,12 @@ char-first s c n e g =
       less = omega (arith, encoded-some c (d .good), length-append (encoded c) (drop n s), ap length i);
     }
 
-char-by : (x : ℕ) (xs : List ℕ) (r : Sequence) → charOf (x ∷ xs) ≡ r → firstBad (x ∷ xs) ≡ Good → (c : ℕ) × (rest : List ℕ) × Char (x ∷ xs) c rest
+char-by : (x : ℕ) (xs : List ℕ) (r : Sequence) → charOf (x ∷ xs) ≡ r → firstBad (x ∷ xs) ≡ Through → (c : ℕ) × (rest : List ℕ) × Char (x ∷ xs) c rest
 unfolding firstBad sought
 char-by x xs Broken e g = let z : _≡_ {A = ℕ} 0 1 = cc in absurd (omega arith)
 char-by x xs (Is c n) e g = (c, drop n (x ∷ xs), char-first (x ∷ xs) c n e g)
 
-pub first-char : (x : ℕ) (xs : List ℕ) → firstBad (x ∷ xs) ≡ Good → (c : ℕ) × (rest : List ℕ) × Char (x ∷ xs) c rest
+pub first-char : (x : ℕ) (xs : List ℕ) → firstBad (x ∷ xs) ≡ Through → (c : ℕ) × (rest : List ℕ) × Char (x ∷ xs) c rest
 first-char x xs g = char-by x xs (charOf (x ∷ xs)) refl g
 
 -- what holds of a text if it holds of all shorter ones holds of every text
@@ -153,13 +153,13 @@ module _ (P : List ℕ → Type 0) (f : (s : List ℕ) → ((t : List ℕ) → l
   shorter-by s = shorter-below (length s) s (omega arith)
 
 -- what holds of the empty string, and of a good string with one more character before it, holds of every good string
-module _ (P : List ℕ → Type 0) (z : P []) (f : (c : ℕ) (s : List ℕ) → scalar c ≡ true → firstBad s ≡ Good → P s → P (encoded c ++ s)) where
-  chars-step : (s : List ℕ) → ((t : List ℕ) → length t < length s → firstBad t ≡ Good → P t) → firstBad s ≡ Good → P s
+module _ (P : List ℕ → Type 0) (z : P []) (f : (c : ℕ) (s : List ℕ) → scalar c ≡ true → firstBad s ≡ Through → P s → P (encoded c ++ s)) where
+  chars-step : (s : List ℕ) → ((t : List ℕ) → length t < length s → firstBad t ≡ Through → P t) → firstBad s ≡ Through → P s
   chars-step [] ih g = z
   chars-step (x ∷ xs) ih g =
       let t = first-char x xs g in
       let d = t .2 in
       rw (d .is) at (f (t .0) (t .1) (d .good) (d .next) (ih (t .1) (d .less) (d .next)))
 
-  pub chars-by : (s : List ℕ) → firstBad s ≡ Good → P s
-  chars-by s g = shorter-by (λ (t : List ℕ). firstBad t ≡ Good → P t) chars-step s g
+  pub chars-by : (s : List ℕ) → firstBad s ≡ Through → P s
+  chars-by s g = shorter-by (λ (t : List ℕ). firstBad t ≡ Through → P t) chars-step s g

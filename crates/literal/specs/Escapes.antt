@@ -11,8 +11,8 @@ use Rattle.text.specs.Utf8.{scalar, encoded, firstBad}
 use Rattle.text.specs.Digits.{hexOf}
 use Rattle.text.specs.declared.Value.{Value}
 use Rattle.text.specs.declared.Value.the-variants.{Number, Nothing}
-use Rattle.text.specs.declared.Check.{Check}
-use Rattle.text.specs.declared.Check.the-variants.{Good, Bad}
+use Rattle.text.specs.declared.Scan.{Scan}
+use Rattle.text.specs.declared.Scan.the-variants.{Through, StopsAt}
 use Rattle.text.specs.declared.Look.{Look}
 use Rattle.text.specs.declared.Look.the-variants.{Past, Stop}
 use Rattle.literal.specs.declared.Escape.{Escape}
@@ -80,7 +80,7 @@ abbrev pub strayLook : List ℕ → Look
 strayLook xs = strayBy (escapeOf xs) xs
 
 -- the first backslash that begins no escape
-unfoldable pub noEscape : List ℕ → Check
+unfoldable pub noEscape : List ℕ → Scan
 noEscape s = sought strayLook 0 s
 
 abbrev pub escapeLookBy : Escape → Look
@@ -91,7 +91,7 @@ abbrev pub escapeLook : List ℕ → Look
 escapeLook xs = escapeLookBy (escapeOf xs)
 
 -- the backslash of the first escape of a surrogate or of a number above U+10FFFF
-unfoldable pub badEscape : List ℕ → Check
+unfoldable pub badEscape : List ℕ → Scan
 badEscape s = sought escapeLook 0 s
 
 abbrev pub escapePieceBy : List ℕ → Escape → Piece
@@ -105,9 +105,9 @@ escapePiece xs = escapePieceBy xs (escapeOf xs)
 unfoldable pub unescaped : List ℕ → List ℕ
 unescaped s = spelled escapePiece 0 s
 
-abbrev pub checkedBy : Check → (ℕ → Unescaped) → (Unit {0} → Unescaped) → Unescaped
-checkedBy (Bad i) f g = f i
-checkedBy Good f g = g tt
+abbrev pub checkedBy : Scan → (ℕ → Unescaped) → (Unit {0} → Unescaped) → Unescaped
+checkedBy (StopsAt i) f g = f i
+checkedBy Through f g = g tt
 
 -- what `unescape` answers for a buffer of n bytes: the first fault of the whole inside, kind by kind, then room
 unfoldable pub unescapeOf : List ℕ → ℕ → Unescaped

@@ -11,8 +11,8 @@ use Rattle.text.specs.Utf8.{charOf, encoded, firstBad}
 use Rattle.text.specs.Digits.{hexes}
 use Rattle.text.specs.declared.Sequence.{Sequence}
 use Rattle.text.specs.declared.Sequence.the-variants.{Is, Broken}
-use Rattle.text.specs.declared.Check.{Check}
-use Rattle.text.specs.declared.Check.the-variants.{Good, Bad}
+use Rattle.text.specs.declared.Scan.{Scan}
+use Rattle.text.specs.declared.Scan.the-variants.{Through, StopsAt}
 use Rattle.literal.specs.declared.Show.{Show}
 use Rattle.literal.specs.declared.Show.the-variants.{Pair, Bare, Hex}
 use Rattle.literal.specs.declared.Quote.{Quote}
@@ -78,9 +78,9 @@ abbrev pub quoteByte : Quote → ℕ
 quoteByte Double = 34
 quoteByte Single = 39
 
-abbrev pub formatBy : Check → ℕ → ℕ → Formatted
-formatBy (Bad i) k n = NotUtf8 i
-formatBy Good k n = choose (leb k n) (λ u. Wrote k) (λ u. NoRoom)
+abbrev pub formatBy : Scan → ℕ → ℕ → Formatted
+formatBy (StopsAt i) k n = NotUtf8 i
+formatBy Through k n = choose (leb k n) (λ u. Wrote k) (λ u. NoRoom)
 
 -- what `fmt_literal` answers for a buffer of n bytes
 unfoldable pub formatOf : List ℕ → Quote → ℕ → Formatted

@@ -5,7 +5,7 @@
 // build on. `unescape` carries over pest_meta's parser.rs, `fmt_literal` its ast.rs.
 pub mod inner;
 
-use text::Check;
+use text::Scan;
 ghost use mathlib.Core.Path.{_≡_};
 ghost use lib.ListN.{length, drop};
 ghost use Rattle.literal.specs.Escapes.{escapeOf, unescapeOf, unescapeIn};
@@ -72,15 +72,15 @@ pub fn unescape(s: &[u8], out: &mut [u8]) -> Unescaped
     ensures { λ r. ⌜ now (out .exit) ≡ unescapeIn (now (s .entry)) (now (out .entry)) r ⌝ }
 {
     let utf8 = text::first_bad(s);
-    if let Check::Bad(i) = utf8 {
+    if let Scan::StopsAt(i) = utf8 {
         return Unescaped::NotUtf8(i);
     }
     let stray = inner::escapes::no_escape(s);
-    if let Check::Bad(i) = stray {
+    if let Scan::StopsAt(i) = stray {
         return Unescaped::NoEscape(i);
     }
     let bad = inner::escapes::bad_escape(s);
-    if let Check::Bad(i) = bad {
+    if let Scan::StopsAt(i) = bad {
         return Unescaped::NotScalar(i);
     }
     if inner::escapes::spend_unescaped(s, out.len() + 1) == 0 {
@@ -95,7 +95,7 @@ pub fn fmt_literal(s: &[u8], quote: Quote, out: &mut [u8]) -> Formatted
     ensures { λ r. ⌜ now (out .exit) ≡ formatIn (now (s .entry)) quote (now (out .entry)) r ⌝ }
 {
     let utf8 = text::first_bad(s);
-    if let Check::Bad(i) = utf8 {
+    if let Scan::StopsAt(i) = utf8 {
         return Formatted::NotUtf8(i);
     }
     let q = inner::shows::quote_byte(quote);

@@ -5,7 +5,7 @@ use mathlib.Core.List.{List}
 use mathlib.Core.Path.{_≡_, refl, sym, ap, _∙_}
 use Prim.Native.Nat.{ℕ, zero, suc, _+_, _-_, _≤_, _<_}
 use native.Mathlib.Omega.{arith}
-use Rattle.table.specs.Characters.{firstBad, faultOf, Good}
+use Rattle.table.specs.Characters.{firstBad, faultOf, Through}
 use Rattle.table.specs.Record.{rootAt}
 use Rattle.links.specs.declared.Act.{Act}
 use Rattle.matcher.specs.declared.Outcome.{Outcome}
@@ -63,7 +63,7 @@ over-given k (Outcome.Missed l) q = let z : _≡_ {A = ℕ} 0 1 = cc in absurd (
 over-given k Outcome.Over q = refl
 
 -- for tables and lines of which none of 30 to 33 is given
-module _ (ns rs st : List ℕ) (start : ℕ) (line : List ℕ) (ready : readyOf ns rs st start ≡ Ready.Yes) (utf8 : firstBad line ≡ Good) where
+module _ (ns rs st : List ℕ) (start : ℕ) (line : List ℕ) (ready : readyOf ns rs st start ≡ Ready.Yes) (utf8 : firstBad line ≡ Through) where
   abbrev prog : ℕ → Act
   prog = program ns rs st
 

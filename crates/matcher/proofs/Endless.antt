@@ -5,7 +5,7 @@ use mathlib.Core.List.{List}
 use mathlib.Core.Path.{_≡_, refl, sym, ap, _∙_, subst}
 use Prim.Native.Nat.{ℕ, zero, suc, _+_, _≤_, _<_}
 use native.Mathlib.Omega.{arith}
-use Rattle.table.specs.Characters.{firstBad, Good}
+use Rattle.table.specs.Characters.{firstBad, Through}
 use Rattle.table.specs.Record.{rootAt}
 use Rattle.links.specs.declared.Most.{Most}
 use Rattle.links.specs.declared.Most.the-variants.{UpTo, NoEnd}
@@ -77,7 +77,7 @@ module _ (prog : ℕ → Act) (st line : List ℕ) where
   endless {d = d} {c = c} {lo = lo} {at = at} {m = m} h r = stuck d c lo at m h r (refl, refl) refl
 
 -- a rule that is such a repetition is 34 at every allowance
-pub endless-over : (ns rs st : List ℕ) (start : ℕ) (line : List ℕ) → readyOf ns rs st start ≡ Yes → firstBad line ≡ Good → {c lo m : ℕ} → program ns rs st (rootAt rs start) ≡ Repeat c lo NoEnd
+pub endless-over : (ns rs st : List ℕ) (start : ℕ) (line : List ℕ) → readyOf ns rs st start ≡ Yes → firstBad line ≡ Through → {c lo m : ℕ} → program ns rs st (rootAt rs start) ≡ Repeat c lo NoEnd
     → Runs (program ns rs st) st line 1023 (node c) 0 (upTo 0) m → (a : ℕ) → matchOf ns rs st start line a ≡ Over
 endless-over ns rs st start line y u {c = c} {lo = lo} {m = m} w h a =
     over-exactly-if ns rs st start line y u a (λ v n r. absurd (stuck (program ns rs st) st line 1023 c lo 0 m h r (refl, w) refl))

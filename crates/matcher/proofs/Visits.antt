@@ -5,6 +5,7 @@ use mathlib.Core.Path.{_≡_, refl, sym, ap, _∙_}
 use mathlib.Core.List.{List}
 use native.Mathlib.Omega.{arith}
 use lib.Dec.{leb}
+use Rattle.text.proofs.Booleans.{choose-by, choose-cong}
 use Rattle.links.specs.declared.Most.{Most}
 use Rattle.links.specs.declared.Act.{Act}
 use Rattle.links.specs.declared.Act.the-variants.{Text, Range, Any, Call, PosPred, NegPred, Seq, Choice, Repeat, Unfit}
@@ -42,14 +43,6 @@ unfolding one
 one-below f (Is c n) at l k h = took-below (f c) (at + n) l k h
 one-below f Broken at l k h = h
 
-choose-below : (k : ℕ) (b : Bool) (x y : Unit {0} → Outcome) → Below k (x tt) → Below k (y tt) → Below k (choose b x y)
-choose-below k true x y h g = h
-choose-below k false x y h g = g
-
-pub choose-cong : {A : Type 0} (b : Bool) (x y x′ y′ : Unit {0} → A) → x tt ≡ x′ tt → y tt ≡ y′ tt → choose b x y ≡ choose b x′ y′
-choose-cong true x y x′ y′ f g = f
-choose-cong false x y x′ y′ f g = g
-
 pub after-cong : (m : Outcome) (f f′ : ℕ → ℕ → Outcome) (g : ℕ → Outcome) → ((e l : ℕ) → m ≡ Matched e l → f e l ≡ f′ e l) → outcomeBy m f g ≡ outcomeBy m f′ g
 unfolding outcomeBy
 after-cong (Matched e l) f f′ g h = h e l refl
@@ -71,8 +64,8 @@ module _ (go : ℕ → ℕ → ℕ → Outcome) (spends : Spends go) where
     unfolding rounds
     rounds-below zero n at k = tt
     rounds-below (suc f) n at k =
-        choose-below (suc k) (full hi n) _ _ (omega arith)
-        (after-below (suc k) (go k c at) _ _ (below-up (go k c at) k (suc k) (omega arith) (spends k c at))
+        choose-by (Below (suc k)) (full hi n) _ _ (λ v. omega arith)
+        (λ v. after-below (suc k) (go k c at) _ _ (below-up (go k c at) k (suc k) (omega arith) (spends k c at))
         (λ e l h. below-up (rounds go c lo hi f (suc n) e l) (suc l) (suc k) (omega arith) (rounds-below f (suc n) e l))
         (λ l h. took-below (leb lo n) at l (suc k) h))
 
@@ -81,14 +74,14 @@ module _ (go : ℕ → ℕ → ℕ → Outcome) (spends : Spends go) where
     rounds-fuel zero g n at k h j = absurd (omega arith)
     rounds-fuel (suc f) zero n at k h j = absurd (omega arith)
     rounds-fuel (suc f) (suc g) n at k h j =
-        choose-cong (full hi n) _ _ _ _ refl
-        (after-cong (go k c at) _ _ _ (λ e l q. let z : l < k = fewer (go k c at) k (spends k c at) q in rounds-fuel f g (suc n) e l (omega arith) (omega arith)))
+        choose-cong (full hi n) _ _ _ _ (λ v. refl)
+        (λ v. after-cong (go k c at) _ _ _ (λ e l q. let z : l < k = fewer (go k c at) k (spends k c at) q in rounds-fuel f g (suc n) e l (omega arith) (omega arith)))
 
     pub repeat-law : (n at k : ℕ) → repeat go c lo hi n at k ≡ choose (full hi n) (λ u. Matched at k) (λ u. outcomeBy (go k c at) (λ e l. repeat go c lo hi (suc n) e l) (λ l. took (leb lo n) at l))
     unfolding repeat rounds
     repeat-law n at k =
-        choose-cong (full hi n) _ _ _ _ refl
-        (after-cong (go k c at) _ _ _ (λ e l q. let z : l < k = fewer (go k c at) k (spends k c at) q in rounds-fuel k (suc l) (suc n) e l (omega arith) (omega arith)))
+        choose-cong (full hi n) _ _ _ _ (λ v. refl)
+        (λ v. after-cong (go k c at) _ _ _ (λ e l q. let z : l < k = fewer (go k c at) k (spends k c at) q in rounds-fuel k (suc l) (suc n) e l (omega arith) (omega arith)))
 
   module _ (st line : List ℕ) where
     enter-below : (x : Act) (k at : ℕ) → Below (suc k) (enter st line x go k at)

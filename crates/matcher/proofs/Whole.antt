@@ -20,7 +20,7 @@ use Rattle.table.specs.declared.Node.{Node}
 use Rattle.table.specs.declared.Node.the-variants as Node
 use Rattle.table.specs.declared.Character.{Character}
 use Rattle.table.specs.declared.Character.the-variants as Character
-use Rattle.table.specs.Characters.{choose, and, within, charOf, character, firstBad, Good}
+use Rattle.table.specs.Characters.{choose, and, within, charOf, character, firstBad, Through}
 use Rattle.table.specs.Record.{nodeSize, nodesIn, part, nodeAt, rootAt}
 use Rattle.table.specs.Check.{Valid}
 use Rattle.table.specs.Check as Check
@@ -74,7 +74,7 @@ starts-lower (x ∷ xs) (y ∷ ys) e =
     let r = starts-lower xs ys (b .1) in
     (ap (λ z. z ∷ map lower (take (length xs) ys)) p ∙ ap (λ z. lower x ∷ z) (r .0), omega (arith, r .1))
 
-starts-good : (f : Bool) (xs ys : List ℕ) → firstBad xs ≡ Good → starts f xs ys ≡ true → (firstBad (take (length xs) ys) ≡ Good) × (length xs ≤ length ys)
+starts-good : (f : Bool) (xs ys : List ℕ) → firstBad xs ≡ Through → starts f xs ys ≡ true → (firstBad (take (length xs) ys) ≡ Through) × (length xs ≤ length ys)
 starts-good false xs ys g e = let r = starts-same xs ys e in (ap firstBad (r .0) ∙ g, r .1)
 starts-good true xs ys g e =
     let r = starts-lower xs ys e in
@@ -83,7 +83,7 @@ starts-good true xs ys g e =
 -- ---- texts of a program are UTF-8
 
 abbrev Fine : List ℕ → Act → Type 0
-Fine st (Text f p n) = (firstBad (part st p n) ≡ Good) × (p + n ≤ length st)
+Fine st (Text f p n) = (firstBad (part st p n) ≡ Through) × (p + n ≤ length st)
 Fine st (Range a b) = Unit {0}
 Fine st Any = Unit {0}
 Fine st (Call r) = Unit {0}
@@ -116,7 +116,7 @@ fine-unary st Unary.Push c = tt
 
 module _ (ns rs st : List ℕ) (v : Valid ns rs st) where
   module _ (i : ℕ) (l : i < nodesIn ns) where
-    so-far : Check.Sound ns st (i + 1)
+    so-far : Check.SoundUpTo ns st (i + 1)
     so-far = sound-below (i + 1) (omega arith) (v .nodes)
 
     fine-at : (x : Node) (k : ℕ) → nodeAt ns i ≡ x → Fine st (actOf x k)
@@ -191,8 +191,8 @@ module _ (prog : ℕ → Act) (st line : List ℕ) (fine : (i : ℕ) → Fine st
   lands (ended {lo = lo} {k = k} {at = at} f r) g t = lands-test (leb lo k) at (λ h. t)
 
 -- a matched length is at most the line's, and what stands before it and behind it is UTF-8
-pub whole : (ns rs st : List ℕ) (start : ℕ) (line : List ℕ) (a e n : ℕ) → readyOf ns rs st start ≡ Yes → firstBad line ≡ Good → matchOf ns rs st start line a ≡ Matched e n
-    → (e ≤ length line) × (firstBad (take e line) ≡ Good) × (firstBad (drop e line) ≡ Good)
+pub whole : (ns rs st : List ℕ) (start : ℕ) (line : List ℕ) (a e n : ℕ) → readyOf ns rs st start ≡ Yes → firstBad line ≡ Through → matchOf ns rs st start line a ≡ Matched e n
+    → (e ≤ length line) × (firstBad (take e line) ≡ Through) × (firstBad (drop e line) ≡ Through)
 whole ns rs st start line a e n y u q =
     let w = ready-allows ns rs st start (sym y) refl in
     let r = counted ns rs st start line y u a (upTo e) n q in

@@ -11,6 +11,7 @@ use replies::Found;
 use replies::Lines;
 use table::Named;
 use table::TableCheck;
+use text::limits;
 ghost use mathlib.Core.Path.{_≡_};
 ghost use lib.ListN.{length};
 ghost use Rattle.matcher.specs.Answers.{matchOf};
@@ -42,7 +43,7 @@ pub fn match_line(
 ) -> Answer
     ensures { λ r. ⌜ r ≡ matchOf (now (nodes .entry)) (now (rules .entry)) (now (store .entry)) start (now (line .entry)) allowance ⌝ }
 {
-    let mut links = [0u16; 4096];
+    let mut links = [0u16; limits::NODES];
     let ready = links::inner::ready::prepare(nodes, rules, store, start, &mut links);
     match ready {
         Ready::Yes => {
@@ -73,7 +74,7 @@ pub fn match_lines(
     ensures { λ r. ⌜ r ≡ linesOf (now (nodes .entry)) (now (rules .entry)) (now (store .entry)) start (now (text .entry)) (length (now (records .entry))) ⌝ }
     ensures { λ r. ⌜ now (records .exit) ≡ recordsOf (now (nodes .entry)) (now (rules .entry)) (now (store .entry)) start (now (text .entry)) allowance (now (records .entry)) ⌝ }
 {
-    let mut links = [0u16; 4096];
+    let mut links = [0u16; limits::NODES];
     let ready = links::inner::ready::prepare(nodes, rules, store, start, &mut links);
     match ready {
         Ready::Yes => {

@@ -3,6 +3,10 @@
 use replies::Answer;
 use replies::Found;
 use replies::Lines;
+use table::inner::layout::NODE_SIZE;
+
+// The numbers of a string under one `!` more than visits may nest.
+const CHAIN: usize = NODE_SIZE * 1026;
 
 fn tell(answer: Answer) {
     let row = replies::row_of(answer);
@@ -90,91 +94,58 @@ fn run_lines(
     write_records(records);
 }
 
-fn run_given(op: u8, line: &[u8], from: usize) {
+fn run_given(line: &[u8], many: bool) {
     let mut nodes = [0u32; 600];
     let mut rules = [0u32; 24];
     let mut store = [0u8; 256];
     let mut text = [0u8; 1024];
     let mut records = [7u64; 22];
-    let first = vectors::field(line, from);
-    let second = vectors::field(line, first.end);
-    let third = vectors::field(line, second.end);
-    let fourth = vectors::field(line, third.end);
-    let fifth = vectors::field(line, fourth.end);
-    let sixth = vectors::field(line, fifth.end);
-    let seventh = vectors::field(line, sixth.end);
-    let a1 = first.start;
-    let e1 = first.end;
-    let a2 = second.start;
-    let e2 = second.end;
-    let a3 = third.start;
-    let e3 = third.end;
-    let a4 = fourth.start;
-    let e4 = fourth.end;
-    let a5 = fifth.start;
-    let e5 = fifth.end;
-    let a6 = sixth.start;
-    let e6 = sixth.end;
-    let a7 = seventh.start;
-    let e7 = seventh.end;
-    let n = vectors::numbers(&line[a1..e1], &mut nodes);
-    let m = vectors::numbers(&line[a2..e2], &mut rules);
-    let k = vectors::unhex(&line[a3..e3], &mut store);
-    let start = vectors::number(&line[a4..e4]) as usize;
-    let t = vectors::unhex(&line[a5..e5], &mut text);
-    let allowance = vectors::number(&line[a6..e6]);
-    let room = vectors::number(&line[a7..e7]) as usize;
-    if op == b'm' {
-        run_match(
+    let start = vectors::number(vectors::word(line, 4)) as usize;
+    let allowance = vectors::number(vectors::word(line, 6));
+    let room = vectors::number(vectors::word(line, 7)) as usize;
+    let n = vectors::numbers(vectors::word(line, 1), &mut nodes);
+    let m = vectors::numbers(vectors::word(line, 2), &mut rules);
+    let k = vectors::unhex(vectors::word(line, 3), &mut store);
+    let t = vectors::unhex(vectors::word(line, 5), &mut text);
+    if many {
+        run_lines(
             &nodes[..n],
             &rules[..m],
             &store[..k],
             start,
             &text[..t],
             allowance,
+            room,
+            &mut records,
         );
         return;
     }
-    run_lines(
+    run_match(
         &nodes[..n],
         &rules[..m],
         &store[..k],
         start,
         &text[..t],
         allowance,
-        room,
-        &mut records,
     );
 }
 
 // n NODES RULES STORE NAME: the refusal's number and place, the index of the lowest rule of that name
-fn run_named(line: &[u8], from: usize) {
+fn run_named(line: &[u8]) {
     let mut nodes = [0u32; 600];
     let mut rules = [0u32; 24];
     let mut store = [0u8; 256];
     let mut name = [0u8; 256];
-    let first = vectors::field(line, from);
-    let second = vectors::field(line, first.end);
-    let third = vectors::field(line, second.end);
-    let fourth = vectors::field(line, third.end);
-    let a1 = first.start;
-    let e1 = first.end;
-    let a2 = second.start;
-    let e2 = second.end;
-    let a3 = third.start;
-    let e3 = third.end;
-    let a4 = fourth.start;
-    let e4 = fourth.end;
-    let n = vectors::numbers(&line[a1..e1], &mut nodes);
-    let m = vectors::numbers(&line[a2..e2], &mut rules);
-    let k = vectors::unhex(&line[a3..e3], &mut store);
-    let t = vectors::unhex(&line[a4..e4], &mut name);
+    let n = vectors::numbers(vectors::word(line, 1), &mut nodes);
+    let m = vectors::numbers(vectors::word(line, 2), &mut rules);
+    let k = vectors::unhex(vectors::word(line, 3), &mut store);
+    let t = vectors::unhex(vectors::word(line, 4), &mut name);
     tell_found(matcher::rule_named(&nodes[..n], &rules[..m], &store[..k], &name[..t]));
 }
 
 // A string, and NegPred over NegPred.
 fn chain(nodes: &mut [u32]) {
-    if nodes.len() != 6156 {
+    if nodes.len() != CHAIN {
         return;
     }
     nodes[0] = 1;
@@ -182,8 +153,8 @@ fn chain(nodes: &mut [u32]) {
     nodes[4] = 1;
     let mut i = 1;
     while i < 1026 {
-        nodes[6 * i] = 7;
-        nodes[6 * i + 3] = i as u32 - 1;
+        nodes[NODE_SIZE * i] = 7;
+        nodes[NODE_SIZE * i + 3] = i as u32 - 1;
         i += 1;
     }
 }
@@ -192,10 +163,10 @@ fn prefix(nodes: &[u32], n: usize, allowance: u64) {
     if nodes.len() < n {
         return;
     }
-    if n < 6 {
+    if n < NODE_SIZE {
         return;
     }
-    let root = n / 6 - 1;
+    let root = n / NODE_SIZE - 1;
     if 1026 < root {
         return;
     }
@@ -210,34 +181,31 @@ fn prefix(nodes: &[u32], n: usize, allowance: u64) {
 }
 
 // d N ALLOWANCE: as many times !, up to 1,025, before a string, over its own line
-fn run_deep(line: &[u8], from: usize) {
-    let mut nodes = [0u32; 6156];
+fn run_deep(line: &[u8]) {
+    let mut nodes = [0u32; CHAIN];
     chain(&mut nodes);
-    let first = vectors::field(line, from);
-    let second = vectors::field(line, first.end);
-    let a1 = first.start;
-    let e1 = first.end;
-    let a2 = second.start;
-    let e2 = second.end;
-    let n = vectors::number(&line[a1..e1]);
+    let n = vectors::number(vectors::word(line, 1));
     if 1025 < n {
         return;
     }
-    prefix(&nodes, 6 * (n as usize + 1), vectors::number(&line[a2..e2]));
+    prefix(
+        &nodes,
+        NODE_SIZE * (n as usize + 1),
+        vectors::number(vectors::word(line, 2)),
+    );
 }
 
 fn run_line(line: &[u8]) {
-    let op = vectors::field(line, 0);
-    let at = op.start;
+    let op = vectors::word(line, 0);
     vectors::write(line);
-    if line.len() <= at {
+    if op.len() == 0 {
         return;
     }
-    match line[at] {
-        b'm' => run_given(b'm', line, op.end),
-        b'l' => run_given(b'l', line, op.end),
-        b'd' => run_deep(line, op.end),
-        b'n' => run_named(line, op.end),
+    match op[0] {
+        b'm' => run_given(line, false),
+        b'l' => run_given(line, true),
+        b'd' => run_deep(line),
+        b'n' => run_named(line),
         _ => {}
     }
     vectors::write(b"\n");

@@ -3,6 +3,8 @@
 // on lines of its own the text. A small letter at a line's front asks for the full text, a capital for the
 // short one.
 use forms::Style;
+use table::inner::layout::NODE_SIZE;
+use table::inner::layout::RULE_SIZE;
 ghost use Prim.Native.Nat.{_≤_};
 ghost use Rattle.io.specs.Counts.{Counts};
 
@@ -31,6 +33,9 @@ fn run_print(
     answer(&told, out);
 }
 
+// The numbers of a leaf and of the operator over it.
+const PAIR: usize = 2 * NODE_SIZE;
+
 fn turn(i: usize) -> u32 {
     if i % 2 == 1 { 7 } else { 11 }
 }
@@ -42,19 +47,19 @@ fn make_deep(n: usize, nodes: &mut [u32]) -> usize
     if 4097 < n {
         return 0;
     }
-    if nodes.len() < 6 * n + 6 {
+    if nodes.len() < NODE_SIZE * n + NODE_SIZE {
         return 0;
     }
     nodes[0] = 4;
     nodes[4] = 1;
     let mut i = 1;
     while i < n {
-        let b = 6 * i;
+        let b = NODE_SIZE * i;
         nodes[b] = turn(i);
         nodes[b + 3] = (i - 1) as u32;
         i += 1;
     }
-    6 * n
+    NODE_SIZE * n
 }
 
 // Leaves whose texts are the first bytes of the store.
@@ -64,17 +69,17 @@ fn make_leaves(n: usize, kind: u32, length: u32, nodes: &mut [u32]) -> usize
     if 4097 < n {
         return 0;
     }
-    if nodes.len() < 6 * n {
+    if nodes.len() < NODE_SIZE * n {
         return 0;
     }
     let mut i = 0;
     while i < n {
-        let b = 6 * i;
+        let b = NODE_SIZE * i;
         nodes[b] = kind;
         nodes[b + 4] = length;
         i += 1;
     }
-    6 * n
+    NODE_SIZE * n
 }
 
 // The chain to the right over n leaves.
@@ -87,18 +92,18 @@ fn make_chain(n: usize, nodes: &mut [u32]) -> usize
     if 2048 < n {
         return 0;
     }
-    if nodes.len() < 12 * n {
+    if nodes.len() < PAIR * n {
         return 0;
     }
     let mut j = 1;
     while j < n {
-        let b = 6 * (n - 1 + j);
+        let b = NODE_SIZE * (n - 1 + j);
         nodes[b] = 8;
         nodes[b + 3] = (n - 1 - j) as u32;
         nodes[b + 4] = (n - 2 + j) as u32;
         j += 1;
     }
-    12 * n - 6
+    PAIR * n - NODE_SIZE
 }
 
 // Rules called by the first byte of the store, each with a node of its own.
@@ -108,22 +113,22 @@ fn make_rules(n: usize, rules: &mut [u32]) -> usize
     if 1025 < n {
         return 0;
     }
-    if rules.len() < 6 * n {
+    if rules.len() < RULE_SIZE * n {
         return 0;
     }
     let mut k = 0;
     while k < n {
-        let b = 6 * k;
+        let b = RULE_SIZE * k;
         rules[b + 1] = 1;
         rules[b + 3] = k as u32;
         k += 1;
     }
-    6 * n
+    RULE_SIZE * n
 }
 
 // One rule over all nodes.
 fn run_tree(style: Style, nodes: &[u32], store: &[u8], room: usize, out: &mut [u8]) {
-    let n = nodes.len() / 6;
+    let n = nodes.len() / NODE_SIZE;
     if n == 0 {
         return;
     }
@@ -135,7 +140,7 @@ fn run_tree(style: Style, nodes: &[u32], store: &[u8], room: usize, out: &mut [u
 }
 
 fn run_deep(style: Style, n: usize, room: usize, store: &[u8], out: &mut [u8]) {
-    let mut nodes = [0u32; 24588];
+    let mut nodes = [0u32; NODE_SIZE * 4098];
     let k = make_deep(n, &mut nodes);
     run_tree(style, &nodes[..k], store, room, out);
 }
@@ -149,37 +154,28 @@ fn run_chain(
     store: &[u8],
     out: &mut [u8],
 ) {
-    let mut nodes = [0u32; 24588];
+    let mut nodes = [0u32; NODE_SIZE * 4098];
     make_leaves(n, kind, length, &mut nodes);
     let k = make_chain(n, &mut nodes);
     run_tree(style, &nodes[..k], store, room, out);
 }
 
 fn run_many(style: Style, n: usize, room: usize, store: &[u8], out: &mut [u8]) {
-    let mut nodes = [0u32; 6150];
-    let mut rules = [0u32; 6150];
+    let mut nodes = [0u32; NODE_SIZE * 1025];
+    let mut rules = [0u32; RULE_SIZE * 1025];
     let k = make_leaves(n, 4, 1, &mut nodes);
     let m = make_rules(n, &mut rules);
     run_print(style, &nodes[..k], &rules[..m], store, room, out);
 }
 
 // p ROOM NODES RULES STORE: tables as they stand
-fn run_tables(style: Style, line: &[u8], from: usize, room: usize, out: &mut [u8]) {
+fn run_tables(style: Style, line: &[u8], room: usize, out: &mut [u8]) {
     let mut nodes = [0u32; 600];
     let mut rules = [0u32; 600];
     let mut store = [0u8; 600];
-    let first = vectors::field(line, from);
-    let second = vectors::field(line, first.end);
-    let third = vectors::field(line, second.end);
-    let a = first.start;
-    let b = first.end;
-    let c = second.start;
-    let d = second.end;
-    let e = third.start;
-    let f = third.end;
-    let n = vectors::numbers(&line[a..b], &mut nodes);
-    let m = vectors::numbers(&line[c..d], &mut rules);
-    let k = vectors::unhex(&line[e..f], &mut store);
+    let n = vectors::numbers(vectors::word(line, 2), &mut nodes);
+    let m = vectors::numbers(vectors::word(line, 3), &mut rules);
+    let k = vectors::unhex(vectors::word(line, 4), &mut store);
     run_print(style, &nodes[..n], &rules[..m], &store[..k], room, out);
 }
 
@@ -188,20 +184,11 @@ fn small(n: u64) -> u32 {
 }
 
 // d ROOM N, c ROOM N KIND LENGTH, m ROOM N, s ROOM N: tables that are made here, over a store of a's
-fn run_made(style: Style, line: &[u8], from: usize, op: u8, room: usize, out: &mut [u8]) {
+fn run_made(style: Style, line: &[u8], op: u8, room: usize, out: &mut [u8]) {
     let store = [97u8; 65537];
-    let first = vectors::field(line, from);
-    let second = vectors::field(line, first.end);
-    let third = vectors::field(line, second.end);
-    let a = first.start;
-    let b = first.end;
-    let c = second.start;
-    let d = second.end;
-    let e = third.start;
-    let f = third.end;
-    let n = vectors::number(&line[a..b]) as usize;
-    let kind = small(vectors::number(&line[c..d]));
-    let length = small(vectors::number(&line[e..f]));
+    let n = vectors::number(vectors::word(line, 2)) as usize;
+    let kind = small(vectors::number(vectors::word(line, 3)));
+    let length = small(vectors::number(vectors::word(line, 4)));
     match op {
         b'd' => run_deep(style, n, room, &store[..65536], out),
         b'c' => run_chain(style, n, kind, length, room, &store[..65536], out),
@@ -231,22 +218,19 @@ fn small_letter(op: u8) -> u8 {
 
 fn run_line(line: &[u8]) {
     let mut out = [170u8; 16384];
-    let op = vectors::field(line, 0);
-    let size = vectors::field(line, op.end);
-    let a = size.start;
-    let b = size.end;
-    let room = vectors::number(&line[a..b]) as usize;
-    let at = op.start;
+    let op = vectors::word(line, 0);
+    let room = vectors::number(vectors::word(line, 1)) as usize;
     vectors::write(line);
-    if line.len() <= at {
+    if op.len() == 0 {
         return;
     }
-    let style = style_of(line[at]);
-    let op = small_letter(line[at]);
-    if op == b'p' {
-        run_tables(style, line, b, room, &mut out);
+    let letter = op[0];
+    let style = style_of(letter);
+    let form = small_letter(letter);
+    if form == b'p' {
+        run_tables(style, line, room, &mut out);
     } else {
-        run_made(style, line, b, op, room, &mut out);
+        run_made(style, line, form, room, &mut out);
     }
 }
 

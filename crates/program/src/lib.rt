@@ -7,6 +7,7 @@
 pub mod inner;
 
 use forms::Style;
+use text::limits;
 ghost use lib.ListN.{length};
 ghost use Rattle.program.specs.Input.{Within};
 
@@ -66,7 +67,7 @@ pub fn read_input(name: &[u8], buf: &mut [u8]) -> Input
 // All that the programs desk and short do: a grammar from standard input, its text in a style or the line of its
 // refusal to standard output. What is written is the promise of `show::desk`; the rest moves bytes.
 pub fn print_input(name: &[u8], style: Style) {
-    let mut text = [0u8; 65537];
+    let mut text = [0u8; limits::TEXT + 1];
     let mut out = [0u8; 65536];
     let input = read_input(name, &mut text);
     let Input::Bytes(n) = input else {

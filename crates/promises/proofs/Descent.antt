@@ -7,6 +7,7 @@ use mathlib.Core.List.{List, [], _∷_, _++_}
 use native.Mathlib.Omega.{arith}
 use lib.Dec.{eqb}
 use borrow.Author.Tests.{lt-leb}
+use Rattle.text.specs.Limits.{maxOpen}
 use Rattle.text.specs.Booleans.{choose, among}
 use Rattle.text.specs.Words.{begins, push}
 use Rattle.text.proofs.Booleans.{and-true, choose-false, choose-true}
@@ -151,19 +152,19 @@ module _ (level : Level) (s : List ℕ) where
     first : is s at 11 ≡ false
 
   abbrev NodeOf : List Piece → ℕ → Tree Nowhere → Type 0
-  NodeOf x d e = (o at n : ℕ) → Stand s at x n → o + d ≤ 1024 → is s n 4 ≡ false → NodeAt o at n e
+  NodeOf x d e = (o at n : ℕ) → Stand s at x n → o + d ≤ maxOpen → is s n 4 ≡ false → NodeAt o at n e
 
   abbrev SignOf : List Piece → ℕ → Tree Nowhere → Type 0
-  SignOf x d e = (o at n : ℕ) → Stand s at x n → o + d ≤ 1024 → Ends s n → SignAt o at n e
+  SignOf x d e = (o at n : ℕ) → Stand s at x n → o + d ≤ maxOpen → Ends s n → SignAt o at n e
 
   abbrev TermOf : List Piece → ℕ → Tree Nowhere → Type 0
-  TermOf x d e = (o at n : ℕ) → Stand s at x n → o + d ≤ 1024 → Ends s n → TermAt o at n e
+  TermOf x d e = (o at n : ℕ) → Stand s at x n → o + d ≤ maxOpen → Ends s n → TermAt o at n e
 
   abbrev SeqOf : List Piece → ℕ → (Option (Tree Nowhere) → Tree Nowhere) → Type 0
-  SeqOf x d f = (o at n : ℕ) → Stand s at x n → o + d ≤ 1024 → Ends s n → (c acc : Option (Tree Span)) (a : Option (Tree Nowhere)) → Matches acc a → SeqAt o at n c acc (f a)
+  SeqOf x d f = (o at n : ℕ) → Stand s at x n → o + d ≤ maxOpen → Ends s n → (c acc : Option (Tree Span)) (a : Option (Tree Nowhere)) → Matches acc a → SeqAt o at n c acc (f a)
 
   abbrev ChoiceOf : List Piece → ℕ → (Option (Tree Nowhere) → Tree Nowhere) → Type 0
-  ChoiceOf x d f = (o at n : ℕ) → Stand s at x n → o + d ≤ 1024 → Ends s n → (acc : Option (Tree Span)) (a : Option (Tree Nowhere)) → Matches acc a → ChoiceAt o at n acc (f a)
+  ChoiceOf x d f = (o at n : ℕ) → Stand s at x n → o + d ≤ maxOpen → Ends s n → (acc : Option (Tree Span)) (a : Option (Tree Nowhere)) → Matches acc a → ChoiceAt o at n acc (f a)
 
   -- ---- steps of the descent
 
@@ -247,7 +248,7 @@ module _ (level : Level) (s : List ℕ) where
         }
 
     -- as an expression, before what ends it
-    expr-by : (f : Option (Tree Nowhere) → Tree Nowhere) → ChoiceOf x d f → (o at n k : ℕ) → Stand s at x n → o + d ≤ 1024 → kind s n ≡ k → eqb k 10 ≡ false → eqb k 11 ≡ false
+    expr-by : (f : Option (Tree Nowhere) → Tree Nowhere) → ChoiceOf x d f → (o at n k : ℕ) → Stand s at x n → o + d ≤ maxOpen → kind s n ≡ k → eqb k 10 ≡ false → eqb k 11 ≡ false
         → among (2 ∷ 4 ∷ 12 ∷ 13 ∷ 14 ∷ []) k ≡ false → Reads (Run level s (expr o at)) (f none) n
     unfolding closed
     expr-by f g o at n k h l e p q i =
@@ -263,7 +264,7 @@ module _ (level : Level) (s : List ℕ) where
           tree = endsAt (r .tree) (end s (c .stop));
           goes =
               unsigned o at n _ (no s at 6 8 (c .opens) refl) (no s at 6 9 (c .opens) refl)
-              (node-law level s o at ∙ choose-true (is s at 6) _ _ (yes s at 6 (c .opens)) ∙ opened-false o s at _ (lt-leb 1024 o (omega arith)) ∙ next-good _ _ (r .reads)
+              (node-law level s o at ∙ choose-true (is s at 6) _ _ (yes s at 6 (c .opens)) ∙ opened-false o s at _ (lt-leb maxOpen o (omega arith)) ∙ next-good _ _ (r .reads)
               ∙ want-true refused s (c .stop) 7 _ (yes s (c .stop) 7 (c .closing)) ∙ gots refl (c .past));
           same = aside-ends (r .tree) (end s (c .stop)) ∙ r .same;
           first = begin-by s at 6 (c .opens) refl refl;
@@ -412,7 +413,7 @@ module _ (level : Level) (s : List ℕ) where
           goes =
               unsigned o at n _ (no s at 18 8 (a .0) refl) (no s at 18 9 (a .0) refl)
               (node-law level s o at ∙ choose-false (is s at 6) _ _ (no s at 18 6 (a .0) refl) ∙ choose-true (spells push s at) _ _ (spells-by s at (a .0) push (a .1) push)
-              ∙ want-true refused s (at + 1) 6 _ (yes s (at + 1) 6 (a .2 .0)) ∙ opened-false o s (at + 1) _ (lt-leb 1024 o (omega arith)) ∙ next-good _ _ (r .reads)
+              ∙ want-true refused s (at + 1) 6 _ (yes s (at + 1) 6 (a .2 .0)) ∙ opened-false o s (at + 1) _ (lt-leb maxOpen o (omega arith)) ∙ next-good _ _ (r .reads)
               ∙ want-true refused s (i .0) 7 _ (yes s (i .0) 7 (i .2 .0)) ∙ gots refl (i .2 .2));
           same = sight-one level Push (aside (r .tree)) (whole t) (r .same ∙ ap (sight level) (back-free Choice t));
           first = begin-by s at 18 (a .0) refl refl;
@@ -507,7 +508,7 @@ module _ (level : Level) (s : List ℕ) where
     pub read : Reads (Run level s (expr 0 at)) e n
     pub first : is s at 11 ≡ false
 
-  pub marked-read : (m : Tree Bool) → Fits m → fine m ≡ true → counted m ≡ true → depth m ≤ 1024 → (at n : ℕ) → Stand s at (pieces m) n → kind s n ≡ 3 → Read at n (whole m)
+  pub marked-read : (m : Tree Bool) → Fits m → fine m ≡ true → counted m ≡ true → depth m ≤ maxOpen → (at n : ℕ) → Stand s at (pieces m) n → kind s n ≡ 3 → Read at n (whole m)
   marked-read m k f c d at n h e =
       let g = every m k f c .choice-of in
       let r = expr-by (pieces m) (depth m) (λ a. back Choice a m) g 0 at n 3 h (omega arith) e refl refl refl in

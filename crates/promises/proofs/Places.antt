@@ -7,9 +7,10 @@ use native.Mathlib.Omega.{arith}
 use lib.Dec.{leb}
 use lib.ListN.{length}
 use borrow.Author.Tests.{le-leb}
+use Rattle.text.specs.Limits.{maxText}
 use Rattle.text.specs.Utf8.{firstBad}
-use Rattle.text.specs.declared.Check.{Check}
-use Rattle.text.specs.declared.Check.the-variants as Check
+use Rattle.text.specs.declared.Scan.{Scan}
+use Rattle.text.specs.declared.Scan.the-variants as Scan
 use Rattle.text.proofs.Booleans.{choose-by}
 use Rattle.token.specs.Lists.{tokensOf, pastLast}
 use Rattle.token.specs.Faults.{FaultFrom}
@@ -46,21 +47,21 @@ module _ (level : Level) (s : List ℕ) (n r b : ℕ) where
       ⊎-elim (λ h. not-structure h refl) (λ h. ⊎-elim (λ h. not-values h refl) (λ h. not-room h refl) h) (judged-why level s n r b (because NoToken p) e)
 
   module _ (p : ℕ) where
-    by-list : (c : Check) → checkedBy c (refusedBy NoToken) (λ u. judgedOf level s n r b) ≡ refusedBy NoToken p → c ≡ Check.Bad p
+    by-list : (c : Scan) → checkedBy c (refusedBy NoToken) (λ u. judgedOf level s n r b) ≡ refusedBy NoToken p → c ≡ Scan.StopsAt p
     unfolding numbered
-    by-list (Check.Bad q) e = ap (λ (x : Reading). Check.Bad (numbered x .place)) e
-    by-list Check.Good e = absurd (not-judged p e)
+    by-list (Scan.StopsAt q) e = ap (λ (x : Reading). Scan.StopsAt (numbered x .place)) e
+    by-list Scan.Through e = absurd (not-judged p e)
 
-    by-utf8 : (c : Check) → checkedBy c (refusedBy NotUtf8) (λ u. listedOf level s n r b) ≡ refusedBy NoToken p → tokensOf s .fault ≡ Check.Bad p
+    by-utf8 : (c : Scan) → checkedBy c (refusedBy NotUtf8) (λ u. listedOf level s n r b) ≡ refusedBy NoToken p → tokensOf s .fault ≡ Scan.StopsAt p
     unfolding listedOf numbered numberOf
-    by-utf8 Check.Good e = by-list (tokensOf s .fault) e
-    by-utf8 (Check.Bad q) e = let z : _≡_ {A = ℕ} 2 3 = ap (λ (x : Reading). numbered x .number) e in absurd (omega arith)
+    by-utf8 Scan.Through e = by-list (tokensOf s .fault) e
+    by-utf8 (Scan.StopsAt q) e = let z : _≡_ {A = ℕ} 2 3 = ap (λ (x : Reading). numbered x .number) e in absurd (omega arith)
 
     -- the reader's 3 is that of the text's list of tokens
-    pub reader-3 : readOf level s n r b ≡ refusedBy NoToken p → tokensOf s .fault ≡ Check.Bad p
+    pub reader-3 : readOf level s n r b ≡ refusedBy NoToken p → tokensOf s .fault ≡ Scan.StopsAt p
     unfolding readOf numbered numberOf
     reader-3 =
-        choose-by (λ (x : Reading). x ≡ refusedBy NoToken p → tokensOf s .fault ≡ Check.Bad p) (leb (length s) 65536) _ _ (λ _ e. by-utf8 (firstBad s) e)
+        choose-by (λ (x : Reading). x ≡ refusedBy NoToken p → tokensOf s .fault ≡ Scan.StopsAt p) (leb (length s) maxText) _ _ (λ _ e. by-utf8 (firstBad s) e)
         (λ _ e.
         let z : _≡_ {A = ℕ} 1 3 = ap (λ (x : Reading). numbered x .number) e in
         absurd (omega arith))
@@ -70,6 +71,6 @@ module _ (level : Level) (s : List ℕ) (n r b : ℕ) where
     reader-place e = text-place s p (reader-3 e)
 
     -- and the other way: where nothing comes before it, the list's 3 is the reader's
-    pub reads-3 : length s ≤ 65536 → firstBad s ≡ Check.Good → tokensOf s .fault ≡ Check.Bad p → readOf level s n r b ≡ refusedBy NoToken p
+    pub reads-3 : length s ≤ maxText → firstBad s ≡ Scan.Through → tokensOf s .fault ≡ Scan.StopsAt p → readOf level s n r b ≡ refusedBy NoToken p
     unfolding readOf listedOf
-    reads-3 l u e = rw (le-leb (length s) 65536 l, u, e) refl
+    reads-3 l u e = rw (le-leb (length s) maxText l, u, e) refl

@@ -4,6 +4,7 @@ use mathlib.Core.Path.{_≡_, refl, sym, ap, _∙_}
 use mathlib.Core.List.{List, [], _∷_, map}
 use native.Mathlib.Omega.{arith}
 use lib.ListN.{length, getD}
+use Rattle.text.specs.Limits.{maxNodes, maxRules, maxStore}
 use Rattle.table.specs.Tree.{Span, Tree, Rule, Nowhere, count, counts, rulesStored}
 use Rattle.table.specs.Flat.{nodesOf, recordsOf}
 use Rattle.forms.specs.declared.Style.{Style}
@@ -59,11 +60,11 @@ repeated (t ∷ ts) = t ∷ map (λ (u : Tree Nowhere). t) ts
 
 -- what the definitions say of them
 record Facts : Type 0 where
-  short-read : numbered (readOf Tagged short 4096 1024 65536) .number ≡ 0
-  long-read : numbered (readOf Tagged long 4096 1024 65536) .number ≡ 0
+  short-read : numbered (readOf Tagged short maxNodes maxRules maxStore) .number ≡ 0
+  long-read : numbered (readOf Tagged long maxNodes maxRules maxStore) .number ≡ 0
   short-nodes : nodesOf (rulesRead Tagged short) ≡ 4 ∷ 3 ∷ 4 ∷ 1 ∷ 1 ∷ 0 ∷ []
   long-nodes : nodesOf (rulesRead Tagged long) ≡ 4 ∷ 3 ∷ 4 ∷ 1 ∷ 1 ∷ 0 ∷ 11 ∷ 3 ∷ 5 ∷ 0 ∷ 0 ∷ 0 ∷ []
-  both-read : numbered (readOf Tagged both 4096 1024 65536) .number ≡ 0
+  both-read : numbered (readOf Tagged both maxNodes maxRules maxStore) .number ≡ 0
   both-trees : map (count {P = Nowhere}) (treesOf Tagged both) ≡ 1 ∷ 2 ∷ []
   both-repeated : getD (map (count {P = Nowhere}) (repeated (treesOf Tagged both))) 1 0 ≡ 1
   short-prints : printIn Full (nodesOf (rulesRead Tagged short)) (recordsOf (rulesRead Tagged short)) (rulesStored (rulesRead Tagged short)) zeros
@@ -91,12 +92,12 @@ facts =
 
 -- ---- a reader that refuses everything
 
-pub refuses-all : (f : List ℕ → Reading) → ((s : List ℕ) → f s ≡ readOf Tagged s 4096 1024 65536) → ((s : List ℕ) → numbered (f s) .number ≡ 0 → ⊥) → ⊥
+pub refuses-all : (f : List ℕ → Reading) → ((s : List ℕ) → f s ≡ readOf Tagged s maxNodes maxRules maxStore) → ((s : List ℕ) → numbered (f s) .number ≡ 0 → ⊥) → ⊥
 refuses-all f meets never = never short (ap (λ (r : Reading). numbered r .number) (meets short) ∙ facts .short-read)
 
 -- ---- a reader that gives one fixed tree
 
-pub fixed-tree : (ns : List ℕ) → ((s : List ℕ) → numbered (readOf Tagged s 4096 1024 65536) .number ≡ 0 → nodesOf (rulesRead Tagged s) ≡ ns) → ⊥
+pub fixed-tree : (ns : List ℕ) → ((s : List ℕ) → numbered (readOf Tagged s maxNodes maxRules maxStore) .number ≡ 0 → nodesOf (rulesRead Tagged s) ≡ ns) → ⊥
 fixed-tree ns same =
     let e = sym (facts .short-nodes) ∙ same short (facts .short-read) ∙ sym (same long (facts .long-read)) ∙ facts .long-nodes in
     let n : _≡_ {A = ℕ} 6 12 = ap length e in
@@ -104,7 +105,7 @@ fixed-tree ns same =
 
 -- ---- a reader that does the first rule and repeats it for the others
 
-pub repeats-first : ((s : List ℕ) → numbered (readOf Tagged s 4096 1024 65536) .number ≡ 0 → treesOf Tagged s ≡ repeated (treesOf Tagged s)) → ⊥
+pub repeats-first : ((s : List ℕ) → numbered (readOf Tagged s maxNodes maxRules maxStore) .number ≡ 0 → treesOf Tagged s ≡ repeated (treesOf Tagged s)) → ⊥
 repeats-first same =
     let e = same both (facts .both-read) in
     let f = sym (facts .both-trees) ∙ ap (map (count {P = Nowhere})) e in

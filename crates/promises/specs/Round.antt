@@ -6,6 +6,7 @@ use mathlib.Core.List.{List, [], _∷_, map}
 use lib.Dec.{leb, eqb}
 use lib.ListN.{length, getD}
 use Rattle.text.specs.Booleans.{and, or}
+use Rattle.text.specs.Limits.{maxNodes, maxRules, maxText, maxOpen}
 use Rattle.table.specs.declared.Unary.{Unary}
 use Rattle.table.specs.declared.Unary.the-variants.{PosPred, NegPred, Opt, Rep, RepOnce, RepExact, RepMin, RepMax, RepMinMax, Push}
 use Rattle.table.specs.declared.Sort.{Sort}
@@ -14,7 +15,7 @@ use Rattle.table.specs.declared.End.{End}
 use Rattle.table.specs.declared.End.the-variants.{Open, At}
 use Rattle.table.specs.Tree.{Atom, text, range, peekSlice, Wrap, plain, nodeTag, Tree, leaf, one, two, Rule, Nowhere, ruleBy, asideRule, counts, rulesStored}
 use Rattle.table.specs.Record.{rulesIn, rulesOf}
-use Rattle.table.specs.Check.{maxNodes, maxRules, tables}
+use Rattle.table.specs.Check.{tables}
 use Rattle.table.specs.declared.TableCheck.the-variants as Table
 use Rattle.forms.specs.declared.Style.{Style}
 use Rattle.forms.specs.declared.Style.the-variants.{Full, Short}
@@ -188,8 +189,8 @@ pub record Printable (style : Style) (ns rs st : List ℕ) : Type 0 where
   pub narrow : Narrow ns
   pub some : 1 ≤ rulesIn rs
   pub nonzeros : nonzeroRules (rulesOf ns rs st) ≡ true
-  pub short : length (tableText style ns rs st) ≤ 65536
-  pub shallow : depths (markedRules style (rulesOf ns rs st)) ≤ 1024
+  pub short : length (tableText style ns rs st) ≤ maxText
+  pub shallow : depths (markedRules style (rulesOf ns rs st)) ≤ maxOpen
 
 -- a text is read as these rules, spans aside, given room for them and no more; the limits leave room, and so does a
 -- store as long as the text

@@ -15,8 +15,8 @@ use borrow.Author.Tests.{le-leb, lt-leb, leb-true, ltb-true, eqb-true}
 use Rattle.text.specs.Booleans.{choose, and, or}
 use Rattle.text.specs.Splice.{fronted}
 use Rattle.text.specs.Utf8.{firstBad}
-use Rattle.text.specs.declared.Check.{Check}
-use Rattle.text.specs.declared.Check.the-variants as Check
+use Rattle.text.specs.declared.Scan.{Scan}
+use Rattle.text.specs.declared.Scan.the-variants as Scan
 use Rattle.literal.specs.Escapes.{badEscape}
 use Rattle.token.specs.Lists.{tokensOf, filledOf}
 use Rattle.token.specs.declared.Filled.{Filled}
@@ -43,6 +43,7 @@ use Rattle.structure.specs.Answers.{summaries}
 use Rattle.structure.proofs.Sizes as Sizes
 use Rattle.text.proofs.Tests.{lt-or-ge}
 use Rattle.text.proofs.Booleans.{and-left, choose-false, choose-true, or-first, or-second, split}
+use Rattle.text.specs.Limits.{maxText}
 use Rattle.token.specs.Table.{tokenSize, flat, roomOf, toks, kind, is, Lent}
 use Rattle.structure.proofs.Steps.{inside-is, another}
 use Rattle.structure.proofs.Rules.{rule-went, rules-end}
@@ -113,9 +114,9 @@ or-sound : (f : Fault) (g : Unit {0} → Fault) → orFault f g ≡ Fault.Sound 
 or-sound Fault.Sound g e = (refl, e)
 or-sound (Fault.At r) g e = let z : _≡_ {A = ℕ} 0 1 = cc in absurd (omega arith)
 
-literal-good : (s : List ℕ) (i : ℕ) (c : Check) → literalFault s i c ≡ Fault.Sound → c ≡ Check.Good
-literal-good s i Check.Good e = refl
-literal-good s i (Check.Bad k) e = let z : _≡_ {A = ℕ} 0 1 = cc in absurd (omega arith)
+literal-good : (s : List ℕ) (i : ℕ) (c : Scan) → literalFault s i c ≡ Fault.Sound → c ≡ Scan.Through
+literal-good s i Scan.Through e = refl
+literal-good s i (Scan.StopsAt k) e = let z : _≡_ {A = ℕ} 0 1 = cc in absurd (omega arith)
 
 module _ (level : Level) (s : List ℕ) where
   sound-at : (before i n j : ℕ) → faultsFrom level s before i n ≡ Fault.Sound → i ≤ j → j < i + n → (k : ℕ) × (faultAt level s k j ≡ Fault.Sound)
@@ -129,13 +130,13 @@ module _ (level : Level) (s : List ℕ) where
       (eq-or-lt-of-le h)
 
   strings-good : (i : ℕ) (k : ℕ) → faultAt level s k i ≡ Fault.Sound → is s i 18 ≡ false → is s i 20 ≡ false → is s i 21 ≡ false → or (is s i 23) (or (is s i 24) (is s i 25)) ≡ true
-      → badEscape (literalBytes s i) ≡ Check.Good
+      → badEscape (literalBytes s i) ≡ Scan.Through
   unfolding faultAt
   strings-good i k e a b c d =
       literal-good s i (badEscape (literalBytes s i))
       (sym (choose-false (is s i 18) _ _ a ∙ choose-false (is s i 20) _ _ b ∙ choose-false (is s i 21) _ _ c ∙ choose-true (or (is s i 23) (or (is s i 24) (is s i 25))) _ _ d) ∙ e)
 
-  sound-literal : faults level s ≡ Fault.Sound → (i x : ℕ) → 22 < x → is s i x ≡ true → or (is s i 23) (or (is s i 24) (is s i 25)) ≡ true → badEscape (literalBytes s i) ≡ Check.Good
+  sound-literal : faults level s ≡ Fault.Sound → (i x : ℕ) → 22 < x → is s i x ≡ true → or (is s i 23) (or (is s i 24) (is s i 25)) ≡ true → badEscape (literalBytes s i) ≡ Scan.Through
   unfolding faults is
   sound-literal e i x h q d =
       let l = inside-is s i x (omega arith) q in
@@ -153,7 +154,7 @@ module _ (level : Level) (s : List ℕ) where
 
   -- ---- the texts of rules aren't large
 
-  small-in : length s ≤ 65536 → (k i : ℕ) (us : List (Rule Span)) → Structure.rulesUpTo level s k i ≡ rules us → length (rulesStored us) ≤ Sizes.most * (counts us + length us)
+  small-in : length s ≤ maxText → (k i : ℕ) (us : List (Rule Span)) → Structure.rulesUpTo level s k i ≡ rules us → length (rulesStored us) ≤ Sizes.most * (counts us + length us)
   unfolding Structure.rulesUpTo counts rulesStored
   small-in h zero i us e =
       let z : us ≡ [] = cc in
@@ -176,7 +177,7 @@ module _ (level : Level) (s : List ℕ) where
       omega arith)
       (lt-or-ge i (length (toks s)))
 
-  small : length s ≤ 65536 → (us : List (Rule Span)) → grammar level s ≡ rules us → length (rulesStored us) ≤ Sizes.most * (counts us + length us)
+  small : length s ≤ maxText → (us : List (Rule Span)) → grammar level s ≡ rules us → length (rulesStored us) ≤ Sizes.most * (counts us + length us)
   unfolding grammar
   small h us e =
       split (leb (length (toks s)) (docs s)) _ _ (λ v w. let z : _≡_ {A = ℕ} 0 1 = cc in absurd (omega arith)) (λ v w. small-in h (length (toks s)) (docs s) us w) e
@@ -184,7 +185,7 @@ module _ (level : Level) (s : List ℕ) where
 -- ---- what is read is built
 
 module _ (level : Level) (s ns rs st : List ℕ) where
-  pub build-ready : length s ≤ 65536 → {x y z : ℕ} → judgedOf level s (roomForNodes ns) (roomForRules rs) (length st) ≡ Reading.Read x y z
+  pub build-ready : length s ≤ maxText → {x y z : ℕ} → judgedOf level s (roomForNodes ns) (roomForRules rs) (length st) ≡ Reading.Read x y z
       → Scalars s × GrammarRoom (grammar level s) (rulesRead level s) ns rs st
   build-ready h e =
       let c = judged-counts level s (roomForNodes ns) (roomForRules rs) (length st) e in
@@ -210,7 +211,7 @@ module _ (level : Level) (s ns rs st : List ℕ) (x : Reading) (n r : ℕ) (e : 
   build-kept y w = (judged-is, rw w (kept level s ns rs st y))
 
   module _ {a b c : ℕ} (w : x ≡ Reading.Read a b c) where
-    pub build-room : length s ≤ 65536 → Scalars s × GrammarRoom (grammar level s) (rulesRead level s) ns rs st
+    pub build-room : length s ≤ maxText → Scalars s × GrammarRoom (grammar level s) (rulesRead level s) ns rs st
     build-room h = build-ready level s ns rs st h (sym judged-is ∙ w)
 
     pub build-read : (ns′ rs′ st′ : List ℕ) → RulesBuilt (rulesRead level s) ns rs st ns′ rs′ st′
@@ -271,21 +272,21 @@ module _ (s o₀ : List ℕ) (f : Filled) (e : f ≡ filledOf (roomOf o₀) s) w
   unfolding listedOf
   list-and-read-stopped level ns rs st n r b p q y h =
       let w = filled-none (roomOf o₀) s p (sym e ∙ q) in
-      let z : refusedBy NoToken p ≡ listedOf level s n r b = sym (ap (λ (x : Check). checkedBy x (refusedBy NoToken) (λ u. judgedOf level s n r b)) (w .1)) in
+      let z : refusedBy NoToken p ≡ listedOf level s n r b = sym (ap (λ (x : Scan). checkedBy x (refusedBy NoToken) (λ u. judgedOf level s n r b)) (w .1)) in
       (ap Attempt.Done (h ∙ z) ∙ sym (tried-fits (roomOf o₀) level s n r b (w .0)), rw h (kept level s ns rs st (because NoToken p)))
 
   module _ (n : ℕ) (q : f ≡ Filled.All n) where
-    all : (length (toks s) ≤ roomOf o₀) × (n ≡ length (toks s)) × (tokensOf s .fault ≡ Check.Good)
+    all : (length (toks s) ≤ roomOf o₀) × (n ≡ length (toks s)) × (tokensOf s .fault ≡ Scan.Through)
     all = filled-all (roomOf o₀) s n (sym e ∙ q)
 
     pub list-and-read-filled : (level : Level) (x : Reading) (k r b : ℕ) → x ≡ judgedOf level s k r b → Attempt.Done x ≡ attemptOf (roomOf o₀) level s k r b
     unfolding listedOf
     list-and-read-filled level x k r b h =
-        let z : x ≡ listedOf level s k r b = h ∙ sym (ap (λ (y : Check). checkedBy y (refusedBy NoToken) (λ u. judgedOf level s k r b)) (all .2)) in
+        let z : x ≡ listedOf level s k r b = h ∙ sym (ap (λ (y : Scan). checkedBy y (refusedBy NoToken) (λ u. judgedOf level s k r b)) (all .2)) in
         ap Attempt.Done z ∙ sym (tried-fits (roomOf o₀) level s k r b (all .0))
 
     -- the product that is the used part's length is a small number
-    pub few-numbers : length s ≤ 65536 → n * tokenSize ≤ 196608
+    pub few-numbers : length s ≤ maxText → n * tokenSize ≤ 196608
     few-numbers h =
         let z = all .1 in
         let l = few s in
@@ -309,7 +310,7 @@ module _ (s o₀ : List ℕ) (f : Filled) (e : f ≡ filledOf (roomOf o₀) s) w
           let a = length-take (n * tokenSize) o₁ in
           omega arith
 
-      pub lent : length s ≤ 65536 → Lent s (take (n * tokenSize) o₁)
+      pub lent : length s ≤ maxText → Lent s (take (n * tokenSize) o₁)
       lent l = record { short = l; table = used (toks s) o₀ o₁ n held (all .1) }
 
 -- ---- the whole
@@ -335,22 +336,22 @@ module _ (level : Level) (s ns rs st : List ℕ) where
   unfolding reported
   met e l = record { answer = e; report = ap numbered e; left = l }
 
-  pub read-long : 65536 < length s → (y : Reading) → y ≡ refusedBy TooLong 0 → Meets level s ns rs st y ns rs st
+  pub read-long : maxText < length s → (y : Reading) → y ≡ refusedBy TooLong 0 → Meets level s ns rs st y ns rs st
   unfolding readOf
-  read-long h y w = met (w ∙ sym (choose-false (leb (length s) 65536) _ _ (lt-leb (length s) 65536 h))) (rw w (kept level s ns rs st (because TooLong 0)))
+  read-long h y w = met (w ∙ sym (choose-false (leb (length s) maxText) _ _ (lt-leb (length s) maxText h))) (rw w (kept level s ns rs st (because TooLong 0)))
 
-  module _ (h : length s ≤ 65536) (c : Check) (e : c ≡ firstBad s) where
-    by-check : {y : Check} → c ≡ y
+  module _ (h : length s ≤ maxText) (c : Scan) (e : c ≡ firstBad s) where
+    by-check : {y : Scan} → c ≡ y
         → checkedBy y (refusedBy NotUtf8) (λ u. listedOf level s (roomForNodes ns) (roomForRules rs) (length st)) ≡ readOf level s (roomForNodes ns) (roomForRules rs) (length st)
     unfolding readOf
     by-check q =
-        sym (choose-true (leb (length s) 65536) _ _ (le-leb (length s) 65536 h)
-        ∙ ap (λ (x : Check). checkedBy x (refusedBy NotUtf8) (λ u. listedOf level s (roomForNodes ns) (roomForRules rs) (length st))) (sym e ∙ q))
+        sym (choose-true (leb (length s) maxText) _ _ (le-leb (length s) maxText h)
+        ∙ ap (λ (x : Scan). checkedBy x (refusedBy NotUtf8) (λ u. listedOf level s (roomForNodes ns) (roomForRules rs) (length st))) (sym e ∙ q))
 
-    pub read-bad : (p : ℕ) → c ≡ Check.Bad p → (y : Reading) → y ≡ refusedBy NotUtf8 p → Meets level s ns rs st y ns rs st
+    pub read-bad : (p : ℕ) → c ≡ Scan.StopsAt p → (y : Reading) → y ≡ refusedBy NotUtf8 p → Meets level s ns rs st y ns rs st
     read-bad p q y w = met (w ∙ by-check q) (rw w (kept level s ns rs st (because NotUtf8 p)))
 
-    pub read-good : c ≡ Check.Good → (r : Reading) (ns′ rs′ st′ : List ℕ) → r ≡ listedOf level s (roomForNodes ns) (roomForRules rs) (length st) → Leaves level s r ns rs st ns′ rs′ st′
+    pub read-good : c ≡ Scan.Through → (r : Reading) (ns′ rs′ st′ : List ℕ) → r ≡ listedOf level s (roomForNodes ns) (roomForRules rs) (length st) → Leaves level s r ns rs st ns′ rs′ st′
         → Meets level s ns rs st r ns′ rs′ st′
     read-good q r ns′ rs′ st′ w l = met (w ∙ by-check q) l
 

@@ -8,9 +8,10 @@ use lib.ListN.{length}
 use borrow.Author.Tests.{leb-true}
 use Rattle.text.specs.Booleans.{choose}
 use Rattle.text.specs.Utf8.{firstBad}
-use Rattle.text.specs.declared.Check.{Check}
-use Rattle.text.specs.declared.Check.the-variants as Check
+use Rattle.text.specs.declared.Scan.{Scan}
+use Rattle.text.specs.declared.Scan.the-variants as Scan
 use Rattle.text.proofs.Booleans.{split}
+use Rattle.text.specs.Limits.{maxText}
 use Rattle.token.specs.Lists.{tokensOf}
 use Rattle.table.specs.Tree.{Span, Rule, counts, rulesStored}
 use Rattle.structure.specs.declared.Level.{Level}
@@ -55,9 +56,9 @@ module _ {x y z : ℕ} where
   ruled-read (rules us) f e = (refl, e)
   ruled-read (unruled r) f e = let z : _≡_ {A = ℕ} 0 1 = cc in absurd (omega arith)
 
-  checked-read : (w : Why) (c : Check) (g : Unit {0} → Reading) → checkedBy c (refusedBy w) g ≡ Reading.Read x y z → g tt ≡ Reading.Read x y z
-  checked-read w (Check.Bad p) g e = let z : _≡_ {A = ℕ} 0 1 = cc in absurd (omega arith)
-  checked-read w Check.Good g e = e
+  checked-read : (w : Why) (c : Scan) (g : Unit {0} → Reading) → checkedBy c (refusedBy w) g ≡ Reading.Read x y z → g tt ≡ Reading.Read x y z
+  checked-read w (Scan.StopsAt p) g e = let z : _≡_ {A = ℕ} 0 1 = cc in absurd (omega arith)
+  checked-read w Scan.Through g e = e
 
   module _ (level : Level) (s : List ℕ) (n r b : ℕ) where
     pub judged-counts : judgedOf level s n r b ≡ Reading.Read x y z → Counts level s n r b x y z
@@ -71,6 +72,6 @@ module _ {x y z : ℕ} where
     pub read-counts : readOf level s n r b ≡ Reading.Read x y z → Counts level s n r b x y z
     unfolding readOf listedOf
     read-counts =
-        split (leb (length s) 65536) _ _
+        split (leb (length s) maxText) _ _
         (λ h q. judged-counts (checked-read NoToken (tokensOf s .fault) _ (checked-read NotUtf8 (firstBad s) _ q)))
         (λ h q. let z : _≡_ {A = ℕ} 0 1 = cc in absurd (omega arith))

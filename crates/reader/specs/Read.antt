@@ -7,13 +7,13 @@ use lib.ListN.{length}
 use Rattle.text.specs.Booleans.{choose}
 use Rattle.text.specs.Splice.{fronted}
 use Rattle.text.specs.Utf8.{firstBad}
-use Rattle.text.specs.declared.Check.{Check}
-use Rattle.text.specs.declared.Check.the-variants as Check
+use Rattle.text.specs.declared.Scan.{Scan}
+use Rattle.text.specs.declared.Scan.the-variants as Scan
+use Rattle.text.specs.Limits.{maxNodes, maxRules, maxText}
 use Rattle.token.specs.Lists.{tokensOf}
 use Rattle.table.specs.Tree.{Span, Rule, counts, rulesStored}
 use Rattle.table.specs.Record.{nodesIn, rulesIn}
 use Rattle.table.specs.Flat.{nodesOf, recordsOf}
-use Rattle.table.specs.Check.{maxNodes, maxRules}
 use Rattle.structure.specs.declared.Level.{Level}
 use Rattle.structure.specs.declared.Fault.{Fault}
 use Rattle.structure.specs.declared.Fault.the-variants as Fault
@@ -53,9 +53,9 @@ abbrev pub faulty : Fault → (Unit {0} → Reading) → Reading
 faulty Fault.Sound f = f tt
 faulty (Fault.At r) f = Reading.Refused r
 
-abbrev pub checkedBy : Check → (ℕ → Reading) → (Unit {0} → Reading) → Reading
-checkedBy (Check.Bad p) f g = f p
-checkedBy Check.Good f g = g tt
+abbrev pub checkedBy : Scan → (ℕ → Reading) → (Unit {0} → Reading) → Reading
+checkedBy (Scan.StopsAt p) f g = f p
+checkedBy Scan.Through f g = g tt
 
 abbrev pub ruledBy : Ruled → (List (Rule Span) → Reading) → Reading
 ruledBy (rules us) f = f us
@@ -76,7 +76,7 @@ attemptOf m level s n r b = choose (leb (length (tokensOf s .list)) m) (λ u. At
 -- 1 and 2 before those; each phase covers the whole text first
 unfoldable pub readOf : Level → List ℕ → ℕ → ℕ → ℕ → Reading
 readOf level s n r b =
-    choose (leb (length s) 65536) (λ u. checkedBy (firstBad s) (refusedBy NotUtf8) (λ u. listedOf level s n r b)) (λ u. refusedBy TooLong 0)
+    choose (leb (length s) maxText) (λ u. checkedBy (firstBad s) (refusedBy NotUtf8) (λ u. listedOf level s n r b)) (λ u. refusedBy TooLong 0)
 
 -- a success changes only the used part, a refusal nothing
 unfoldable pub leftIn : Reading → List ℕ → List ℕ → List ℕ

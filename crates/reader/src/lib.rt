@@ -7,7 +7,8 @@ pub mod inner;
 use structure::Level;
 use structure::Refusal;
 use structure::Why;
-use text::Check;
+use text::Scan;
+use text::limits;
 ghost use mathlib.Core.Path.{_≡_};
 ghost use lib.ListN.{length};
 ghost use Rattle.table.specs.Tree.{rulesStored};
@@ -62,11 +63,11 @@ pub fn read(
     ensures rules { λ r. ⌜ now (rules .exit) ≡ leftIn r (recordsOf (rulesRead level (now (text .entry)))) (now (rules .entry)) ⌝ }
     ensures store { λ r. ⌜ now (store .exit) ≡ leftIn r (rulesStored (rulesRead level (now (text .entry)))) (now (store .entry)) ⌝ }
 {
-    if 65536 < text.len() {
+    if limits::TEXT < text.len() {
         return inner::phases::refused(Why::TooLong, 0);
     }
     let utf8 = text::first_bad(text);
-    if let Check::Bad(place) = utf8 {
+    if let Scan::StopsAt(place) = utf8 {
         return inner::phases::refused(Why::NotUtf8, place);
     }
     let t = text::inner::classes::classes();

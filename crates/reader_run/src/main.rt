@@ -4,8 +4,8 @@
 // rules and store bytes used, how many numbers or bytes of each whole buffer still stand at what was
 // there before, then what was used of each (of the longer ones a sum).
 use structure::Level;
-use table::inner::records::NODE_SIZE;
-use table::inner::records::RULE_SIZE;
+use table::inner::layout::NODE_SIZE;
+use table::inner::layout::RULE_SIZE;
 
 fn write_numbers(s: &[u32]) {
     if 300 < s.len() {
@@ -73,28 +73,18 @@ fn run_line(line: &[u8]) {
     let mut nodes = [2863311530u32; 24588];
     let mut rules = [2863311530u32; 6156];
     let mut store = [170u8; 65600];
-    let op = vectors::field(line, 0);
-    let first = vectors::field(line, op.end);
-    let second = vectors::field(line, first.end);
-    let third = vectors::field(line, second.end);
-    let a = first.start;
-    let b = first.end;
-    let c = second.start;
-    let d = second.end;
-    let e = third.start;
-    let f = third.end;
-    let n = vectors::number(&line[a..b]) as usize;
-    let m = vectors::number(&line[c..d]) as usize;
-    let k = vectors::number(&line[e..f]) as usize;
-    let at = op.start;
+    let op = vectors::word(line, 0);
+    let n = vectors::number(vectors::word(line, 1)) as usize;
+    let m = vectors::number(vectors::word(line, 2)) as usize;
+    let k = vectors::number(vectors::word(line, 3)) as usize;
     vectors::write(line);
-    if line.len() <= at {
+    if op.len() == 0 {
         return;
     }
-    let long = vectors::pieces(line, f, &mut text);
+    let long = vectors::pieces(line, 4, &mut text);
     let told = lending::read_within(
         &text[..long],
-        level_of(line[at]),
+        level_of(op[0]),
         n,
         m,
         k,

@@ -19,8 +19,8 @@
 // The input is read in blocks of 65,536 bytes, and no line lies in two of them: empty lines fill a block up.
 use forms::Style;
 use structure::Level;
-use table::inner::records::NODE_SIZE;
-use table::inner::records::RULE_SIZE;
+use table::inner::layout::NODE_SIZE;
+use table::inner::layout::RULE_SIZE;
 use token::Listed;
 ghost use Prim.Native.Nat.{_≤_, _+_};
 ghost use lib.ListN.{length};
@@ -154,27 +154,15 @@ fn level_of(n: u64) -> Level {
     if n == 0 { Level::Plain } else { Level::Tagged }
 }
 
-fn run_text(line: &[u8], from: usize, level: Level, long: bool) {
+fn run_text(line: &[u8], level: Level, long: bool) {
     let mut text = [0u8; 70100];
     let mut nodes = [2863311530u32; 24640];
     let mut rules = [2863311530u32; 6200];
     let mut store = [170u8; 65600];
-    let shown = vectors::field(line, from);
-    let first = vectors::field(line, shown.end);
-    let second = vectors::field(line, first.end);
-    let third = vectors::field(line, second.end);
-    let a = shown.start;
-    let b = shown.end;
-    let c = first.start;
-    let d = first.end;
-    let e = second.start;
-    let f = second.end;
-    let g = third.start;
-    let h = third.end;
-    let n = vectors::number(&line[c..d]) as usize;
-    let m = vectors::number(&line[e..f]) as usize;
-    let k = vectors::number(&line[g..h]) as usize;
-    let used = text_of(&line[a..b], long, &mut text);
+    let used = text_of(vectors::word(line, 2), long, &mut text);
+    let n = vectors::number(vectors::word(line, 3)) as usize;
+    let m = vectors::number(vectors::word(line, 4)) as usize;
+    let k = vectors::number(vectors::word(line, 5)) as usize;
     let told = lending::read_within(
         &text[..used],
         level,
@@ -188,32 +176,20 @@ fn run_text(line: &[u8], from: usize, level: Level, long: bool) {
     answer_text(&told, long, &nodes, &rules, &store);
 }
 
-fn run_lister(line: &[u8], from: usize, at: usize, long: bool) {
+fn run_lister(line: &[u8], at: usize, long: bool) {
     let mut text = [0u8; 70100];
-    let shown = vectors::field(line, from);
-    let a = shown.start;
-    let b = shown.end;
-    let used = text_of(&line[a..b], long, &mut text);
+    let used = text_of(vectors::word(line, 2), long, &mut text);
     run_next(&text[..used], at);
 }
 
-fn run_tables(style: Style, line: &[u8], from: usize, room: usize) {
+fn run_tables(style: Style, line: &[u8], room: usize) {
     let mut nodes = [0u32; 600];
     let mut rules = [0u32; 600];
     let mut store = [0u8; 600];
     let mut out = [170u8; 1200];
-    let first = vectors::field(line, from);
-    let second = vectors::field(line, first.end);
-    let third = vectors::field(line, second.end);
-    let a = first.start;
-    let b = first.end;
-    let c = second.start;
-    let d = second.end;
-    let e = third.start;
-    let f = third.end;
-    let n = vectors::numbers(&line[a..b], &mut nodes);
-    let m = vectors::numbers(&line[c..d], &mut rules);
-    let k = vectors::unhex(&line[e..f], &mut store);
+    let n = vectors::numbers(vectors::word(line, 2), &mut nodes);
+    let m = vectors::numbers(vectors::word(line, 3), &mut rules);
+    let k = vectors::unhex(vectors::word(line, 4), &mut store);
     let told = lending::print_within(style, &nodes[..n], &rules[..m], &store[..k], room, &mut out);
     answer_printed(&told, &out);
 }
@@ -326,35 +302,17 @@ fn run_over(
     run_match(nodes, rules, store, start, text, allowance);
 }
 
-fn run_rule(line: &[u8], from: usize, allowance: u64, many: bool) {
+fn run_rule(line: &[u8], allowance: u64, many: bool) {
+    let mut text = [0u8; 600];
     let mut nodes = [0u32; 600];
     let mut rules = [0u32; 600];
     let mut store = [0u8; 600];
-    let mut text = [0u8; 600];
-    let zeroth = vectors::field(line, from);
-    let shown = vectors::field(line, zeroth.end);
-    let first = vectors::field(line, shown.end);
-    let second = vectors::field(line, first.end);
-    let third = vectors::field(line, second.end);
-    let fourth = vectors::field(line, third.end);
-    let a = zeroth.start;
-    let b = zeroth.end;
-    let c = shown.start;
-    let d = shown.end;
-    let e = first.start;
-    let f = first.end;
-    let g = second.start;
-    let h = second.end;
-    let i = third.start;
-    let j = third.end;
-    let o = fourth.start;
-    let p = fourth.end;
-    let start = vectors::number(&line[a..b]) as usize;
-    let t = vectors::unhex(&line[c..d], &mut text);
-    let n = vectors::numbers(&line[e..f], &mut nodes);
-    let m = vectors::numbers(&line[g..h], &mut rules);
-    let k = vectors::unhex(&line[i..j], &mut store);
-    let room = vectors::number(&line[o..p]) as usize;
+    let start = vectors::number(vectors::word(line, 2)) as usize;
+    let room = vectors::number(vectors::word(line, 7)) as usize;
+    let t = vectors::unhex(vectors::word(line, 3), &mut text);
+    let n = vectors::numbers(vectors::word(line, 4), &mut nodes);
+    let m = vectors::numbers(vectors::word(line, 5), &mut rules);
+    let k = vectors::unhex(vectors::word(line, 6), &mut store);
     run_over(
         &nodes[..n],
         &rules[..m],
@@ -369,25 +327,22 @@ fn run_rule(line: &[u8], from: usize, allowance: u64, many: bool) {
 
 fn run_line(line: &[u8]) {
     let op = vectors::field(line, 0);
-    let first = vectors::field(line, op.end);
-    let a = first.start;
-    let b = first.end;
-    let n = vectors::number(&line[a..b]);
     let at = op.start;
+    let n = vectors::number(vectors::word(line, 1));
     vectors::write(line);
     vectors::write(b" =");
     if line.len() <= at {
         return;
     }
     match line[at] {
-        b't' => run_text(line, b, level_of(n), false),
-        b'x' => run_text(line, b, level_of(n), true),
-        b'k' => run_lister(line, b, n as usize, false),
-        b'l' => run_lister(line, b, n as usize, true),
-        b'p' => run_tables(Style::Full, line, b, n as usize),
-        b's' => run_tables(Style::Short, line, b, n as usize),
-        b'm' => run_rule(line, b, n, false),
-        b'r' => run_rule(line, b, n, true),
+        b't' => run_text(line, level_of(n), false),
+        b'x' => run_text(line, level_of(n), true),
+        b'k' => run_lister(line, n as usize, false),
+        b'l' => run_lister(line, n as usize, true),
+        b'p' => run_tables(Style::Full, line, n as usize),
+        b's' => run_tables(Style::Short, line, n as usize),
+        b'm' => run_rule(line, n, false),
+        b'r' => run_rule(line, n, true),
         b'f' => calls::run(line, op.end),
         _ => {}
     }

@@ -3,6 +3,7 @@ use Prim.Native.Nat.{ℕ}
 use mathlib.Core.List.{List}
 use lib.Dec.{eqb}
 use lib.ListN.{length}
+use Rattle.text.specs.Limits.{maxRules, maxStore}
 use Rattle.text.specs.Booleans.{choose}
 use Rattle.text.specs.Splice.{fronted}
 use Rattle.table.specs.Tree.{Span, Rule, rulesStored}
@@ -21,7 +22,7 @@ use Rattle.show.specs.Shown.{refusedBy}
 
 -- the reading at the tagged level, with room for 2,048 nodes, 1,024 rules and 65,536 store bytes
 unfoldable pub reading : List ℕ → Read.Numbered
-reading s = Read.reported Tagged s 2048 1024 65536
+reading s = Read.reported Tagged s 2048 maxRules maxStore
 
 -- the printing of rules in a style, to an output of m bytes
 unfoldable pub printing : Style → List (Rule Span) → ℕ → Answers.Numbered

@@ -5,9 +5,10 @@ use printer::Printed;
 use reader::Reading;
 use replies::Found;
 use structure::Level;
-use table::inner::records::NODE_SIZE;
-use table::inner::records::RULE_SIZE;
+use table::inner::layout::NODE_SIZE;
+use table::inner::layout::RULE_SIZE;
 use text::Put;
+use text::limits;
 ghost use mathlib.Core.Path.{_≡_};
 ghost use lib.ListN.{length};
 ghost use Rattle.show.specs.Shown.{refusedBy};
@@ -72,9 +73,9 @@ fn print_back(style: Style, text: &[u8], out: &mut [u8]) -> Answer
     ensures { λ r. ⌜ r ≡ answerOf style (now (text .entry)) (length (now (out .entry))) ⌝ }
     ensures { λ r. ⌜ now (out .exit) ≡ answerIn style (now (text .entry)) (now (out .entry)) r ⌝ }
 {
-    let mut nodes = [0u32; 12288];
-    let mut rules = [0u32; 6144];
-    let mut store = [0u8; 65536];
+    let mut nodes = [0u32; NODE_SIZE * 2048];
+    let mut rules = [0u32; RULE_SIZE * limits::RULES];
+    let mut store = [0u8; limits::STORE];
     let reading = reader::read(text, Level::Tagged, &mut nodes, &mut rules, &mut store);
     match reading {
         Reading::Read(n, r, b) => {

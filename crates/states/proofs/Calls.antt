@@ -9,7 +9,8 @@ use lib.ListN.{length, length-append}
 use lib.Seq.{sets, length-sets}
 use Rattle.text.specs.Splice.{fronted}
 use Rattle.text.specs.Utf8.{firstBad}
-use Rattle.text.specs.declared.Check.the-variants.{Good, Bad}
+use Rattle.text.specs.declared.Scan.the-variants.{Through, StopsAt}
+use Rattle.text.specs.Limits.{maxText}
 use Rattle.token.specs.Lists.{Tok, tokensOf}
 use Rattle.token.specs.Table.{flat, roomOf}
 use Rattle.token.proofs.Table.{behind, front-is}
@@ -23,7 +24,7 @@ use Rattle.states.specs.Feed.{numbered, opened, recordsOf, numberOf, pla
 use Rattle.states.specs.Packets.{joined, fedAll, lent, Roomy, Kept, callsOf}
 use Rattle.states.proofs.Keeps.{fitting-begin}
 use Rattle.states.proofs.Runs.{took, followed-goes}
-use Rattle.states.proofs.Promises.{after, ended, Fine, good-list, same-3}
+use Rattle.states.proofs.Promises.{fedBy, ended, Fine, good-list, same-3}
 use Rattle.states.proofs.Numbers.{Made, made-fed, passes, Repeats, zeros}
 
 -- ---- records
@@ -85,7 +86,7 @@ module _ (o : List ℕ) where
       ∙ ap (λ (vs : List Tok). keptBy (fedAll (n .next) (lent (roomOf o) xss) .next) vs o) (append-assoc ts (n .gives) _)
 
   -- from zeros on
-  pub in-numbers : (xss : List (List ℕ)) → callsOf (record { feed = zeros; list = o }) xss ≡ keptBy (after (lent (roomOf o) xss) .next) (after (lent (roomOf o) xss) .gives) o
+  pub in-numbers : (xss : List (List ℕ)) → callsOf (record { feed = zeros; list = o }) xss ≡ keptBy (fedBy (lent (roomOf o) xss) .next) (fedBy (lent (roomOf o) xss) .gives) o
   in-numbers xss = calls-are xss (Open begin) [] fitting-begin refl
 
 -- ---- a good text
@@ -135,8 +136,8 @@ module _ (xss : List (List ℕ)) (o : List ℕ) where
   pub good-calls : Fine s → length list ≤ r → (endOf (kept .feed) (kept .list) ≡ record { number = 0; place = 0; records = length list; next = zeros }) × (endIn (kept .feed) (kept .list) ≡ fronted (flat list) o)
   unfolding reported written
   good-calls g l =
-      let q : Status = after (lent r xss) .next in
-      let ts : List Tok = after (lent r xss) .gives in
+      let q : Status = fedBy (lent r xss) .next in
+      let ts : List Tok = fedBy (lent r xss) .gives in
       let d : Moved = ended r (lent r xss) in
       let h = good-list (lent r xss) r g (roomy-lent (length list) r xss l) l in
       let e = end-is o q ts (made-all r xss (Open begin) fitting-begin) in
@@ -148,12 +149,12 @@ module _ (xss : List (List ℕ)) (o : List ℕ) where
       )
 
   -- the end's answer is that of the packets and the end
-  answer-is : endOf (kept .feed) (kept .list) ≡ reported (after (lent r xss) .next) (ended r (lent r xss))
-  answer-is = rw (in-numbers o xss) (end-is o (after (lent r xss) .next) (after (lent r xss) .gives) (made-all r xss (Open begin) fitting-begin) .0)
+  answer-is : endOf (kept .feed) (kept .list) ≡ reported (fedBy (lent r xss) .next) (ended r (lent r xss))
+  answer-is = rw (in-numbers o xss) (end-is o (fedBy (lent r xss) .next) (fedBy (lent r xss) .gives) (made-all r xss (Open begin) fitting-begin) .0)
 
   -- 3 in numbers: given exactly if the whole text has it, at the same place
-  pub same-calls : length s ≤ 65536 → firstBad s ≡ Good → (endOf (kept .feed) (kept .list) .number ≡ 14 → ⊥)
-      → (p : ℕ) → ((endOf (kept .feed) (kept .list) .number ≡ 3) × (endOf (kept .feed) (kept .list) .place ≡ p)) ↔ (tokensOf s .fault ≡ Bad p)
+  pub same-calls : length s ≤ maxText → firstBad s ≡ Through → (endOf (kept .feed) (kept .list) .number ≡ 14 → ⊥)
+      → (p : ℕ) → ((endOf (kept .feed) (kept .list) .number ≡ 3) × (endOf (kept .feed) (kept .list) .place ≡ p)) ↔ (tokensOf s .fault ≡ StopsAt p)
   unfolding reported
   same-calls l u h p =
       let n : endOf (kept .feed) (kept .list) .number ≡ numberOf (ended r (lent r xss) .next) = ap (λ (c : Call). c .number) answer-is in

@@ -13,7 +13,7 @@ use Rattle.text.specs.Utf8.{charOf}
 use Rattle.text.specs.declared.Sequence.{Sequence}
 use Rattle.text.specs.declared.Sequence.the-variants.{Is, Broken}
 use Rattle.text.proofs.Tests.{lt-or-ge}
-use Rattle.text.proofs.Booleans.{choose-by}
+use Rattle.text.proofs.Booleans.{choose-by, choose-same}
 use Rattle.token.specs.Blanks.{first, openerBlank, blankBy}
 use Rattle.token.specs.Tokens.{rawBy, charToken, openerToken, tokenBy}
 use Rattle.token.specs.Lists.{Tokens}
@@ -21,13 +21,9 @@ use Rattle.states.specs.declared.Tail.{Tail}
 use Rattle.states.specs.declared.Tail.the-variants.{T1, T2, T3, TE0, TED, TF0, TF4}
 use Rattle.states.specs.Machine.{Out, go, refuse, tailOk, tailLeft, tailNext, leadRow, moreRow, chrRow, faultAt}
 use Rattle.states.proofs.From.{from, ended, none, from-first}
-use Rattle.states.proofs.Left.{quoteL, tails, moreL, leftBy, after}
+use Rattle.states.proofs.Left.{quoteL, tails, moreL, leftBy, withRest}
 use Rattle.states.proofs.Strs.{quoted-law, chr-esc, chr-ascii}
 use Rattle.states.proofs.Sequences.{tailsOf, moreOf, lead-t1, lead-e0, lead-ed, lead-t2, lead-f0, lead-t3, lead-f4, lead-f5, lead-80}
-
-choose-same : (b : Bool) {r t : Tokens} (z : Tokens) → r ≡ t → choose b (λ u. r) (λ u. z) ≡ choose b (λ u. t) (λ u. z)
-choose-same true z h = h
-choose-same false z h = refl
 
 raw-open : (a x : ℕ) (rest : List ℕ) → eqb x 92 ≡ false → from a (39 ∷ x ∷ rest) ≡ ended a 0 (39 ∷ x ∷ rest) (rawBy (x ∷ rest) (charOf (x ∷ rest)))
 unfolding blankBy classOf openerBlank tokenBy openerToken charToken
@@ -54,10 +50,10 @@ module _ (a x : ℕ) (rest : List ℕ) where
   more-same : (t : Tail) → moreOf E (faultAt a) broken K t rest ≡ moreL t a 2 rest
   more-same t = choose-same (first (tailOk t) rest) (faultAt a) (tails-same (tailLeft t) 1 (drop 1 rest))
 
-  lead-row : 0x80 ≤ x → E (charOf (x ∷ rest)) ≡ after (leadRow a x) rest
+  lead-row : 0x80 ≤ x → E (charOf (x ∷ rest)) ≡ withRest (leadRow a x) rest
   unfolding leadRow
   lead-row h =
-      let P : Out → Type 0 = λ o. E (charOf (x ∷ rest)) ≡ after o rest in
+      let P : Out → Type 0 = λ o. E (charOf (x ∷ rest)) ≡ withRest o rest in
       choose-by P (ltb x 0xc2) _ _ (λ e. lead-80 E (faultAt a) broken K x rest is h (ltb-true x 0xc2 e) (lt-or-ge x 0xc0))
       (λ e1. let g1 : 0xc2 ≤ x = ltb-false x 0xc2 e1 in
       choose-by P (ltb x 0xe0) _ _ (λ e. lead-t1 E (faultAt a) broken K x rest is g1 (ltb-true x 0xe0 e) ∙ more-same T1)
@@ -75,9 +71,9 @@ module _ (a x : ℕ) (rest : List ℕ) where
       (λ e8. let g8 : x ≡ 0xf4 → ⊥ = eqb-false x 0xf4 e8 in
       lead-f5 E (faultAt a) broken K x rest is (omega arith) (lt-or-ge x 0xf8)))))))))
 
-pub chr-row : (a x : ℕ) (rest : List ℕ) → from a (39 ∷ x ∷ rest) ≡ after (chrRow a x) rest
+pub chr-row : (a x : ℕ) (rest : List ℕ) → from a (39 ∷ x ∷ rest) ≡ withRest (chrRow a x) rest
 chr-row a x rest =
-    let P : Out → Type 0 = λ o. from a (39 ∷ x ∷ rest) ≡ after o rest in
+    let P : Out → Type 0 = λ o. from a (39 ∷ x ∷ rest) ≡ withRest o rest in
     choose-by P (eqb x 92) _ _ (λ e. rw (eqb-true x 92 e) (chr-esc a rest))
     (λ e. choose-by P (ltb x 0x80) _ _ (λ f. chr-ascii a x rest e (ltb-true x 0x80 f)) (λ f. raw-open a x rest e ∙ lead-row a x rest (ltb-false x 0x80 f)))
 
@@ -91,9 +87,9 @@ tail-is TED a n rest = refl
 tail-is TF0 a n rest = refl
 tail-is TF4 a n rest = refl
 
-more-by : (t : Tail) (a n : ℕ) (rest : List ℕ) (b : Bool) → choose b (λ u. tails (tailLeft t) a (suc n) rest) (λ u. faultAt a) ≡ after (choose b (λ u. go (tailNext t) a (suc n)) (λ u. refuse a)) rest
+more-by : (t : Tail) (a n : ℕ) (rest : List ℕ) (b : Bool) → choose b (λ u. tails (tailLeft t) a (suc n) rest) (λ u. faultAt a) ≡ withRest (choose b (λ u. go (tailNext t) a (suc n)) (λ u. refuse a)) rest
 more-by t a n rest true = tail-is t a (suc n) rest
 more-by t a n rest false = refl
 
-pub more-row : (t : Tail) (a n x : ℕ) (rest : List ℕ) → moreL t a n (x ∷ rest) ≡ after (moreRow t a n x) rest
+pub more-row : (t : Tail) (a n x : ℕ) (rest : List ℕ) → moreL t a n (x ∷ rest) ≡ withRest (moreRow t a n x) rest
 more-row t a n x rest = more-by t a n rest (tailOk t x)

@@ -7,7 +7,7 @@ use native.Mathlib.Omega.{arith}
 use lib.ListN.{length, length-append}
 use borrow.Author.Tests.{lt-ltb}
 use Rattle.text.specs.Utf8.{firstBad}
-use Rattle.text.specs.declared.Check.the-variants.{Good, Bad}
+use Rattle.text.specs.declared.Scan.the-variants.{Through, StopsAt}
 use Rattle.token.specs.Lists.{Tok, tok, Tokens, tokensOf}
 use Rattle.states.specs.declared.Stand.{Stand}
 use Rattle.states.specs.declared.Utf.the-variants.{Whole}
@@ -34,22 +34,22 @@ list-is s = ap (λ (r : Tokens). r .list) (machine s)
 utf-is : (s : List ℕ) → utfEnd (utfFeed Whole 0 s) ≡ firstBad s
 utf-is s = sym (machine-2 s)
 
-over-enough : (room : ℕ) (ts : List Tok) (n : ℕ) → n + length ts ≤ room → overAt room n ts ≡ Good
+over-enough : (room : ℕ) (ts : List Tok) (n : ℕ) → n + length ts ≤ room → overAt room n ts ≡ Through
 unfolding overAt
 over-enough room [] n h = refl
 over-enough room (t ∷ ts) n h = rw (lt-ltb n room (omega arith)) (over-enough room ts (suc n) (omega arith))
 
 module _ (r : ℕ) (s : List ℕ) where
   -- a good text, and room
-  pub end-goes : firstBad s ≡ Good → tokensOf s .fault ≡ Good → length (tokensOf s .list) ≤ r → lastOf r (standAt s) ≡ Goes (ending s .list) begin
+  pub end-goes : firstBad s ≡ Through → tokensOf s .fault ≡ Through → length (tokensOf s .list) ≤ r → lastOf r (standAt s) ≡ Goes (ending s .list) begin
   unfolding lastOf
   end-goes u f h =
       let l : length (gave s) + length (ending s .list) ≤ r = rw (← length-append (gave s) (ending s .list), list-is s) h in
       rw (utf-is s ∙ u, fault-is s ∙ f, over-enough r (ending s .list) (length (gave s)) l)
 
   pub record Ended (ts : List Tok) (d : Stand) : Type 0 where
-    pub utf : firstBad s ≡ Good
-    pub fault : tokensOf s .fault ≡ Good
+    pub utf : firstBad s ≡ Through
+    pub fault : tokensOf s .fault ≡ Through
     pub fresh : d ≡ begin
     pub list : gave s ++ ts ≡ tokensOf s .list
 
@@ -64,7 +64,7 @@ module _ (r : ℕ) (s : List ℕ) where
       let z : ending s .list ≡ ts = cc in
       record { utf = sym (utf-is s) ∙ a .0; fault = sym (fault-is s) ∙ b .0; fresh = cc; list = ap (λ (us : List Tok). gave s ++ us) (sym z) ∙ list-is s }
 
-  is-2 : (p : ℕ) → utfEnd (utfFeed Whole 0 s) ≡ Bad p → Last r s 2 p
+  is-2 : (p : ℕ) → utfEnd (utfFeed Whole 0 s) ≡ StopsAt p → Last r s 2 p
   is-2 p e =
       record {
         refusal = refl;
@@ -76,7 +76,7 @@ module _ (r : ℕ) (s : List ℕ) where
         good-3 = λ z. absurd (omega arith);
       }
 
-  is-3 : (p : ℕ) → utfEnd (utfFeed Whole 0 s) ≡ Good → ending s .fault ≡ Bad p → Last r s 3 p
+  is-3 : (p : ℕ) → utfEnd (utfFeed Whole 0 s) ≡ Through → ending s .fault ≡ StopsAt p → Last r s 3 p
   is-3 p u e =
       record {
         refusal = refl;
@@ -88,7 +88,7 @@ module _ (r : ℕ) (s : List ℕ) where
         good-3 = λ z. absurd (omega arith);
       }
 
-  is-14 : (p : ℕ) → utfEnd (utfFeed Whole 0 s) ≡ Good → ending s .fault ≡ Good → Over r (length (gave s)) p (ending s .list) → Last r s 14 p
+  is-14 : (p : ℕ) → utfEnd (utfFeed Whole 0 s) ≡ Through → ending s .fault ≡ Through → Over r (length (gave s)) p (ending s .list) → Last r s 14 p
   is-14 p u f o =
       record {
         refusal = refl;
@@ -100,18 +100,18 @@ module _ (r : ℕ) (s : List ℕ) where
         good-3 = λ z. sym (fault-is s) ∙ f;
       }
 
-  by-14 : (n p : ℕ) → utfEnd (utfFeed Whole 0 s) ≡ Good → ending s .fault ≡ Good → ((14 ≡ n) × (overAt r (length (gave s)) (ending s .list) ≡ Bad p)) ⊎ ((overAt r (length (gave s)) (ending s .list) ≡ Good) × (Goes (ending s .list) begin ≡ Faults n p)) → Last r s n p
+  by-14 : (n p : ℕ) → utfEnd (utfFeed Whole 0 s) ≡ Through → ending s .fault ≡ Through → ((14 ≡ n) × (overAt r (length (gave s)) (ending s .list) ≡ StopsAt p)) ⊎ ((overAt r (length (gave s)) (ending s .list) ≡ Through) × (Goes (ending s .list) begin ≡ Faults n p)) → Last r s n p
   by-14 n p u f (inl h) = let e : 14 ≡ n = h .0 in rw (← e) (is-14 p u f (over-bad r (ending s .list) (length (gave s)) p (h .1)))
   by-14 n p u f (inr h) = let e : Goes (ending s .list) begin ≡ Faults n p = h .1 in let z : _≡_ {A = ℕ} 0 1 = cc in absurd (omega arith)
 
   abbrev roomed : Step
   roomed = unless 14 (overAt r (length (gave s)) (ending s .list)) (λ _. Goes (ending s .list) begin)
 
-  by-3 : (n p : ℕ) → utfEnd (utfFeed Whole 0 s) ≡ Good → ((3 ≡ n) × (ending s .fault ≡ Bad p)) ⊎ ((ending s .fault ≡ Good) × (roomed ≡ Faults n p)) → Last r s n p
+  by-3 : (n p : ℕ) → utfEnd (utfFeed Whole 0 s) ≡ Through → ((3 ≡ n) × (ending s .fault ≡ StopsAt p)) ⊎ ((ending s .fault ≡ Through) × (roomed ≡ Faults n p)) → Last r s n p
   by-3 n p u (inl h) = let e : 3 ≡ n = h .0 in rw (← e) (is-3 p u (h .1))
   by-3 n p u (inr h) = by-14 n p u (h .0) (unless-faults 14 (overAt r (length (gave s)) (ending s .list)) _ n p (h .1))
 
-  by-2 : (n p : ℕ) → ((2 ≡ n) × (utfEnd (utfFeed Whole 0 s) ≡ Bad p)) ⊎ ((utfEnd (utfFeed Whole 0 s) ≡ Good) × (unless 3 (ending s .fault) (λ _. roomed) ≡ Faults n p)) → Last r s n p
+  by-2 : (n p : ℕ) → ((2 ≡ n) × (utfEnd (utfFeed Whole 0 s) ≡ StopsAt p)) ⊎ ((utfEnd (utfFeed Whole 0 s) ≡ Through) × (unless 3 (ending s .fault) (λ _. roomed) ≡ Faults n p)) → Last r s n p
   by-2 n p (inl h) = let e : 2 ≡ n = h .0 in rw (← e) (is-2 p (h .1))
   by-2 n p (inr h) = by-3 n p (h .0) (unless-faults 3 (ending s .fault) _ n p (h .1))
 

@@ -4,6 +4,7 @@ use mathlib.Core.Path.{_≡_, refl}
 use mathlib.Core.List.{List, [], _∷_}
 use Rattle.text.specs.Classes.{classOf}
 use Rattle.text.specs.Digits.{hexOf}
+use Rattle.text.specs.Limits.{maxText}
 use Rattle.literal.specs.Escapes.{simpleOf}
 use Rattle.token.specs.Tokens.{oneKind}
 use Rattle.token.specs.Lists.{tok}
@@ -20,16 +21,16 @@ use Rattle.states.specs.Steps.{Faults, longAt, refusedAt, overAt, stepOf
 use Rattle.states.proofs.Numbers.{zeros}
 
 -- a stream after a text, with room for so many records
-abbrev after : ℕ → List ℕ → Status
-after room s = fedOf room (Open begin) s .next
+abbrev statusAfter : ℕ → List ℕ → Status
+statusAfter room s = fedOf room (Open begin) s .next
 
 -- a text shows nothing, and with one byte more a refusal
 abbrev Shows : ℕ → List ℕ → List ℕ → ℕ → ℕ → Type 0
-Shows room s t number place = (numberOf (after room s) ≡ 0) × (after room t ≡ Held number place 0)
+Shows room s t number place = (numberOf (statusAfter room s) ≡ 0) × (statusAfter room t ≡ Held number place 0)
 
 -- a text shows nothing, and at its end a refusal
 abbrev Ends : ℕ → List ℕ → ℕ → ℕ → Type 0
-Ends room s number place = (numberOf (after room s) ≡ 0) × (doneOf room (after room s) .next ≡ Held number place 0)
+Ends room s number place = (numberOf (statusAfter room s) ≡ 0) × (doneOf room (statusAfter room s) .next ≡ Held number place 0)
 
 -- PUSHx
 push-x : Shows 9 (80 ∷ 85 ∷ 83 ∷ 72 ∷ []) (80 ∷ 85 ∷ 83 ∷ 72 ∷ 120 ∷ []) 3 0
@@ -62,7 +63,7 @@ unfolding fedOf ranOf stepOf longAt refusedAt overAt classRow classOf simpleOf u
 no-waiting = ((refl, refl), (refl, refl))
 
 -- the byte behind 65,536, whatever it is and wherever the stream stands
-too-long : (c : Conf) (u : Utf) (x : ℕ) → stepOf 9 (record { conf = c; utf = u; seen = 65536; count = 0 }) x ≡ Faults 1 0
+too-long : (c : Conf) (u : Utf) (x : ℕ) → stepOf 9 (record { conf = c; utf = u; seen = maxText; count = 0 }) x ≡ Faults 1 0
 unfolding stepOf longAt
 too-long c u x = refl
 
@@ -77,13 +78,13 @@ unfolding fedOf doneOf ranOf stepOf lastOf longAt refusedAt overAt classRow clas
 no-room = ((refl, refl), (refl, refl), (refl, refl), (refl, refl))
 
 -- ///x CR LF; ///x CR and y, at the end
-docs : (fedOf 1 (Open begin) (47 ∷ 47 ∷ 47 ∷ 120 ∷ 13 ∷ 10 ∷ []) .gives ≡ tok 27 0 4 ∷ []) × (doneOf 1 (after 1 (47 ∷ 47 ∷ 47 ∷ 120 ∷ 13 ∷ 121 ∷ [])) .gives ≡ tok 27 0 6 ∷ [])
+docs : (fedOf 1 (Open begin) (47 ∷ 47 ∷ 47 ∷ 120 ∷ 13 ∷ 10 ∷ []) .gives ≡ tok 27 0 4 ∷ []) × (doneOf 1 (statusAfter 1 (47 ∷ 47 ∷ 47 ∷ 120 ∷ 13 ∷ 121 ∷ [])) .gives ≡ tok 27 0 6 ∷ [])
 unfolding fedOf doneOf ranOf stepOf lastOf longAt refusedAt overAt classRow classOf utfLead
 docs = (refl, refl)
 
 -- 'é'; /*/**/*/-0012
 lists : (fedOf 1 (Open begin) (39 ∷ 0xc3 ∷ 0xa9 ∷ 39 ∷ []) .gives ≡ tok 25 0 4 ∷ [])
-    × (doneOf 1 (after 1 (47 ∷ 42 ∷ 47 ∷ 42 ∷ 42 ∷ 47 ∷ 42 ∷ 47 ∷ 45 ∷ 48 ∷ 48 ∷ 49 ∷ 50 ∷ [])) .gives ≡ tok 21 8 13 ∷ [])
+    × (doneOf 1 (statusAfter 1 (47 ∷ 42 ∷ 47 ∷ 42 ∷ 42 ∷ 47 ∷ 42 ∷ 47 ∷ 45 ∷ 48 ∷ 48 ∷ 49 ∷ 50 ∷ [])) .gives ≡ tok 21 8 13 ∷ [])
 unfolding fedOf doneOf ranOf stepOf lastOf longAt refusedAt overAt classRow classOf leadRow utfLead
 lists = (refl, refl)
 

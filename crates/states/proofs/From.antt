@@ -7,8 +7,8 @@ use native.Mathlib.Omega.{arith}
 use lib.ListN.{length, drop, length-drop}
 use lib.Seq.{drop-drop}
 use Rattle.text.specs.Scans.{later, sought}
-use Rattle.text.specs.declared.Check.{Check}
-use Rattle.text.specs.declared.Check.the-variants.{Good, Bad}
+use Rattle.text.specs.declared.Scan.{Scan}
+use Rattle.text.specs.declared.Scan.the-variants.{Through, StopsAt}
 use Rattle.text.specs.declared.Look.the-variants.{Past, Stop}
 use Rattle.text.proofs.Walks.{sought-pending, past-head, later-later}
 use Rattle.token.specs.Blanks.{blankOf}
@@ -131,9 +131,9 @@ none a n rest = rw (add-zero a)
 
 -- ---- blanks
 
-past-later : (m : ℕ) (xs : List ℕ) (r : Check) → pastBlanks xs (later m r) ≡ moved m (pastBlanks (drop m xs) r)
-past-later m xs Good = refl
-past-later m xs (Bad k) = rw (moved-moved m k (firstToken (drop k (drop m xs))), drop-drop k m xs)
+past-later : (m : ℕ) (xs : List ℕ) (r : Scan) → pastBlanks xs (later m r) ≡ moved m (pastBlanks (drop m xs) r)
+past-later m xs Through = refl
+past-later m xs (StopsAt k) = rw (moved-moved m k (firstToken (drop k (drop m xs))), drop-drop k m xs)
 
 token-past : (x : ℕ) (xs : List ℕ) (n : ℕ) → blankOf (x ∷ xs) ≡ Past n → tokenOf (x ∷ xs) ≡ moved (suc n) (tokenOf (drop n xs))
 unfolding tokenOf

@@ -9,8 +9,9 @@ use lib.Dec.{leb, ltb, eqb}
 use lib.ListN.{length}
 use borrow.Author.Tests.{ltb-true, ltb-false, leb-true, lt-ltb, le-leb, ne-eqb}
 use Rattle.text.specs.Booleans.{choose, among}
-use Rattle.text.specs.declared.Check.the-variants.{Good, Bad}
+use Rattle.text.specs.declared.Scan.the-variants.{Through, StopsAt}
 use Rattle.text.proofs.Booleans.{and-both, and-true, choose-by}
+use Rattle.text.specs.Limits.{maxText}
 use Rattle.token.specs.Lists.{Tok}
 use Rattle.states.specs.declared.Tail.{Tail}
 use Rattle.states.specs.declared.Tail.the-variants.{T1, T2, T3, TE0, TED, TF0, TF4}
@@ -34,7 +35,7 @@ use Rattle.states.proofs.Runs.{took, followed-goes}
 -- ---- a stream whose numbers fit one another
 
 pub record Fitting (c : Stand) : Type 0 where
-  pub short : c .seen ≤ 65536
+  pub short : c .seen ≤ maxText
   pub fit : Fit (c .conf .state) (c .conf .start) (c .conf .size) (c .seen) (c .count)
   pub sound : utfFits (c .utf) (c .seen) ≡ true
 
@@ -43,13 +44,13 @@ fitting-begin = record { short = omega arith; fit = record { sum = refl; count =
 
 -- ---- a byte
 
-pub long-good : (n : ℕ) → longAt n ≡ Good → n ≤ 65536
+pub long-good : (n : ℕ) → longAt n ≡ Through → n ≤ maxText
 unfolding longAt
-long-good n = choose-by (λ k. k ≡ Good → n ≤ 65536) (ltb 65536 n) _ _ (λ e g. let z : _≡_ {A = ℕ} 0 1 = cc in absurd (omega arith)) (λ e g. ltb-false 65536 n e)
+long-good n = choose-by (λ k. k ≡ Through → n ≤ maxText) (ltb maxText n) _ _ (λ e g. let z : _≡_ {A = ℕ} 0 1 = cc in absurd (omega arith)) (λ e g. ltb-false maxText n e)
 
-pub refused-good : (c : Conf) → refusedAt c ≡ Good → codeOf (c .state) ≡ refusedCode → ⊥
+pub refused-good : (c : Conf) → refusedAt c ≡ Through → codeOf (c .state) ≡ refusedCode → ⊥
 unfolding refusedAt
-refused-good c g e = let z : Bad (c .start) ≡ Good = rw e at g in let y : _≡_ {A = ℕ} 0 1 = cc in omega arith
+refused-good c g e = let z : StopsAt (c .start) ≡ Through = rw e at g in let y : _≡_ {A = ℕ} 0 1 = cc in omega arith
 
 utf-by : (n : ℕ) (b : Bool) (u v : Utf) → utfFits u n ≡ true → utfFits v n ≡ true → utfFits (choose b (λ w. u) (λ w. v)) n ≡ true
 utf-by n true u v e f = e
@@ -66,7 +67,7 @@ next-fits TF4 s n h = lt-ltb s n h
 
 -- a sequence that is in hand began before the next byte
 abbrev Mids : ℕ → Utf → Type 0
-Mids n u = brokenAt u ≡ Good → utfFits u n ≡ true
+Mids n u = brokenAt u ≡ Through → utfFits u n ≡ true
 
 mids-broke : (n p : ℕ) → Mids n (Broke p)
 mids-broke n p g = let z : _≡_ {A = ℕ} 0 1 = cc in absurd (omega arith)
@@ -95,7 +96,7 @@ utf-fits (Mid t s) n x f =
     mids-two (suc n) (tailOk t x) _ _ (λ g. next-fits t s (suc n) (omega arith)) (mids-broke (suc n) s)
 utf-fits (Broke p) n x f = never f
 
-fit-of : (s k : ℕ) (o : Out) → refusedAt (o .next) ≡ Good → FitO s k o → Fit (o .next .state) (o .next .start) (o .next .size) (suc s) (k + length (o .gives))
+fit-of : (s k : ℕ) (o : Out) → refusedAt (o .next) ≡ Through → FitO s k o → Fit (o .next .state) (o .next .start) (o .next .size) (suc s) (k + length (o .gives))
 fit-of s k o g (inl e) = absurd (refused-good (o .next) g e)
 fit-of s k o g (inr f) = f
 
@@ -127,7 +128,7 @@ pub fitting-test : (c : Stand) → Fitting c → fits c ≡ true
 unfolding fits
 fitting-test c h =
     let e : c .conf .start + (c .conf .size + waiting (c .conf .state)) ≡ c .seen = h .fit .sum in
-    and-both (leb (c .seen) 65536) _ (le-leb (c .seen) 65536 (h .short))
+    and-both (leb (c .seen) maxText) _ (le-leb (c .seen) maxText (h .short))
     (and-both (leb (c .conf .start) (c .seen)) _ (le-leb (c .conf .start) (c .seen) (omega arith))
     (and-both (leb (c .count) (c .conf .start)) _ (le-leb (c .count) (c .conf .start) (h .fit .count)) (and-both (stateFits (c .conf .state) (c .conf .size)) (utfFits (c .utf) (c .seen)) (h .fit .state) (h .sound))))
 
@@ -142,12 +143,12 @@ fitting-by : (f : Feed) (q : State) → fits (standBy f q) ≡ true → Fitting 
 unfolding fits
 fitting-by f q e =
     let c : Stand = standBy f q in
-    let g = and-true (leb (c .seen) 65536) _ e in
+    let g = and-true (leb (c .seen) maxText) _ e in
     let h = and-true (leb (c .conf .start) (c .seen)) _ (g .1) in
     let i = and-true (leb (c .count) (c .conf .start)) _ (h .1) in
     let j = and-true (stateFits q (c .conf .size)) (utfFits (c .utf) (c .seen)) (i .1) in
     record {
-      short = leb-true (c .seen) 65536 (g .0);
+      short = leb-true (c .seen) maxText (g .0);
       fit =
           record {
             sum = sum-by (f .start) (f .seen) (waiting q) (leb-true (f .start) (f .seen) (h .0)) (wait-some q (c .conf .size) (j .0));

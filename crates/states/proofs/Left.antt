@@ -128,5 +128,5 @@ abbrev pub left : Conf → List ℕ → Tokens
 left c rest = leftBy (c .state) (c .start) (c .size) rest
 
 -- what a byte gave, and what is still to come
-abbrev pub after : Out → List ℕ → Tokens
-after o rest = onto (o .gives) (left (o .next) rest)
+abbrev pub withRest : Out → List ℕ → Tokens
+withRest o rest = onto (o .gives) (left (o .next) rest)

@@ -10,7 +10,7 @@ use Rattle.text.specs.Classes.{classOf}
 use Rattle.text.specs.Words.{inWord}
 use Rattle.text.specs.Scans.{sought}
 use Rattle.text.specs.Utf8.{charOf}
-use Rattle.text.specs.declared.Check.the-variants.{Bad}
+use Rattle.text.specs.declared.Scan.the-variants.{StopsAt}
 use Rattle.literal.specs.Escapes.{digitsOf, afterOf}
 use Rattle.token.specs.Blanks.{run, first, inDigits, inLine, closeOf, slashBlank, returnBlank, openerBlank, blankBy}
 use Rattle.token.specs.Tokens.{tagToken, dotsToken, stringOf, insensToken, charToken, docToken, openerToken, tokenBy}
@@ -22,7 +22,7 @@ use Rattle.states.specs.declared.State.the-variants.{Start, Word, Push, 
 use Rattle.states.specs.declared.Conf.{Conf}
 use Rattle.states.specs.Machine.{row, step, noMore, faultAt, endRow, finish, then, feed, fresh}
 use Rattle.states.proofs.From.{from, ended, from-text, from-end, none, from-first}
-use Rattle.states.proofs.Left.{negated, strL, badL, escBy, unL, comL, lineL, leftBy, left, after}
+use Rattle.states.proofs.Left.{negated, strL, badL, escBy, unL, comL, lineL, leftBy, left, withRest}
 use Rattle.states.proofs.Rows.{run-next, com-row, star-row, bar-row, line-row, doc-row, docCr-row, slash-row, line-open, slash2-row, cr-row}
 use Rattle.states.proofs.Strs.{str-row, esc-row, x0-row, x1-row, u-row, un-row, quote-row}
 use Rattle.states.proofs.Chars.{chr-row, more-row}
@@ -31,7 +31,7 @@ use Rattle.states.proofs.Pushes.{push-row, run-end, push-end}
 
 -- ---- a law for each row, one for each end
 
-pub row-law : (q : State) (a n x : ℕ) (rest : List ℕ) → leftBy q a n (x ∷ rest) ≡ after (row q a n x) rest
+pub row-law : (q : State) (a n x : ℕ) (rest : List ℕ) → leftBy q a n (x ∷ rest) ≡ withRest (row q a n x) rest
 row-law Start a n x rest = start-row a x rest
 row-law Word a n x rest = word-row a n x rest
 row-law Push a n x rest = push-row a n x rest
@@ -195,7 +195,7 @@ pub continued : (s ys : List ℕ) → tokensOf (s ++ ys) ≡ onto (feed fresh s 
 continued s ys = sym (from-text (s ++ ys)) ∙ left-feed s ys fresh
 
 -- in a refused state every continuation has the fault, at that place
-pub refused-3 : (s ys : List ℕ) → feed fresh s .next .state ≡ Refused → tokensOf (s ++ ys) .fault ≡ Bad (feed fresh s .next .start)
+pub refused-3 : (s ys : List ℕ) → feed fresh s .next .state ≡ Refused → tokensOf (s ++ ys) .fault ≡ StopsAt (feed fresh s .next .start)
 refused-3 s ys e =
     let z : left (feed fresh s .next) ys ≡ faultAt (feed fresh s .next .start) = rw e in
     ap (λ (r : Tokens). r .fault) (continued s ys) ∙ ap (λ (r : Tokens). r .fault) z

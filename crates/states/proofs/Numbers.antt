@@ -10,8 +10,8 @@ use lib.Dec.{eqb}
 use lib.ListN.{length}
 use lib.Seq.{sets}
 use Rattle.text.specs.Booleans.{among}
-use Rattle.text.specs.declared.Check.{Check}
-use Rattle.text.specs.declared.Check.the-variants.{Good, Bad}
+use Rattle.text.specs.declared.Scan.{Scan}
+use Rattle.text.specs.declared.Scan.the-variants.{Through, StopsAt}
 use Rattle.text.proofs.Booleans.{choose-by}
 use Rattle.token.specs.Lists.{Tok}
 use Rattle.token.specs.Table.{flat, roomOf}
@@ -34,9 +34,9 @@ use Rattle.states.proofs.Runs.{unless-goes, followed-faults}
 abbrev Named : Step → Type 0
 Named z = (n p : ℕ) → z ≡ Faults n p → among refusals n ≡ true
 
-named-unless : (m : ℕ) (k : Check) (f : Unit {0} → Step) → among refusals m ≡ true → Named (f tt) → Named (unless m k f)
-named-unless m Good f a h n p e = h n p e
-named-unless m (Bad q) f a h n p e = let z : m ≡ n = cc in rw (← z) a
+named-unless : (m : ℕ) (k : Scan) (f : Unit {0} → Step) → among refusals m ≡ true → Named (f tt) → Named (unless m k f)
+named-unless m Through f a h n p e = h n p e
+named-unless m (StopsAt q) f a h n p e = let z : m ≡ n = cc in rw (← z) a
 
 named-goes : (ts : List Tok) (c : Stand) → Named (Goes ts c)
 named-goes ts c n p e = let z : _≡_ {A = ℕ} 0 1 = cc in absurd (omega arith)

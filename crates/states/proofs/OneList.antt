@@ -9,7 +9,7 @@ use lib.Dec.{ltb}
 use lib.ListN.{length}
 use borrow.Author.Tests.{ltb-true}
 use Rattle.text.specs.Booleans.{choose}
-use Rattle.text.specs.declared.Check.the-variants.{Good, Bad}
+use Rattle.text.specs.declared.Scan.the-variants.{Through, StopsAt}
 use Rattle.token.specs.Lists.{Tok, tok, startOf, tokensOf}
 use Rattle.states.specs.declared.Stand.{Stand}
 use Rattle.states.specs.declared.Status.the-variants.{Open, Held}
@@ -20,17 +20,17 @@ use Rattle.states.specs.Free.{Bytes}
 use Rattle.states.proofs.Known.{at-below}
 use Rattle.states.proofs.Runs.{took, followed-goes, gave, standAt}
 use Rattle.states.proofs.Packets.{stays-held, Shown}
-use Rattle.states.proofs.Promises.{after, open-after, held-after, first-of, goes-on, waits-14}
+use Rattle.states.proofs.Promises.{fedBy, open-after, held-after, first-of, goes-on, waits-14}
 
 -- ---- the list never holds more than there is room for
 
-over-good : (room : ℕ) (ts : List Tok) (n : ℕ) → overAt room n ts ≡ Good → n ≤ room → n + length ts ≤ room
+over-good : (room : ℕ) (ts : List Tok) (n : ℕ) → overAt room n ts ≡ Through → n ≤ room → n + length ts ≤ room
 unfolding overAt
 over-good room [] n e h = omega arith
 over-good room (t ∷ ts) n e h = over-by room t ts n (ltb n room) refl (λ f g. over-good room ts (suc n) f g) e
   where
-    over-by : (room : ℕ) (t : Tok) (ts : List Tok) (n : ℕ) (b : Bool) → ltb n room ≡ b → (overAt room (suc n) ts ≡ Good → suc n ≤ room → suc n + length ts ≤ room)
-        → choose b (λ u. overAt room (suc n) ts) (λ u. Bad (startOf t)) ≡ Good → n + suc (length ts) ≤ room
+    over-by : (room : ℕ) (t : Tok) (ts : List Tok) (n : ℕ) (b : Bool) → ltb n room ≡ b → (overAt room (suc n) ts ≡ Through → suc n ≤ room → suc n + length ts ≤ room)
+        → choose b (λ u. overAt room (suc n) ts) (λ u. StopsAt (startOf t)) ≡ Through → n + suc (length ts) ≤ room
     over-by room t ts n true f g e =
         let h = g e (ltb-true n room f) in
         omega (arith, h)
@@ -92,7 +92,7 @@ index-is : {r : ℕ} (room index n : ℕ) → room ≡ r → room ≤ index → 
 index-is room index n e o h (inl i) = omega arith
 index-is room index n e o h (inr i) = omega arith
 
-module _ (r : ℕ) (xss : List (List ℕ)) (p k : ℕ) (e : after (lent r xss) .next ≡ Held 14 p k) where
+module _ (r : ℕ) (xss : List (List ℕ)) (p k : ℕ) (e : fedBy (lent r xss) .next ≡ Held 14 p k) where
   abbrev ps : List Packet
   ps = lent r xss
 
@@ -118,8 +118,8 @@ module _ (r : ℕ) (xss : List (List ℕ)) (p k : ℕ) (e : after (lent r xss) .
       (t .kind, t .end, λ ys. moved-at (tok (t .kind) p (t .end)) (goes-on ps (f .spot) ys) i (t .known _))
 
 -- where nothing shows, every token that all continuations have has room
-module _ (r : ℕ) (xss : List (List ℕ)) (c : Stand) (e : after (lent r xss) .next ≡ Open c) where
-  list-fits : length (after (lent r xss) .gives) ≤ r
+module _ (r : ℕ) (xss : List (List ℕ)) (c : Stand) (e : fedBy (lent r xss) .next ≡ Open c) where
+  list-fits : length (fedBy (lent r xss) .gives) ≤ r
   list-fits =
       let o = open-after (lent r xss) c e in
       let a : c .count ≤ r = room-all r (lent r xss) begin c (rooms-lent r xss) (omega arith) e in
@@ -127,5 +127,5 @@ module _ (r : ℕ) (xss : List (List ℕ)) (c : Stand) (e : after (lent r xss) .
 
   pub room-14 : (i : ℕ) (t : Tok) → ((ys : List ℕ) → Bytes ys → At (tokensOf (joined (lent r xss) ++ ys) .list) i t) → i < r
   room-14 i t h =
-      let b : i < length (after (lent r xss) .gives) = at-below (after (lent r xss) .gives) i t (waits-14 (lent r xss) c e i t .0 h) in
+      let b : i < length (fedBy (lent r xss) .gives) = at-below (fedBy (lent r xss) .gives) i t (waits-14 (lent r xss) c e i t .0 h) in
       omega (arith, list-fits)

@@ -11,7 +11,7 @@ use Rattle.states.specs.declared.Status.the-variants.{Open, Held}
 use Rattle.states.specs.Steps.{Step, Goes, Faults, stepOf, ranOf, movedBy, Moved, fedOf}
 use Rattle.states.specs.Packets.{Packet, joined, fedAll, Spot}
 use Rattle.states.proofs.Runs.{gave, standAt, ran-goes, Stopped, ran-faults}
-use Rattle.states.proofs.Shown.{Sound, sound-ran}
+use Rattle.states.proofs.Shown.{NoneShown, sound-ran}
 
 -- ---- a packet
 
@@ -41,17 +41,17 @@ pub record Shown (s : List ℕ) (ps : List Packet) (n p k : ℕ) : Type 0 where
   pub opens : fedAll (Open (standAt s)) (spot .before) .next ≡ Open (standAt (s ++ joined (spot .before)))
   pub went : List Tok
   pub ran : ranOf (spot .packet .room) (standAt (s ++ joined (spot .before))) (spot .part) ≡ Goes went (standAt (s ++ joined (spot .before) ++ spot .part))
-  pub sound : Sound (s ++ joined (spot .before) ++ spot .part)
+  pub sound : NoneShown (s ++ joined (spot .before) ++ spot .part)
   pub fault : stepOf (spot .packet .room) (standAt (s ++ joined (spot .before) ++ spot .part)) (spot .byte) ≡ Faults n p
   pub records : k ≡ length (gave (s ++ joined (spot .before)))
   pub list : gave (s ++ joined (spot .before)) ≡ gave s ++ fedAll (Open (standAt s)) ps .gives
 
 -- what a packet comes to
 data Comes (s : List ℕ) (p : Packet) : Type 0 where
-  goes : (ts : List Tok) → fedOf (p .room) (Open (standAt s)) (p .bytes) ≡ record { gives = ts; next = Open (standAt (s ++ p .bytes)) } → Sound (s ++ p .bytes) → gave (s ++ p .bytes) ≡ gave s ++ ts → Comes s p
+  goes : (ts : List Tok) → fedOf (p .room) (Open (standAt s)) (p .bytes) ≡ record { gives = ts; next = Open (standAt (s ++ p .bytes)) } → NoneShown (s ++ p .bytes) → gave (s ++ p .bytes) ≡ gave s ++ ts → Comes s p
   stops : (n q : ℕ) → fedOf (p .room) (Open (standAt s)) (p .bytes) ≡ record { gives = []; next = Held n q (length (gave s)) } → Stopped (p .room) s (p .bytes) n q → Comes s p
 
-comes-by : (s : List ℕ) (p : Packet) (z : Step) → Sound s → ranOf (p .room) (standAt s) (p .bytes) ≡ z → Comes s p
+comes-by : (s : List ℕ) (p : Packet) (z : Step) → NoneShown s → ranOf (p .room) (standAt s) (p .bytes) ≡ z → Comes s p
 unfolding fedOf
 comes-by s p (Goes ts d) h e =
     let g = ran-goes (p .room) (p .bytes) s ts d e in
@@ -60,7 +60,7 @@ comes-by s p (Goes ts d) h e =
     goes ts f (sound-ran (p .room) (p .bytes) s ts d h e) (g .1)
 comes-by s p (Faults n q) h e = stops n q (ap (movedBy (length (gave s))) e) (ran-faults (p .room) (p .bytes) s n q e)
 
-comes : (s : List ℕ) (p : Packet) → Sound s → Comes s p
+comes : (s : List ℕ) (p : Packet) → NoneShown s → Comes s p
 comes s p h = comes-by s p (ranOf (p .room) (standAt s) (p .bytes)) h refl
 
 -- behind one packet more
@@ -69,7 +69,7 @@ later x w = record { before = x ∷ w .before; packet = w .packet; behind = w .b
 
 -- what packets come to
 pub data Came (s : List ℕ) (ps : List Packet) : Type 0 where
-  through : fedAll (Open (standAt s)) ps .next ≡ Open (standAt (s ++ joined ps)) → Sound (s ++ joined ps) → gave (s ++ joined ps) ≡ gave s ++ fedAll (Open (standAt s)) ps .gives → Came s ps
+  through : fedAll (Open (standAt s)) ps .next ≡ Open (standAt (s ++ joined ps)) → NoneShown (s ++ joined ps) → gave (s ++ joined ps) ≡ gave s ++ fedAll (Open (standAt s)) ps .gives → Came s ps
   shown : (n p k : ℕ) → fedAll (Open (standAt s)) ps .next ≡ Held n p k → Shown s ps n p k → Came s ps
 
 abbrev joins : Moved → List Packet → Moved
@@ -90,7 +90,7 @@ module _ (s : List ℕ) (x : Packet) (ps : List Packet) where
   first-is m e = first-then ps m e
 
   -- the first packet is refused
-  stop-first : (n q : ℕ) → Sound s → fedOf (x .room) (Open (standAt s)) (x .bytes) ≡ record { gives = []; next = Held n q (length (gave s)) } → Stopped (x .room) s (x .bytes) n q → Came s (x ∷ ps)
+  stop-first : (n q : ℕ) → NoneShown s → fedOf (x .room) (Open (standAt s)) (x .bytes) ≡ record { gives = []; next = Held n q (length (gave s)) } → Stopped (x .room) s (x .bytes) n q → Came s (x ∷ ps)
   stop-first n q h e d =
       let held : joins (record { gives = []; next = Held n q (length (gave s)) }) ps ≡ record { gives = []; next = Held n q (length (gave s)) } = rw (stays-held ps n q (length (gave s))) refl in
       let all : fedAll (Open (standAt s)) (x ∷ ps) ≡ record { gives = []; next = Held n q (length (gave s)) } = first-is (record { gives = []; next = Held n q (length (gave s)) }) e ∙ held in
@@ -128,11 +128,11 @@ module _ (s : List ℕ) (x : Packet) (ps : List Packet) where
         list = ap gave (sym a) ∙ h .list ∙ ap (λ (us : List Tok). us ++ fedAll (Open (standAt t)) ps .gives) g ∙ append-assoc (gave s) ts _ ∙ ap (λ (m : Moved). gave s ++ m .gives) (sym all);
       })
 
-came-by : (s : List ℕ) (x : Packet) (ps : List Packet) → Sound s → (Sound (s ++ x .bytes) → Came (s ++ x .bytes) ps) → Comes s x → Came s (x ∷ ps)
+came-by : (s : List ℕ) (x : Packet) (ps : List Packet) → NoneShown s → (NoneShown (s ++ x .bytes) → Came (s ++ x .bytes) ps) → Comes s x → Came s (x ∷ ps)
 came-by s x ps h rest (goes ts e f g) = go-on s x ps ts e g (rest f)
 came-by s x ps h rest (stops n q e d) = stop-first s x ps n q h e d
 
-pub came : (ps : List Packet) (s : List ℕ) → Sound s → Came s ps
+pub came : (ps : List Packet) (s : List ℕ) → NoneShown s → Came s ps
 unfolding fedAll
 came [] s h =
     let nil : s ++ [] ≡ s = append-nil s in

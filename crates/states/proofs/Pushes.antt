@@ -13,7 +13,7 @@ use Rattle.text.specs.Booleans.{and, or, all}
 use Rattle.text.specs.Classes.{classOf}
 use Rattle.text.specs.Words.{inWord, begins, push}
 use Rattle.text.proofs.Tests.{lt-or-ge}
-use Rattle.text.proofs.Booleans.{and-left, and-right, and-second, choose-by, or-false, or-second, or-true}
+use Rattle.text.proofs.Booleans.{and-left, and-one, and-right, and-second, choose-by, or-false, or-second, or-true}
 use Rattle.token.specs.Blanks.{run, first, words}
 use Rattle.token.specs.Tokens.{pushLiteral}
 use Rattle.token.specs.Lists.{Tokens}
@@ -22,7 +22,7 @@ use mathlib.Core.Logic.{_⊎_, inl, inr}
 use Rattle.states.specs.declared.State.the-variants.{Push}
 use Rattle.states.specs.Machine.{Out, pushRow, last, endRow}
 use Rattle.states.proofs.From.{ended, from-end, ended-next, none}
-use Rattle.states.proofs.Left.{pushOk, pushed, after}
+use Rattle.states.proofs.Left.{pushOk, pushed, withRest}
 use Rattle.states.proofs.Rows.{run-go, run-none, run-stop}
 use Rattle.states.proofs.Words.{push-beyond, again-law, word-row}
 
@@ -109,16 +109,12 @@ none-other n xs h e w =
 
 none-by : (n x : ℕ) (rest : List ℕ) (p : Bool) → 4 ≤ n → and (ltb n 12) (eqb x (getD pushLiteral n 0)) ≡ false → and (or (eqb n 4) (eqb n 12)) (not p) ≡ false → inWord x ≡ p → pushed n (x ∷ rest) ≡ NoToken 0
 none-by n x rest true h e f g = none-word n x rest h (lt-or-ge n 12) e g
-none-by n x rest false h e f g = none-other n (x ∷ rest) h (and-true (or (eqb n 4) (eqb n 12)) f) (run-none (first inWord) x rest g)
-  where
-    and-true : (p : Bool) → and p true ≡ false → p ≡ false
-    and-true true q = q
-    and-true false q = refl
+none-by n x rest false h e f g = none-other n (x ∷ rest) h (sym (and-one (or (eqb n 4) (eqb n 12))) ∙ f) (run-none (first inWord) x rest g)
 
-pub push-row : (a n x : ℕ) (rest : List ℕ) → ended a n (x ∷ rest) (pushed n (x ∷ rest)) ≡ after (pushRow a n x) rest
+pub push-row : (a n x : ℕ) (rest : List ℕ) → ended a n (x ∷ rest) (pushed n (x ∷ rest)) ≡ withRest (pushRow a n x) rest
 unfolding pushRow
 push-row a n x rest =
-    let P : Out → Type 0 = λ o. ended a n (x ∷ rest) (pushed n (x ∷ rest)) ≡ after o rest in
+    let P : Out → Type 0 = λ o. ended a n (x ∷ rest) (pushed n (x ∷ rest)) ≡ withRest o rest in
     choose-by P (and (ltb n 12) (eqb x (getD pushLiteral n 0))) _ _
     (λ e.
     let h : n < 12 = ltb-true n 12 (and-left (ltb n 12) (eqb x (getD pushLiteral n 0)) e) in

@@ -21,7 +21,7 @@ use Rattle.token.specs.declared.Token.the-variants.{Found, NoToken}
 use Rattle.states.specs.declared.State.the-variants.{Start, Com}
 use Rattle.states.specs.Machine.{Out, go, slashRow, lineRow, slash2Row, giveDoc, docRow, docCrRow, crRow, comRow, starRow, barRow, faultAt}
 use Rattle.states.proofs.From.{from, ended, ended-next, none, from-blank, from-first, next-two}
-use Rattle.states.proofs.Left.{comBy, comL, docL, lineL, after}
+use Rattle.states.proofs.Left.{comBy, comL, docL, lineL, withRest}
 
 -- ---- runs
 
@@ -70,9 +70,9 @@ unfolding closeOf markOf
 com-plain d a n x [] e f = refl
 com-plain d a n x (y ∷ ys) e f = com-skip d a n x y ys (rw (e, f))
 
-pub com-row : (d a n x : ℕ) (rest : List ℕ) → comL d a n (x ∷ rest) ≡ after (comRow d a n x) rest
+pub com-row : (d a n x : ℕ) (rest : List ℕ) → comL d a n (x ∷ rest) ≡ withRest (comRow d a n x) rest
 com-row d a n x rest =
-    let P : Out → Type 0 = λ o. comL d a n (x ∷ rest) ≡ after o rest in
+    let P : Out → Type 0 = λ o. comL d a n (x ∷ rest) ≡ withRest o rest in
     choose-by P (eqb x 42) _ _ (λ e. rw (eqb-true x 42 e))
     (λ e. choose-by P (eqb x 47) _ _ (λ f. rw (eqb-true x 47 f)) (λ f. com-plain d a n x rest e f))
 
@@ -84,18 +84,18 @@ bar-mark : (x : ℕ) → eqb x 42 ≡ false → markOf 47 x ≡ Neither
 unfolding markOf
 bar-mark x e = rw e
 
-star-closes : (d a n : ℕ) (rest : List ℕ) → comL d a n (42 ∷ 47 ∷ rest) ≡ after (choose (leb d 1) (λ u. go Start (a + (n + 2)) 0) (λ u. go (Com (d - 1)) a (n + 2))) rest
+star-closes : (d a n : ℕ) (rest : List ℕ) → comL d a n (42 ∷ 47 ∷ rest) ≡ withRest (choose (leb d 1) (λ u. go Start (a + (n + 2)) 0) (λ u. go (Com (d - 1)) a (n + 2))) rest
 unfolding closeOf markOf
 star-closes d a n rest =
     by (leb d 1)
   where
-    by : (b : Bool) → comBy a n (42 ∷ 47 ∷ rest) (choose b (λ u. At 2) (λ u. further 2 (closeOf (d - 1) rest))) ≡ after (choose b (λ u. go Start (a + (n + 2)) 0) (λ u. go (Com (d - 1)) a (n + 2))) rest
+    by : (b : Bool) → comBy a n (42 ∷ 47 ∷ rest) (choose b (λ u. At 2) (λ u. further 2 (closeOf (d - 1) rest))) ≡ withRest (choose b (λ u. go Start (a + (n + 2)) 0) (λ u. go (Com (d - 1)) a (n + 2))) rest
     by true = refl
     by false = further-two a n 42 47 rest (closeOf (d - 1) rest)
 
-pub star-row : (d a n x : ℕ) (rest : List ℕ) → comL d a n (42 ∷ x ∷ rest) ≡ after (starRow d a n x) rest
+pub star-row : (d a n x : ℕ) (rest : List ℕ) → comL d a n (42 ∷ x ∷ rest) ≡ withRest (starRow d a n x) rest
 star-row d a n x rest =
-    let P : Out → Type 0 = λ o. comL d a n (42 ∷ x ∷ rest) ≡ after o rest in
+    let P : Out → Type 0 = λ o. comL d a n (42 ∷ x ∷ rest) ≡ withRest o rest in
     choose-by P (eqb x 47) _ _ (λ e. rw (eqb-true x 47 e) (star-closes d a n rest))
     (λ e. com-skip d a n 42 x rest (star-mark x e) ∙ com-row d a (suc n) x rest)
 
@@ -103,9 +103,9 @@ bar-opens : (d a n : ℕ) (rest : List ℕ) → comL d a n (47 ∷ 42 ∷ rest) 
 unfolding closeOf markOf
 bar-opens d a n rest = further-two a n 47 42 rest (closeOf (d + 1) rest)
 
-pub bar-row : (d a n x : ℕ) (rest : List ℕ) → comL d a n (47 ∷ x ∷ rest) ≡ after (barRow d a n x) rest
+pub bar-row : (d a n x : ℕ) (rest : List ℕ) → comL d a n (47 ∷ x ∷ rest) ≡ withRest (barRow d a n x) rest
 bar-row d a n x rest =
-    let P : Out → Type 0 = λ o. comL d a n (47 ∷ x ∷ rest) ≡ after o rest in
+    let P : Out → Type 0 = λ o. comL d a n (47 ∷ x ∷ rest) ≡ withRest o rest in
     choose-by P (eqb x 42) _ _ (λ e. rw (eqb-true x 42 e) (bar-opens d a n rest))
     (λ e. com-skip d a n 47 x rest (bar-mark x e) ∙ com-row d a (suc n) x rest)
 
@@ -157,30 +157,30 @@ other-by a n x (y ∷ ys) true e f = by (eqb y 10) refl
     by true g = rw (eqb-true x 13 f, eqb-true y 10 g) (line-crlf a n ys)
     by false g = line-in a n x (y ∷ ys) (rw (e, f, g))
 
-pub line-row : (a n x : ℕ) (rest : List ℕ) → lineL a n (x ∷ rest) ≡ after (lineRow a n x) rest
+pub line-row : (a n x : ℕ) (rest : List ℕ) → lineL a n (x ∷ rest) ≡ withRest (lineRow a n x) rest
 line-row a n x rest =
-    choose-by (λ (o : Out). lineL a n (x ∷ rest) ≡ after o rest) (eqb x 10) _ _ (λ e. rw (eqb-true x 10 e) (line-lf a n rest))
+    choose-by (λ (o : Out). lineL a n (x ∷ rest) ≡ withRest o rest) (eqb x 10) _ _ (λ e. rw (eqb-true x 10 e) (line-lf a n rest))
     (λ e. other-by a n x rest (eqb x 13) e refl)
 
-doc-lf : (k a n : ℕ) (rest : List ℕ) → docL k a n (10 ∷ rest) ≡ after (giveDoc k a (a + n) (a + suc n)) rest
+doc-lf : (k a n : ℕ) (rest : List ℕ) → docL k a n (10 ∷ rest) ≡ withRest (giveDoc k a (a + n) (a + suc n)) rest
 doc-lf k a n rest =
     let y : suc (a + n) ≡ a + suc n = omega arith in
     run-stop inLine k a n 10 rest refl ∙ ap (onto (tok k a (a + n) ∷ [])) (from-lf (a + n) rest ∙ ap (λ (b : ℕ). from b rest) y)
 
-doc-crlf : (k a n : ℕ) (rest : List ℕ) → docL k a n (13 ∷ 10 ∷ rest) ≡ after (giveDoc k a (a + n) (a + (n + 2))) rest
+doc-crlf : (k a n : ℕ) (rest : List ℕ) → docL k a n (13 ∷ 10 ∷ rest) ≡ withRest (giveDoc k a (a + n) (a + (n + 2))) rest
 doc-crlf k a n rest =
     let y : (a + n) + 2 ≡ a + (n + 2) = omega arith in
     run-stop inLine k a n 13 (10 ∷ rest) refl ∙ ap (onto (tok k a (a + n) ∷ [])) (from-crlf (a + n) rest ∙ ap (λ (b : ℕ). from b rest) y)
 
-pub doc-row : (k a n x : ℕ) (rest : List ℕ) → docL k a n (x ∷ rest) ≡ after (docRow k a n x) rest
+pub doc-row : (k a n x : ℕ) (rest : List ℕ) → docL k a n (x ∷ rest) ≡ withRest (docRow k a n x) rest
 doc-row k a n x rest =
-    let P : Out → Type 0 = λ o. docL k a n (x ∷ rest) ≡ after o rest in
+    let P : Out → Type 0 = λ o. docL k a n (x ∷ rest) ≡ withRest o rest in
     choose-by P (eqb x 10) _ _ (λ e. rw (eqb-true x 10 e) (doc-lf k a n rest))
     (λ e. choose-by P (eqb x 13) _ _ (λ f. rw (eqb-true x 13 f)) (λ f. run-next inLine k a n x rest (rw (e, f))))
 
-pub docCr-row : (k a n x : ℕ) (rest : List ℕ) → docL k a n (13 ∷ x ∷ rest) ≡ after (docCrRow k a n x) rest
+pub docCr-row : (k a n x : ℕ) (rest : List ℕ) → docL k a n (13 ∷ x ∷ rest) ≡ withRest (docCrRow k a n x) rest
 docCr-row k a n x rest =
-    choose-by (λ (o : Out). docL k a n (13 ∷ x ∷ rest) ≡ after o rest) (eqb x 10) _ _ (λ e. rw (eqb-true x 10 e) (doc-crlf k a n rest))
+    choose-by (λ (o : Out). docL k a n (13 ∷ x ∷ rest) ≡ withRest o rest) (eqb x 10) _ _ (λ e. rw (eqb-true x 10 e) (doc-crlf k a n rest))
     (λ e. run-next inLine k a n 13 (x ∷ rest) (rw e) ∙ doc-row k a (suc n) x rest)
 
 -- ---- after `/`, `//` and CR
@@ -197,9 +197,9 @@ slash-none : (a x : ℕ) (rest : List ℕ) → eqb x 47 ≡ false → eqb x 42 �
 unfolding blankBy classOf openerBlank slashBlank tokenBy openerToken docToken
 slash-none a x rest e f = from-first a 47 (x ∷ rest) (NoToken 0) (rw (e, f)) (rw e) ∙ none a 0 (47 ∷ x ∷ rest)
 
-pub slash-row : (a x : ℕ) (rest : List ℕ) → from a (47 ∷ x ∷ rest) ≡ after (slashRow a x) rest
+pub slash-row : (a x : ℕ) (rest : List ℕ) → from a (47 ∷ x ∷ rest) ≡ withRest (slashRow a x) rest
 slash-row a x rest =
-    let P : Out → Type 0 = λ o. from a (47 ∷ x ∷ rest) ≡ after o rest in
+    let P : Out → Type 0 = λ o. from a (47 ∷ x ∷ rest) ≡ withRest o rest in
     choose-by P (eqb x 47) _ _ (λ e. rw (eqb-true x 47 e))
     (λ e. choose-by P (eqb x 42) _ _ (λ f. rw (eqb-true x 42 f) (com-by a rest (closeOf 1 rest) refl)) (λ f. slash-none a x rest e f))
 
@@ -225,9 +225,9 @@ line-open a rest e f =
     let y : suc (suc (line rest)) ≡ 2 + line rest = omega arith in
     from-blank a 47 (47 ∷ rest) (line rest + 1) (rw (e, f)) ∙ rw (z, y)
 
-pub slash2-row : (a x : ℕ) (rest : List ℕ) → from a (47 ∷ 47 ∷ x ∷ rest) ≡ after (slash2Row a x) rest
+pub slash2-row : (a x : ℕ) (rest : List ℕ) → from a (47 ∷ 47 ∷ x ∷ rest) ≡ withRest (slash2Row a x) rest
 slash2-row a x rest =
-    let P : Out → Type 0 = λ o. from a (47 ∷ 47 ∷ x ∷ rest) ≡ after o rest in
+    let P : Out → Type 0 = λ o. from a (47 ∷ 47 ∷ x ∷ rest) ≡ withRest o rest in
     choose-by P (eqb x 47) _ _ (λ e. rw (eqb-true x 47 e) (doc-27 a rest))
     (λ e. choose-by P (eqb x 33) _ _ (λ f. rw (eqb-true x 33 f) (doc-26 a rest)) (λ f. line-open a (x ∷ rest) e f ∙ line-row a 2 x rest))
 
@@ -235,6 +235,6 @@ cr-none : (a x : ℕ) (rest : List ℕ) → eqb x 10 ≡ false → from a (13 �
 unfolding blankBy classOf openerBlank returnBlank tokenBy openerToken
 cr-none a x rest e = from-first a 13 (x ∷ rest) (NoToken 0) (rw e) refl ∙ none a 0 (13 ∷ x ∷ rest)
 
-pub cr-row : (a x : ℕ) (rest : List ℕ) → from a (13 ∷ x ∷ rest) ≡ after (crRow a x) rest
+pub cr-row : (a x : ℕ) (rest : List ℕ) → from a (13 ∷ x ∷ rest) ≡ withRest (crRow a x) rest
 cr-row a x rest =
-    choose-by (λ (o : Out). from a (13 ∷ x ∷ rest) ≡ after o rest) (eqb x 10) _ _ (λ e. rw (eqb-true x 10 e) (from-crlf a rest)) (λ e. cr-none a x rest e)
+    choose-by (λ (o : Out). from a (13 ∷ x ∷ rest) ≡ withRest o rest) (eqb x 10) _ _ (λ e. rw (eqb-true x 10 e) (from-crlf a rest)) (λ e. cr-none a x rest e)

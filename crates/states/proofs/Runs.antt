@@ -7,8 +7,8 @@ use native.Mathlib.Nat.{add-zero}
 use native.Mathlib.Omega.{arith}
 use lib.ListN.{length, length-append}
 use lib.Seq.{append-snoc}
-use Rattle.text.specs.declared.Check.{Check}
-use Rattle.text.specs.declared.Check.the-variants.{Good, Bad}
+use Rattle.text.specs.declared.Scan.{Scan}
+use Rattle.text.specs.declared.Scan.the-variants.{Through, StopsAt}
 use Rattle.token.specs.Lists.{Tok}
 use Rattle.states.specs.declared.Utf.{Utf}
 use Rattle.states.specs.declared.Utf.the-variants.{Whole}
@@ -21,13 +21,13 @@ use Rattle.states.proofs.Utfs.{utf-cuts}
 
 -- ---- a step is taken apart
 
-pub unless-goes : (n : ℕ) (k : Check) (f : Unit {0} → Step) (ts : List Tok) (d : Stand) → unless n k f ≡ Goes ts d → (k ≡ Good) × (f tt ≡ Goes ts d)
-unless-goes n Good f ts d e = (refl, e)
-unless-goes n (Bad p) f ts d e = let z : _≡_ {A = ℕ} 0 1 = cc in absurd (omega arith)
+pub unless-goes : (n : ℕ) (k : Scan) (f : Unit {0} → Step) (ts : List Tok) (d : Stand) → unless n k f ≡ Goes ts d → (k ≡ Through) × (f tt ≡ Goes ts d)
+unless-goes n Through f ts d e = (refl, e)
+unless-goes n (StopsAt p) f ts d e = let z : _≡_ {A = ℕ} 0 1 = cc in absurd (omega arith)
 
-pub unless-faults : (n : ℕ) (k : Check) (f : Unit {0} → Step) (m p : ℕ) → unless n k f ≡ Faults m p → ((n ≡ m) × (k ≡ Bad p)) ⊎ ((k ≡ Good) × (f tt ≡ Faults m p))
-unless-faults n Good f m p e = inr (refl, e)
-unless-faults n (Bad q) f m p e = inl (cc, cc)
+pub unless-faults : (n : ℕ) (k : Scan) (f : Unit {0} → Step) (m p : ℕ) → unless n k f ≡ Faults m p → ((n ≡ m) × (k ≡ StopsAt p)) ⊎ ((k ≡ Through) × (f tt ≡ Faults m p))
+unless-faults n Through f m p e = inr (refl, e)
+unless-faults n (StopsAt q) f m p e = inl (cc, cc)
 
 given-goes : (ts us : List Tok) (z : Step) (d : Stand) → given ts z ≡ Goes us d → (vs : List Tok) × (z ≡ Goes vs d) × (us ≡ ts ++ vs)
 given-goes ts us (Goes vs c) d e = (vs, cc, cc)
@@ -102,10 +102,10 @@ stand-one s x =
 
 -- a byte that is not refused, wherever the stream stands
 pub record Took (r : ℕ) (c : Stand) (x : ℕ) (ts : List Tok) (d : Stand) : Type 0 where
-  pub short : longAt (suc (c .seen)) ≡ Good
-  pub sound : brokenAt (utfStep (c .utf) (c .seen) x) ≡ Good
-  pub going : refusedAt (step (c .conf) x .next) ≡ Good
-  pub room : overAt r (c .count) (step (c .conf) x .gives) ≡ Good
+  pub short : longAt (suc (c .seen)) ≡ Through
+  pub sound : brokenAt (utfStep (c .utf) (c .seen) x) ≡ Through
+  pub going : refusedAt (step (c .conf) x .next) ≡ Through
+  pub room : overAt r (c .count) (step (c .conf) x .gives) ≡ Through
   pub gives : ts ≡ step (c .conf) x .gives
   pub moved : d ≡ movedTo c (utfStep (c .utf) (c .seen) x) (step (c .conf) x)
 

@@ -10,9 +10,10 @@ use lib.ListN.{length, length-append}
 use lib.Seq.{append-snoc}
 use borrow.Author.Tests.{ltb-true, ltb-false}
 use Rattle.text.specs.Booleans.{choose}
-use Rattle.text.specs.declared.Check.{Check}
-use Rattle.text.specs.declared.Check.the-variants.{Good, Bad}
+use Rattle.text.specs.declared.Scan.{Scan}
+use Rattle.text.specs.declared.Scan.the-variants.{Through, StopsAt}
 use Rattle.text.proofs.Booleans.{choose-by}
+use Rattle.text.specs.Limits.{maxText}
 use Rattle.token.specs.Lists.{Tok, tok, startOf}
 use Rattle.states.specs.declared.State.the-variants.{Refused}
 use Rattle.states.specs.declared.Conf.{Conf}
@@ -36,24 +37,24 @@ use Rattle.states.proofs.Runs.{unless-faults, followed-goes, gave, stan
 
 -- ---- the checks
 
-no-good : {A : Type 0} (p : ℕ) → Good ≡ Bad p → A
+no-good : {A : Type 0} (p : ℕ) → Through ≡ StopsAt p → A
 no-good p e = let z : _≡_ {A = ℕ} 0 1 = cc in absurd (omega arith)
 
-long-bad : (n p : ℕ) → longAt n ≡ Bad p → (65536 < n) × (p ≡ 0)
+long-bad : (n p : ℕ) → longAt n ≡ StopsAt p → (maxText < n) × (p ≡ 0)
 unfolding longAt
-long-bad n p = choose-by (λ k. k ≡ Bad p → (65536 < n) × (p ≡ 0)) (ltb 65536 n) _ _ (λ e g. (ltb-true 65536 n e, cc)) (λ e g. no-good p g)
+long-bad n p = choose-by (λ k. k ≡ StopsAt p → (maxText < n) × (p ≡ 0)) (ltb maxText n) _ _ (λ e g. (ltb-true maxText n e, cc)) (λ e g. no-good p g)
 
-broken-bad : (u : Utf) (p : ℕ) → brokenAt u ≡ Bad p → u ≡ Broke p
+broken-bad : (u : Utf) (p : ℕ) → brokenAt u ≡ StopsAt p → u ≡ Broke p
 broken-bad Whole p e = no-good p e
 broken-bad (Mid t s) p e = no-good p e
 broken-bad (Broke q) p e = let z : q ≡ p = cc in ap Broke z
 
-broken-good : (u : Utf) → brokenAt u ≡ Good → (p : ℕ) → u ≡ Broke p → ⊥
+broken-good : (u : Utf) → brokenAt u ≡ Through → (p : ℕ) → u ≡ Broke p → ⊥
 broken-good u g p e = no-good p (sym g ∙ ap brokenAt e)
 
-refused-bad : (c : Conf) (p : ℕ) → refusedAt c ≡ Bad p → (c .state ≡ Refused) × (c .start ≡ p)
+refused-bad : (c : Conf) (p : ℕ) → refusedAt c ≡ StopsAt p → (c .state ≡ Refused) × (c .start ≡ p)
 unfolding refusedAt
-refused-bad c p = choose-by (λ k. k ≡ Bad p → (c .state ≡ Refused) × (c .start ≡ p)) (eqb (codeOf (c .state)) refusedCode) _ _ (λ e g. (code-refused (c .state) e, cc)) (λ e g. no-good p g)
+refused-bad c p = choose-by (λ k. k ≡ StopsAt p → (c .state ≡ Refused) × (c .start ≡ p)) (eqb (codeOf (c .state)) refusedCode) _ _ (λ e g. (code-refused (c .state) e, cc)) (λ e g. no-good p g)
 
 -- the first for which there is no room: the list is full before it, or was too short already
 pub record Over (room n p : ℕ) (ts : List Tok) : Type 0 where
@@ -78,12 +79,12 @@ over-next room n p t ts h o =
     first-by (inl e) = omega arith
     first-by (inr e) = let f : room ≤ suc n + o .index = o .full in omega arith
 
-over-by : (room n p : ℕ) (t : Tok) (ts : List Tok) (b : Bool) → ltb n room ≡ b → (overAt room (suc n) ts ≡ Bad p → Over room (suc n) p ts)
-    → choose b (λ u. overAt room (suc n) ts) (λ u. Bad (startOf t)) ≡ Bad p → Over room n p (t ∷ ts)
+over-by : (room n p : ℕ) (t : Tok) (ts : List Tok) (b : Bool) → ltb n room ≡ b → (overAt room (suc n) ts ≡ StopsAt p → Over room (suc n) p ts)
+    → choose b (λ u. overAt room (suc n) ts) (λ u. StopsAt (startOf t)) ≡ StopsAt p → Over room n p (t ∷ ts)
 over-by room n p t ts true f h e = over-next room n p t ts (ltb-true n room f) (h e)
 over-by room n p t ts false f h e = over-here room n p t ts (ltb-false n room f) (cc)
 
-pub over-bad : (room : ℕ) (ts : List Tok) (n p : ℕ) → overAt room n ts ≡ Bad p → Over room n p ts
+pub over-bad : (room : ℕ) (ts : List Tok) (n p : ℕ) → overAt room n ts ≡ StopsAt p → Over room n p ts
 unfolding overAt
 over-bad room [] n p e = no-good p e
 over-bad room (t ∷ ts) n p e = over-by room n p t ts (ltb n room) refl (λ g. over-bad room ts (suc n) p g) e
@@ -91,28 +92,28 @@ over-bad room (t ∷ ts) n p e = over-by room n p t ts (ltb n room) refl (λ g. 
 -- ---- after a text
 
 -- nothing has shown: 1, 2 and 3 alike
-pub record Sound (s : List ℕ) : Type 0 where
-  pub short : length s ≤ 65536
-  pub whole : brokenAt (utfFeed Whole 0 s) ≡ Good
-  pub going : refusedAt (feed fresh s .next) ≡ Good
+pub record NoneShown (s : List ℕ) : Type 0 where
+  pub short : length s ≤ maxText
+  pub whole : brokenAt (utfFeed Whole 0 s) ≡ Through
+  pub going : refusedAt (feed fresh s .next) ≡ Through
 
-pub sound-nil : Sound []
+pub sound-nil : NoneShown []
 unfolding feed utfFeed refusedAt
 sound-nil = record { short = omega arith; whole = refl; going = refl }
 
-pub free-1 : (s : List ℕ) → length s ≤ 65536 → Free-1 s
+pub free-1 : (s : List ℕ) → length s ≤ maxText → Free-1 s
 free-1 s h = ([], no-bytes, rw (append-nil s) h)
 
-pub free-2 : (s : List ℕ) → brokenAt (utfFeed Whole 0 s) ≡ Good → Free-2 s
+pub free-2 : (s : List ℕ) → brokenAt (utfFeed Whole 0 s) ≡ Through → Free-2 s
 free-2 s g = complete-2 s (broken-good (utfFeed Whole 0 s) g)
 
-pub free-3 : (s : List ℕ) → refusedAt (feed fresh s .next) ≡ Good → Free-3 s
+pub free-3 : (s : List ℕ) → refusedAt (feed fresh s .next) ≡ Through → Free-3 s
 free-3 s g = complete-3 s (λ e. refused-good (feed fresh s .next) g (ap codeOf e))
 
 -- ---- at a byte
 
 module _ (r : ℕ) (s : List ℕ) (x : ℕ) where
-  sound-one : longAt (suc (length s)) ≡ Good → brokenAt (utfAt s x) ≡ Good → refusedAt (outAt s x .next) ≡ Good → Sound (s ++ x ∷ [])
+  sound-one : longAt (suc (length s)) ≡ Through → brokenAt (utfAt s x) ≡ Through → refusedAt (outAt s x .next) ≡ Through → NoneShown (s ++ x ∷ [])
   sound-one a b c =
       record {
         short = rw (length-one s x) (long-good (suc (length s)) a);
@@ -120,13 +121,13 @@ module _ (r : ℕ) (s : List ℕ) (x : ℕ) where
         going = rw (next-one s x) c;
       }
 
-  pub sound-step : (ts : List Tok) (d : Stand) → stepOf r (standAt s) x ≡ Goes ts d → Sound (s ++ x ∷ [])
+  pub sound-step : (ts : List Tok) (d : Stand) → stepOf r (standAt s) x ≡ Goes ts d → NoneShown (s ++ x ∷ [])
   sound-step ts d e = let h = took r (standAt s) x ts d e in sound-one (h .short) (h .sound) (h .going)
 
-  is-long : (p : ℕ) → longAt (suc (length s)) ≡ Bad p → Byte r s x 1 p
+  is-long : (p : ℕ) → longAt (suc (length s)) ≡ StopsAt p → Byte r s x 1 p
   is-long p e =
       let h = long-bad (suc (length s)) p e in
-      let l : 65536 < suc (length s) = h .0 in
+      let l : maxText < suc (length s) = h .0 in
       record {
         refusal = refl;
         shows-1 = λ z. (h .1, λ ys. rw (length-append s (x ∷ ys)) (omega arith));
@@ -140,7 +141,7 @@ module _ (r : ℕ) (s : List ℕ) (x : ℕ) where
   moved-on : (ys : List ℕ) → (s ++ x ∷ []) ++ ys ≡ s ++ x ∷ ys
   moved-on ys = append-snoc s x ys
 
-  is-broken : (p : ℕ) → longAt (suc (length s)) ≡ Good → brokenAt (utfAt s x) ≡ Bad p → Byte r s x 2 p
+  is-broken : (p : ℕ) → longAt (suc (length s)) ≡ Through → brokenAt (utfAt s x) ≡ StopsAt p → Byte r s x 2 p
   is-broken p a e =
       let u : utfFeed Whole 0 (s ++ x ∷ []) ≡ Broke p = utf-one s x ∙ broken-bad (utfAt s x) p e in
       record {
@@ -152,7 +153,7 @@ module _ (r : ℕ) (s : List ℕ) (x : ℕ) where
         waits = record { one = λ z. free-1 (s ++ x ∷ []) (rw (length-one s x) (long-good (suc (length s)) a)); two = λ z. absurd (omega arith); three = λ z. absurd (omega arith) };
       }
 
-  is-refused : (p : ℕ) → longAt (suc (length s)) ≡ Good → brokenAt (utfAt s x) ≡ Good → refusedAt (outAt s x .next) ≡ Bad p → Byte r s x 3 p
+  is-refused : (p : ℕ) → longAt (suc (length s)) ≡ Through → brokenAt (utfAt s x) ≡ Through → refusedAt (outAt s x .next) ≡ StopsAt p → Byte r s x 3 p
   is-refused p a b e =
       let h = refused-bad (outAt s x .next) p e in
       let q : feed fresh (s ++ x ∷ []) .next .state ≡ Refused = ap (λ (c : Conf). c .state) (next-one s x) ∙ h .0 in
@@ -161,7 +162,7 @@ module _ (r : ℕ) (s : List ℕ) (x : ℕ) where
         refusal = refl;
         shows-1 = λ z. absurd (omega arith);
         shows-2 = λ z. absurd (omega arith);
-        shows-3 = λ z ys. rw (moved-on ys) at (refused-3 (s ++ x ∷ []) ys q) ∙ ap Bad w;
+        shows-3 = λ z ys. rw (moved-on ys) at (refused-3 (s ++ x ∷ []) ys q) ∙ ap StopsAt w;
         shows-14 = λ z. absurd (omega arith);
         waits = record { one = λ z. free-1 (s ++ x ∷ []) (rw (length-one s x) (long-good (suc (length s)) a)); two = λ z. free-2 (s ++ x ∷ []) (rw (utf-one s x) b); three = λ z. absurd (omega arith) };
       }
@@ -185,7 +186,7 @@ module _ (r : ℕ) (s : List ℕ) (x : ℕ) where
       first-by (inl e) = inl e
       first-by (inr e) = inr (omega arith)
 
-  is-full : (p : ℕ) → longAt (suc (length s)) ≡ Good → brokenAt (utfAt s x) ≡ Good → refusedAt (outAt s x .next) ≡ Good → overAt r (length (gave s)) (outAt s x .gives) ≡ Bad p → Byte r s x 14 p
+  is-full : (p : ℕ) → longAt (suc (length s)) ≡ Through → brokenAt (utfAt s x) ≡ Through → refusedAt (outAt s x .next) ≡ Through → overAt r (length (gave s)) (outAt s x .gives) ≡ StopsAt p → Byte r s x 14 p
   is-full p a b c e =
       let h = sound-one a b c in
       record {
@@ -201,30 +202,30 @@ module _ (r : ℕ) (s : List ℕ) (x : ℕ) where
   is : (m n p : ℕ) → m ≡ n → Byte r s x m p → Byte r s x n p
   is m n p e h = rw (← e) h
 
-  by-room : (n p : ℕ) → longAt (suc (length s)) ≡ Good → brokenAt (utfAt s x) ≡ Good → refusedAt (outAt s x .next) ≡ Good
-      → ((14 ≡ n) × (overAt r (length (gave s)) (outAt s x .gives) ≡ Bad p)) ⊎ ((overAt r (length (gave s)) (outAt s x .gives) ≡ Good) × (Goes (outAt s x .gives) (movedTo (standAt s) (utfAt s x) (outAt s x)) ≡ Faults n p)) → Byte r s x n p
+  by-room : (n p : ℕ) → longAt (suc (length s)) ≡ Through → brokenAt (utfAt s x) ≡ Through → refusedAt (outAt s x .next) ≡ Through
+      → ((14 ≡ n) × (overAt r (length (gave s)) (outAt s x .gives) ≡ StopsAt p)) ⊎ ((overAt r (length (gave s)) (outAt s x .gives) ≡ Through) × (Goes (outAt s x .gives) (movedTo (standAt s) (utfAt s x) (outAt s x)) ≡ Faults n p)) → Byte r s x n p
   by-room n p a b c (inl h) = is 14 n p (h .0) (is-full p a b c (h .1))
   by-room n p a b c (inr h) = let e : Goes (outAt s x .gives) (movedTo (standAt s) (utfAt s x) (outAt s x)) ≡ Faults n p = h .1 in let z : _≡_ {A = ℕ} 0 1 = cc in absurd (omega arith)
 
-  abbrev Rest : ℕ → ℕ → Check → Step → Type 0
-  Rest n p k z = (k ≡ Good) × (z ≡ Faults n p)
+  abbrev Rest : ℕ → ℕ → Scan → Step → Type 0
+  Rest n p k z = (k ≡ Through) × (z ≡ Faults n p)
 
   abbrev roomed : Step
   roomed = unless 14 (overAt r (length (gave s)) (outAt s x .gives)) (λ _. Goes (outAt s x .gives) (movedTo (standAt s) (utfAt s x) (outAt s x)))
 
-  by-token : (n p : ℕ) → longAt (suc (length s)) ≡ Good → brokenAt (utfAt s x) ≡ Good
-      → ((3 ≡ n) × (refusedAt (outAt s x .next) ≡ Bad p)) ⊎ Rest n p (refusedAt (outAt s x .next)) roomed → Byte r s x n p
+  by-token : (n p : ℕ) → longAt (suc (length s)) ≡ Through → brokenAt (utfAt s x) ≡ Through
+      → ((3 ≡ n) × (refusedAt (outAt s x .next) ≡ StopsAt p)) ⊎ Rest n p (refusedAt (outAt s x .next)) roomed → Byte r s x n p
   by-token n p a b (inl h) = is 3 n p (h .0) (is-refused p a b (h .1))
   by-token n p a b (inr h) = by-room n p a b (h .0) (unless-faults 14 (overAt r (length (gave s)) (outAt s x .gives)) _ n p (h .1))
 
   abbrev tokened : Step
   tokened = unless 3 (refusedAt (outAt s x .next)) (λ _. roomed)
 
-  by-utf : (n p : ℕ) → longAt (suc (length s)) ≡ Good → ((2 ≡ n) × (brokenAt (utfAt s x) ≡ Bad p)) ⊎ Rest n p (brokenAt (utfAt s x)) tokened → Byte r s x n p
+  by-utf : (n p : ℕ) → longAt (suc (length s)) ≡ Through → ((2 ≡ n) × (brokenAt (utfAt s x) ≡ StopsAt p)) ⊎ Rest n p (brokenAt (utfAt s x)) tokened → Byte r s x n p
   by-utf n p a (inl h) = is 2 n p (h .0) (is-broken p a (h .1))
   by-utf n p a (inr h) = by-token n p a (h .0) (unless-faults 3 (refusedAt (outAt s x .next)) _ n p (h .1))
 
-  by-length : (n p : ℕ) → ((1 ≡ n) × (longAt (suc (length s)) ≡ Bad p)) ⊎ Rest n p (longAt (suc (length s))) (unless 2 (brokenAt (utfAt s x)) (λ _. tokened)) → Byte r s x n p
+  by-length : (n p : ℕ) → ((1 ≡ n) × (longAt (suc (length s)) ≡ StopsAt p)) ⊎ Rest n p (longAt (suc (length s))) (unless 2 (brokenAt (utfAt s x)) (λ _. tokened)) → Byte r s x n p
   by-length n p (inl h) = is 1 n p (h .0) (is-long p (h .1))
   by-length n p (inr h) = by-utf n p (h .0) (unless-faults 2 (brokenAt (utfAt s x)) _ n p (h .1))
 
@@ -235,7 +236,7 @@ module _ (r : ℕ) (s : List ℕ) (x : ℕ) where
 
 -- ---- runs
 
-pub sound-ran : (r : ℕ) (xs s : List ℕ) (ts : List Tok) (d : Stand) → Sound s → ranOf r (standAt s) xs ≡ Goes ts d → Sound (s ++ xs)
+pub sound-ran : (r : ℕ) (xs s : List ℕ) (ts : List Tok) (d : Stand) → NoneShown s → ranOf r (standAt s) xs ≡ Goes ts d → NoneShown (s ++ xs)
 unfolding ranOf
 sound-ran r [] s ts d h e = rw (append-nil s) h
 sound-ran r (x ∷ xs) s ts d h e =
@@ -244,5 +245,5 @@ sound-ran r (x ∷ xs) s ts d h e =
     rw (append-snoc s x xs) at (sound-ran r xs (s ++ x ∷ []) (p .second) d (sound-step r s x (p .first) (p .stand) (p .one)) t)
 
 -- where nothing has shown, all three wait
-pub sound-waits : (n : ℕ) (s : List ℕ) → Sound s → Waits n s
+pub sound-waits : (n : ℕ) (s : List ℕ) → NoneShown s → Waits n s
 sound-waits n s h = record { one = λ z. free-1 s (h .short); two = λ z. free-2 s (h .whole); three = λ z. free-3 s (h .going) }

@@ -16,8 +16,8 @@ use Rattle.text.specs.Digits.{hexOf}
 use Rattle.text.specs.Utf8.{charOf, leadOf, gathered, judged}
 use Rattle.text.specs.declared.Value.{Value}
 use Rattle.text.specs.declared.Value.the-variants.{Number, Nothing}
-use Rattle.text.specs.declared.Check.{Check}
-use Rattle.text.specs.declared.Check.the-variants.{Good, Bad}
+use Rattle.text.specs.declared.Scan.{Scan}
+use Rattle.text.specs.declared.Scan.the-variants.{Through, StopsAt}
 use Rattle.text.specs.declared.Sequence.the-variants.{Is}
 use Rattle.text.specs.declared.Look.the-variants.{Past, Stop}
 use Rattle.text.proofs.Decodes.{scalar-low}
@@ -38,13 +38,13 @@ use Rattle.states.specs.declared.Lit.the-variants.{Text, One}
 use Rattle.states.specs.declared.State.the-variants.{X0, X1, U, Un}
 use Rattle.states.specs.Machine.{Out, go, give, refuse, strRow, back, isNumber, badEsc, escRow, isHex, x0Row, x1Row, uRow, unRow, quoteRow, faultAt}
 use Rattle.states.proofs.From.{from, ended, Beyond, ended-next, none, from-first, ended-drop}
-use Rattle.states.proofs.Left.{strL, quoteL, backL, badL, escBy, x1L, x0L, unBy, unL, uL, leftBy, after}
+use Rattle.states.proofs.Left.{strL, quoteL, backL, badL, escBy, x1L, x0L, unBy, unL, uL, leftBy, withRest}
 
 -- ---- strings
 
-by-beyond : (k n : ℕ) (xs : List ℕ) (r : Check) → Beyond n (stringBy k n xs r)
-by-beyond k n xs Good = tt
-by-beyond k n xs (Bad j) = choose-by (Beyond n) (nextIs 34 (drop j xs)) _ _ (λ e. omega arith) (λ e. tt)
+by-beyond : (k n : ℕ) (xs : List ℕ) (r : Scan) → Beyond n (stringBy k n xs r)
+by-beyond k n xs Through = tt
+by-beyond k n xs (StopsAt j) = choose-by (Beyond n) (nextIs 34 (drop j xs)) _ _ (λ e. omega arith) (λ e. tt)
 
 pub string-beyond : (k n : ℕ) (xs : List ℕ) → Beyond n (stringOf k n xs)
 unfolding stringOf
@@ -59,9 +59,9 @@ closed-same : (k : ℕ) (b : Bool) {e f p q : ℕ} → e ≡ f → p ≡ q → c
 closed-same k true h g = ap (Found k 0) h
 closed-same k false h g = ap NoToken g
 
-string-later : (k n m : ℕ) (xs : List ℕ) (r : Check) → stringBy k n xs (later m r) ≡ stringBy k (n + m) (drop m xs) r
-string-later k n m xs Good = refl
-string-later k n m xs (Bad j) =
+string-later : (k n m : ℕ) (xs : List ℕ) (r : Scan) → stringBy k n xs (later m r) ≡ stringBy k (n + m) (drop m xs) r
+string-later k n m xs Through = refl
+string-later k n m xs (StopsAt j) =
     let z : n + ((m + j) + 1) ≡ (n + m) + (j + 1) = omega arith in
     let y : n + (m + j) ≡ (n + m) + j = omega arith in
     rw (drop-drop j m xs) (closed-same k (nextIs 34 (drop (m + j) xs)) z y)
@@ -75,7 +75,7 @@ string-past k n m x xs h =
     past-head insideLook x xs m h ∙ ap (later 1) (sought-pending insideLook m xs) ∙ later-later 1 m (sought insideLook 0 (drop m xs)) ∙ ap (λ (i : ℕ). later i (sought insideLook 0 (drop m xs))) z in
     rw e (string-later k n (suc m) (x ∷ xs) (sought insideLook 0 (drop m xs)))
 
-str-close : (k a n : ℕ) (rest : List ℕ) → strL k a n (34 ∷ rest) ≡ after (give k a (a + suc n)) rest
+str-close : (k a n : ℕ) (rest : List ℕ) → strL k a n (34 ∷ rest) ≡ withRest (give k a (a + suc n)) rest
 unfolding stringOf sought insideLook
 str-close k a n rest =
     let z : n + 1 ≡ suc n = omega arith in
@@ -118,9 +118,9 @@ str-by k a n rest (Means c m) e =
     rw (string-past k n (m - 1) 92 rest (esc-look rest c m e), z)
     (ended-drop a n (m - 1) 92 rest (stringOf k (suc n + (m - 1)) (drop (m - 1) rest)) (string-beyond k (suc n + (m - 1)) (drop (m - 1) rest)))
 
-pub str-row : (k a n x : ℕ) (rest : List ℕ) → strL k a n (x ∷ rest) ≡ after (strRow k a n x) rest
+pub str-row : (k a n x : ℕ) (rest : List ℕ) → strL k a n (x ∷ rest) ≡ withRest (strRow k a n x) rest
 str-row k a n x rest =
-    let P : Out → Type 0 = λ o. strL k a n (x ∷ rest) ≡ after o rest in
+    let P : Out → Type 0 = λ o. strL k a n (x ∷ rest) ≡ withRest o rest in
     choose-by P (eqb x 34) _ _ (λ e. rw (eqb-true x 34 e) (str-close k a n rest))
     (λ e. choose-by P (eqb x 92) _ _ (λ f. rw (eqb-true x 92 f) (str-by k a n rest (afterOf rest) refl)) (λ f. str-plain k a n x rest e f))
 
@@ -181,42 +181,42 @@ module _ (l : Lit) (b a n x : ℕ) where
   brace-link (y ∷ ys) = brace-open y ys (eqb y 123)
 
   esc-other : (rest : List ℕ) → escBy l b a n (x ∷ rest) (afterBy Nothing x rest)
-      ≡ after (choose (eqb x 120) (λ u. go (X0 l b) a (suc n)) (λ u. choose (eqb x 117) (λ u. go (U l b) a (suc n)) (λ u. badEsc a b))) rest
+      ≡ withRest (choose (eqb x 120) (λ u. go (X0 l b) a (suc n)) (λ u. choose (eqb x 117) (λ u. go (U l b) a (suc n)) (λ u. badEsc a b))) rest
   esc-other rest =
-      let P : Out → Type 0 = λ o. escBy l b a n (x ∷ rest) (afterBy Nothing x rest) ≡ after o rest in
+      let P : Out → Type 0 = λ o. escBy l b a n (x ∷ rest) (afterBy Nothing x rest) ≡ withRest o rest in
       choose-by P (eqb x 120) _ _ (λ e. rw e (pair-link rest))
       (λ e. choose-by P (eqb x 117) _ _ (λ f. rw (e, f) (brace-link rest)) (λ f. rw (e, f)))
 
   esc-by : (rest : List ℕ) (v : Value) → escBy l b a n (x ∷ rest) (afterBy v x rest)
-      ≡ after (choose (isNumber v) (λ u. go (back l) a (suc n)) (λ u. choose (eqb x 120) (λ u. go (X0 l b) a (suc n)) (λ u. choose (eqb x 117) (λ u. go (U l b) a (suc n)) (λ u. badEsc a b)))) rest
+      ≡ withRest (choose (isNumber v) (λ u. go (back l) a (suc n)) (λ u. choose (eqb x 120) (λ u. go (X0 l b) a (suc n)) (λ u. choose (eqb x 117) (λ u. go (U l b) a (suc n)) (λ u. badEsc a b)))) rest
   esc-by rest (Number c) =
       let z : n + 1 ≡ suc n = omega arith in
       rw z (back-is l a (suc n) rest)
   esc-by rest Nothing = esc-other rest
 
-  pub esc-row : (rest : List ℕ) → escBy l b a n (x ∷ rest) (afterOf (x ∷ rest)) ≡ after (escRow l b a n x) rest
+  pub esc-row : (rest : List ℕ) → escBy l b a n (x ∷ rest) (afterOf (x ∷ rest)) ≡ withRest (escRow l b a n x) rest
   unfolding afterOf
   esc-row rest = esc-by rest (simpleOf x)
 
-  x0-by : (rest : List ℕ) (p : Bool) → choose p (λ u. x1L l b a (suc n) rest) (λ u. badL a b) ≡ after (choose p (λ u. go (X1 l b) a (suc n)) (λ u. badEsc a b)) rest
+  x0-by : (rest : List ℕ) (p : Bool) → choose p (λ u. x1L l b a (suc n) rest) (λ u. badL a b) ≡ withRest (choose p (λ u. go (X1 l b) a (suc n)) (λ u. badEsc a b)) rest
   x0-by rest true = refl
   x0-by rest false = refl
 
-  pub x0-row : (rest : List ℕ) → x0L l b a n (x ∷ rest) ≡ after (x0Row l b a n x) rest
+  pub x0-row : (rest : List ℕ) → x0L l b a n (x ∷ rest) ≡ withRest (x0Row l b a n x) rest
   x0-row rest = x0-by rest (isHex x)
 
-  back-by : (rest : List ℕ) (p : Bool) → choose p (λ u. backL l a (suc n) rest) (λ u. badL a b) ≡ after (choose p (λ u. go (back l) a (suc n)) (λ u. badEsc a b)) rest
+  back-by : (rest : List ℕ) (p : Bool) → choose p (λ u. backL l a (suc n) rest) (λ u. badL a b) ≡ withRest (choose p (λ u. go (back l) a (suc n)) (λ u. badEsc a b)) rest
   back-by rest true = back-is l a (suc n) rest
   back-by rest false = refl
 
-  pub x1-row : (rest : List ℕ) → x1L l b a n (x ∷ rest) ≡ after (x1Row l b a n x) rest
+  pub x1-row : (rest : List ℕ) → x1L l b a n (x ∷ rest) ≡ withRest (x1Row l b a n x) rest
   x1-row rest = back-by rest (isHex x)
 
-  u-by : (rest : List ℕ) (p : Bool) → choose p (λ u. unL l b 0 a (suc n) rest) (λ u. badL a b) ≡ after (choose p (λ u. go (Un l b 0) a (suc n)) (λ u. badEsc a b)) rest
+  u-by : (rest : List ℕ) (p : Bool) → choose p (λ u. unL l b 0 a (suc n) rest) (λ u. badL a b) ≡ withRest (choose p (λ u. go (Un l b 0) a (suc n)) (λ u. badEsc a b)) rest
   u-by rest true = refl
   u-by rest false = refl
 
-  pub u-row : (rest : List ℕ) → uL l b a n (x ∷ rest) ≡ after (uRow l b a n x) rest
+  pub u-row : (rest : List ℕ) → uL l b a n (x ∷ rest) ≡ withRest (uRow l b a n x) rest
   u-row rest = u-by rest (eqb x 123)
 
 -- ---- digits in braces
@@ -259,12 +259,12 @@ module _ (l : Lit) (b j a n x : ℕ) (rest : List ℕ) where
   un-go d h e =
       ap (unBy l b j a n (x ∷ rest)) (count-go d h e) ∙ un-shift (digitsOf 6 0 (suc j) rest .count) (count-low 6 0 (suc j) rest)
 
-  un-ends : (p q : Bool) → choose p (λ u. choose q (λ u. backL l a (suc n) rest) (λ u. badL a b)) (λ u. badL a b) ≡ after (choose (and p q) (λ u. go (back l) a (suc n)) (λ u. badEsc a b)) rest
+  un-ends : (p q : Bool) → choose p (λ u. choose q (λ u. backL l a (suc n) rest) (λ u. badL a b)) (λ u. badL a b) ≡ withRest (choose (and p q) (λ u. go (back l) a (suc n)) (λ u. badEsc a b)) rest
   un-ends true true = back-is l a (suc n) rest
   un-ends true false = refl
   un-ends false q = refl
 
-  un-stop : digitsOf 6 0 j (x ∷ rest) .count ≡ j → unL l b j a n (x ∷ rest) ≡ after (choose (and (leb 2 j) (eqb x 125)) (λ u. go (back l) a (suc n)) (λ u. badEsc a b)) rest
+  un-stop : digitsOf 6 0 j (x ∷ rest) .count ≡ j → unL l b j a n (x ∷ rest) ≡ withRest (choose (and (leb 2 j) (eqb x 125)) (λ u. go (back l) a (suc n)) (λ u. badEsc a b)) rest
   un-stop e =
       let z : j - j ≡ 0 = omega arith in
       let y : n + suc 0 ≡ suc n = omega arith in
@@ -284,17 +284,17 @@ module _ (l : Lit) (b j a n x : ℕ) (rest : List ℕ) where
   un-yes true Nothing f g e = let z : _≡_ {A = ℕ} 0 1 = cc in absurd (omega arith)
   un-yes false h f g e = let z : _≡_ {A = ℕ} 0 1 = cc in absurd (omega arith)
 
-  pub un-row : unL l b j a n (x ∷ rest) ≡ after (unRow l b j a n x) rest
+  pub un-row : unL l b j a n (x ∷ rest) ≡ withRest (unRow l b j a n x) rest
   un-row =
-      choose-by (λ (o : Out). unL l b j a n (x ∷ rest) ≡ after o rest) (and (ltb j 6) (isHex x)) _ _ (λ e. un-yes (ltb j 6) (hexOf x) refl refl e) (λ e. un-stop (un-no e))
+      choose-by (λ (o : Out). unL l b j a n (x ∷ rest) ≡ withRest o rest) (and (ltb j 6) (isHex x)) _ _ (λ e. un-yes (ltb j 6) (hexOf x) refl refl e) (λ e. un-stop (un-no e))
 
 -- ---- character literals
 
-quote-by : (a n : ℕ) (rest : List ℕ) (p : Bool) → choose p (λ u. onto (tok 25 a (a + suc n) ∷ []) (from (a + suc n) rest)) (λ u. faultAt a) ≡ after (choose p (λ u. give 25 a (a + suc n)) (λ u. refuse a)) rest
+quote-by : (a n : ℕ) (rest : List ℕ) (p : Bool) → choose p (λ u. onto (tok 25 a (a + suc n) ∷ []) (from (a + suc n) rest)) (λ u. faultAt a) ≡ withRest (choose p (λ u. give 25 a (a + suc n)) (λ u. refuse a)) rest
 quote-by a n rest true = refl
 quote-by a n rest false = refl
 
-pub quote-row : (a n x : ℕ) (rest : List ℕ) → quoteL a n (x ∷ rest) ≡ after (quoteRow a n x) rest
+pub quote-row : (a n x : ℕ) (rest : List ℕ) → quoteL a n (x ∷ rest) ≡ withRest (quoteRow a n x) rest
 quote-row a n x rest = quote-by a n rest (eqb x 39)
 
 pub quoted-law : (a i y : ℕ) (rest : List ℕ) → ended a 0 (39 ∷ y ∷ rest) (quoted (suc i) (y ∷ rest)) ≡ quoteL a (suc (suc i)) (drop i rest)

@@ -9,7 +9,7 @@ use lib.Dec.{ltb}
 use borrow.Author.Tests.{le-leb, lt-leb, eq-eqb}
 use Rattle.text.specs.Classes.{classOf}
 use Rattle.text.specs.Digits.{hexOf}
-use Rattle.text.specs.declared.Check.the-variants.{Good}
+use Rattle.text.specs.declared.Scan.the-variants.{Through}
 use Rattle.text.proofs.Tests.{within-is}
 use Rattle.literal.specs.Escapes.{simpleOf}
 use Rattle.token.specs.Lists.{Tokens}
@@ -33,9 +33,9 @@ abbrev at : State → ℕ → ℕ → Conf
 at q a n = record { state = q; start = a; size = n }
 
 abbrev pub Done : State → ℕ → ℕ → Type 0
-Done q a n = whole (at q a n) (completion q n) .fault ≡ Good
+Done q a n = whole (at q a n) (completion q n) .fault ≡ Through
 
-com-done : (d a n : ℕ) → whole (at (Com d) a n) (closers d) .fault ≡ Good
+com-done : (d a n : ℕ) → whole (at (Com d) a n) (closers d) .fault ≡ Through
 unfolding feed
 com-done zero a n = refl
 com-done (suc zero) a n = refl

@@ -19,7 +19,7 @@ use Rattle.states.specs.declared.State.{State}
 use Rattle.states.specs.declared.State.the-variants.{Word, Num, Tag, Negative}
 use Rattle.states.specs.Machine.{Out, go, give, again, openRow, classRow, startRow, wordRow, numRow, hashRow, tagRow, dotRow, caretRow, zerosRow, negativeRow, faultAt}
 use Rattle.states.proofs.From.{from, ended, Beyond, ended-next, none, from-blank, from-first, next-two}
-use Rattle.states.proofs.Left.{pushOk, pushed, negated, strL, leftBy, after}
+use Rattle.states.proofs.Left.{pushOk, pushed, negated, strL, leftBy, withRest}
 use Rattle.states.proofs.Rows.{run-go, run-none, run-next, run-stop, run-open}
 use Rattle.states.proofs.Strs.{string-beyond, less-beyond}
 
@@ -47,7 +47,7 @@ num-open : (a x : ℕ) (rest : List ℕ) → classOf x ≡ 3 → from a (x ∷ r
 unfolding blankBy tokenBy numberToken
 num-open a x rest q = from-first a x rest (Found 20 0 (digitRun (x ∷ rest))) (rw q) (rw q) ∙ run-open (first inDigits) 20 a x rest (rw q)
 
-one-open : (a x : ℕ) (rest : List ℕ) → classOf x ≡ 4 → from a (x ∷ rest) ≡ after (give (oneKind x) a (suc a)) rest
+one-open : (a x : ℕ) (rest : List ℕ) → classOf x ≡ 4 → from a (x ∷ rest) ≡ withRest (give (oneKind x) a (suc a)) rest
 unfolding blankBy tokenBy
 one-open a x rest q =
     let z : a + 1 ≡ suc a = omega arith in
@@ -67,9 +67,9 @@ stray-open : (a x : ℕ) (rest : List ℕ) → classOf x ≡ 5 → eqb x 34 ≡ 
 unfolding blankBy tokenBy openerBlank openerToken
 stray-open a x rest q e1 e2 e3 e4 e5 e6 e7 e8 = from-first a x rest (NoToken 0) (rw (q, e8, e6)) (rw (q, e1, e2, e3, e4, e5, e6, e7)) ∙ none a 0 (x ∷ rest)
 
-open-row : (a x : ℕ) (rest : List ℕ) → classOf x ≡ 5 → from a (x ∷ rest) ≡ after (openRow a x) rest
+open-row : (a x : ℕ) (rest : List ℕ) → classOf x ≡ 5 → from a (x ∷ rest) ≡ withRest (openRow a x) rest
 open-row a x rest q =
-    let P : Out → Type 0 = λ o. from a (x ∷ rest) ≡ after o rest in
+    let P : Out → Type 0 = λ o. from a (x ∷ rest) ≡ withRest o rest in
     choose-by P (eqb x 34) _ _ (λ e. rw (eqb-true x 34 e) (str-open a rest))
     (λ e1. choose-by P (eqb x 39) _ _ (λ e. rw (eqb-true x 39 e))
     (λ e2. choose-by P (eqb x 94) _ _ (λ e. rw (eqb-true x 94 e))
@@ -85,10 +85,10 @@ blank-open a x rest q =
     let z : a + suc 0 ≡ suc a = omega arith in
     from-blank a x rest 0 (rw q) ∙ ap (λ (b : ℕ). from b rest) z
 
-pub start-row : (a x : ℕ) (rest : List ℕ) → from a (x ∷ rest) ≡ after (startRow x a) rest
+pub start-row : (a x : ℕ) (rest : List ℕ) → from a (x ∷ rest) ≡ withRest (startRow x a) rest
 unfolding classRow
 start-row a x rest =
-    let P : Out → Type 0 = λ o. from a (x ∷ rest) ≡ after o rest in
+    let P : Out → Type 0 = λ o. from a (x ∷ rest) ≡ withRest o rest in
     let c : ℕ = classOf x in
     choose-by P (eqb c 1) _ _ (λ e. blank-open a x rest (eqb-true c 1 e))
     (λ e1. choose-by P (eqb c 2) _ _
@@ -100,24 +100,24 @@ start-row a x rest =
 -- ---- runs
 
 -- a token that ended before this byte
-pub again-law : (k a b x : ℕ) (rest : List ℕ) → onto (tok k a b ∷ []) (from b (x ∷ rest)) ≡ after (again k a b (startRow x)) rest
+pub again-law : (k a b x : ℕ) (rest : List ℕ) → onto (tok k a b ∷ []) (from b (x ∷ rest)) ≡ withRest (again k a b (startRow x)) rest
 again-law k a b x rest = ap (onto (tok k a b ∷ [])) (start-row b x rest)
 
 run-row : (p : List ℕ → Bool) (q : State) (k a n x : ℕ) (rest : List ℕ) → leftBy q a (suc n) rest ≡ ended a (suc n) rest (Found k 0 (suc n + run p rest)) → (b : Bool) → p (x ∷ rest) ≡ b
-    → ended a n (x ∷ rest) (Found k 0 (n + run p (x ∷ rest))) ≡ after (choose b (λ u. go q a (suc n)) (λ u. again k a (a + n) (startRow x))) rest
+    → ended a n (x ∷ rest) (Found k 0 (n + run p (x ∷ rest))) ≡ withRest (choose b (λ u. go q a (suc n)) (λ u. again k a (a + n) (startRow x))) rest
 run-row p q k a n x rest h true e = run-next p k a n x rest e ∙ sym h
 run-row p q k a n x rest h false e = run-stop p k a n x rest e ∙ again-law k a (a + n) x rest
 
-pub word-row : (a n x : ℕ) (rest : List ℕ) → leftBy Word a n (x ∷ rest) ≡ after (wordRow a n x) rest
+pub word-row : (a n x : ℕ) (rest : List ℕ) → leftBy Word a n (x ∷ rest) ≡ withRest (wordRow a n x) rest
 word-row a n x rest = run-row (first inWord) Word 18 a n x rest refl (inWord x) refl
 
-pub num-row : (a n x : ℕ) (rest : List ℕ) → leftBy Num a n (x ∷ rest) ≡ after (numRow a n x) rest
+pub num-row : (a n x : ℕ) (rest : List ℕ) → leftBy Num a n (x ∷ rest) ≡ withRest (numRow a n x) rest
 num-row a n x rest = run-row (first inDigits) Num 20 a n x rest refl (inDigits x) refl
 
-pub tag-row : (a n x : ℕ) (rest : List ℕ) → leftBy Tag a n (x ∷ rest) ≡ after (tagRow a n x) rest
+pub tag-row : (a n x : ℕ) (rest : List ℕ) → leftBy Tag a n (x ∷ rest) ≡ withRest (tagRow a n x) rest
 tag-row a n x rest = run-row (first inWord) Tag 19 a n x rest refl (inWord x) refl
 
-pub negative-row : (a n x : ℕ) (rest : List ℕ) → leftBy Negative a n (x ∷ rest) ≡ after (negativeRow a n x) rest
+pub negative-row : (a n x : ℕ) (rest : List ℕ) → leftBy Negative a n (x ∷ rest) ≡ withRest (negativeRow a n x) rest
 negative-row a n x rest = run-row (first inDigits) Negative 21 a n x rest refl (inDigits x) refl
 
 -- ---- `#`, `.`, `^`
@@ -133,10 +133,10 @@ hash-no : (a x : ℕ) (rest : List ℕ) → startsWord x ≡ false → from a (3
 unfolding blankBy tokenBy classOf openerBlank openerToken tagToken
 hash-no a x rest e = from-first a 35 (x ∷ rest) (NoToken 0) refl (rw e) ∙ none a 0 (35 ∷ x ∷ rest)
 
-pub hash-row : (a x : ℕ) (rest : List ℕ) → from a (35 ∷ x ∷ rest) ≡ after (hashRow a x) rest
-hash-row a x rest = choose-by (λ (o : Out). from a (35 ∷ x ∷ rest) ≡ after o rest) (startsWord x) _ _ (λ e. hash-yes a x rest e) (λ e. hash-no a x rest e)
+pub hash-row : (a x : ℕ) (rest : List ℕ) → from a (35 ∷ x ∷ rest) ≡ withRest (hashRow a x) rest
+hash-row a x rest = choose-by (λ (o : Out). from a (35 ∷ x ∷ rest) ≡ withRest o rest) (startsWord x) _ _ (λ e. hash-yes a x rest e) (λ e. hash-no a x rest e)
 
-dot-yes : (a : ℕ) (rest : List ℕ) → from a (46 ∷ 46 ∷ rest) ≡ after (give 22 a (a + 2)) rest
+dot-yes : (a : ℕ) (rest : List ℕ) → from a (46 ∷ 46 ∷ rest) ≡ withRest (give 22 a (a + 2)) rest
 unfolding blankBy tokenBy classOf openerBlank openerToken dotsToken
 dot-yes a rest = from-first a 46 (46 ∷ rest) (Found 22 0 2) refl refl ∙ rw (add-zero a)
 
@@ -144,8 +144,8 @@ dot-no : (a x : ℕ) (rest : List ℕ) → eqb x 46 ≡ false → from a (46 ∷
 unfolding blankBy tokenBy classOf openerBlank openerToken dotsToken
 dot-no a x rest e = from-first a 46 (x ∷ rest) (NoToken 0) refl (rw e) ∙ none a 0 (46 ∷ x ∷ rest)
 
-pub dot-row : (a x : ℕ) (rest : List ℕ) → from a (46 ∷ x ∷ rest) ≡ after (dotRow a x) rest
-dot-row a x rest = choose-by (λ (o : Out). from a (46 ∷ x ∷ rest) ≡ after o rest) (eqb x 46) _ _ (λ e. rw (eqb-true x 46 e) (dot-yes a rest)) (λ e. dot-no a x rest e)
+pub dot-row : (a x : ℕ) (rest : List ℕ) → from a (46 ∷ x ∷ rest) ≡ withRest (dotRow a x) rest
+dot-row a x rest = choose-by (λ (o : Out). from a (46 ∷ x ∷ rest) ≡ withRest o rest) (eqb x 46) _ _ (λ e. rw (eqb-true x 46 e) (dot-yes a rest)) (λ e. dot-no a x rest e)
 
 caret-yes : (a : ℕ) (rest : List ℕ) → from a (94 ∷ 34 ∷ rest) ≡ strL 24 a 2 rest
 unfolding blankBy tokenBy classOf openerBlank openerToken insensToken
@@ -157,8 +157,8 @@ caret-no : (a x : ℕ) (rest : List ℕ) → eqb x 34 ≡ false → from a (94 �
 unfolding blankBy tokenBy classOf openerBlank openerToken insensToken
 caret-no a x rest e = from-first a 94 (x ∷ rest) (NoToken 0) refl (rw e) ∙ none a 0 (94 ∷ x ∷ rest)
 
-pub caret-row : (a x : ℕ) (rest : List ℕ) → from a (94 ∷ x ∷ rest) ≡ after (caretRow a x) rest
-caret-row a x rest = choose-by (λ (o : Out). from a (94 ∷ x ∷ rest) ≡ after o rest) (eqb x 34) _ _ (λ e. rw (eqb-true x 34 e) (caret-yes a rest)) (λ e. caret-no a x rest e)
+pub caret-row : (a x : ℕ) (rest : List ℕ) → from a (94 ∷ x ∷ rest) ≡ withRest (caretRow a x) rest
+caret-row a x rest = choose-by (λ (o : Out). from a (94 ∷ x ∷ rest) ≡ withRest o rest) (eqb x 34) _ _ (λ e. rw (eqb-true x 34 e) (caret-yes a rest)) (λ e. caret-no a x rest e)
 
 -- ---- negative numbers
 
@@ -199,11 +199,11 @@ zero-digit : (x : ℕ) → x ≡ 48 → inDigits x ≡ true
 unfolding classOf
 zero-digit x e = rw e
 
-pub zeros-row : (a n x : ℕ) (rest : List ℕ) → ended a n (x ∷ rest) (negated n (x ∷ rest)) ≡ after (zerosRow a n x) rest
+pub zeros-row : (a n x : ℕ) (rest : List ℕ) → ended a n (x ∷ rest) (negated n (x ∷ rest)) ≡ withRest (zerosRow a n x) rest
 zeros-row a n x rest =
-    let P : Out → Type 0 = λ o. ended a n (x ∷ rest) (negated n (x ∷ rest)) ≡ after o rest in
+    let P : Out → Type 0 = λ o. ended a n (x ∷ rest) (negated n (x ∷ rest)) ≡ withRest o rest in
     choose-by P (isZero x) _ _ (λ e. zero-yes a n x rest e (zero-digit x (eqb-true x 48 e)))
     (λ e. choose-by P (inDigits x) _ _ (λ f. neg-yes a n x rest e f) (λ f. neg-no a n x rest e f))
 
-pub minus-row : (a x : ℕ) (rest : List ℕ) → from a (45 ∷ x ∷ rest) ≡ after (zerosRow a 1 x) rest
+pub minus-row : (a x : ℕ) (rest : List ℕ) → from a (45 ∷ x ∷ rest) ≡ withRest (zerosRow a 1 x) rest
 minus-row a x rest = minus-open a (x ∷ rest) ∙ zeros-row a 1 x rest

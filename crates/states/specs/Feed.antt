@@ -6,6 +6,7 @@ use lib.Dec.{leb, eqb}
 use lib.ListN.{length}
 use lib.Seq.{sets}
 use Rattle.text.specs.Booleans.{choose, and, among}
+use Rattle.text.specs.Limits.{maxText}
 use Rattle.token.specs.Table.{tokenSize, flat, roomOf}
 use Rattle.states.specs.declared.State.{State}
 use Rattle.states.specs.declared.Stand.{Stand}
@@ -62,7 +63,7 @@ standOf f = standBy f (stateOf (f .state) (f .kind) (f .backslash) (f .depth))
 -- the numbers of a stream fit one another
 unfoldable pub fits : Stand → Bool
 fits c =
-    and (leb (c .seen) 65536)
+    and (leb (c .seen) maxText)
     (and (leb (c .conf .start) (c .seen))
     (and (leb (c .count) (c .conf .start)) (and (stateFits (c .conf .state) (c .conf .size)) (utfFits (c .utf) (c .seen)))))
 

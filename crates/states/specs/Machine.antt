@@ -10,7 +10,7 @@ use Rattle.text.specs.Words.{startsWord, inWord}
 use Rattle.text.specs.Digits.{hexOf}
 use Rattle.text.specs.declared.Value.{Value}
 use Rattle.text.specs.declared.Value.the-variants.{Number, Nothing}
-use Rattle.text.specs.declared.Check.the-variants.{Good, Bad}
+use Rattle.text.specs.declared.Scan.the-variants.{Through, StopsAt}
 use Rattle.literal.specs.Escapes.{simpleOf}
 use Rattle.token.specs.Blanks.{inDigits, isZero}
 use Rattle.token.specs.Tokens.{pushLiteral, oneKind}
@@ -256,13 +256,13 @@ step c x = row (c .state) (c .start) (c .size) x
 -- ---- the end of the text
 
 abbrev pub noMore : Tokens
-noMore = record { list = []; fault = Good }
+noMore = record { list = []; fault = Through }
 
 abbrev pub faultAt : ℕ → Tokens
-faultAt p = record { list = []; fault = Bad p }
+faultAt p = record { list = []; fault = StopsAt p }
 
 abbrev pub last : ℕ → ℕ → ℕ → Tokens
-last k a b = record { list = tok k a b ∷ []; fault = Good }
+last k a b = record { list = tok k a b ∷ []; fault = Through }
 
 abbrev pub endRow : State → ℕ → ℕ → Tokens
 endRow Start a n = noMore

@@ -7,7 +7,8 @@ use mathlib.Core.Logic.{_⊎_}
 use lib.ListN.{length}
 use Rattle.text.specs.Booleans.{all, among}
 use Rattle.text.specs.Utf8.{firstBad}
-use Rattle.text.specs.declared.Check.the-variants.{Good, Bad}
+use Rattle.text.specs.declared.Scan.the-variants.{Through, StopsAt}
+use Rattle.text.specs.Limits.{maxText}
 use Rattle.token.specs.Lists.{Tok, tok, tokensOf}
 use Rattle.states.specs.Free.{Bytes, Free-1, Free-2, Free-3}
 use Rattle.states.specs.declared.Status.{Status}
@@ -91,9 +92,9 @@ pub record Full (room : ℕ) (s : List ℕ) (x p : ℕ) : Type 0 where
 -- a refusal by number n and place p at a byte x behind s: what it says of every continuation, and no refusal before it in the order shows there
 pub record Byte (room : ℕ) (s : List ℕ) (x n p : ℕ) : Type 0 where
   pub refusal : among refusals n ≡ true
-  pub shows-1 : n ≡ 1 → (p ≡ 0) × ((ys : List ℕ) → 65536 < length (s ++ x ∷ ys))
-  pub shows-2 : n ≡ 2 → (ys : List ℕ) → firstBad (s ++ x ∷ ys) ≡ Bad p
-  pub shows-3 : n ≡ 3 → (ys : List ℕ) → tokensOf (s ++ x ∷ ys) .fault ≡ Bad p
+  pub shows-1 : n ≡ 1 → (p ≡ 0) × ((ys : List ℕ) → maxText < length (s ++ x ∷ ys))
+  pub shows-2 : n ≡ 2 → (ys : List ℕ) → firstBad (s ++ x ∷ ys) ≡ StopsAt p
+  pub shows-3 : n ≡ 3 → (ys : List ℕ) → tokensOf (s ++ x ∷ ys) .fault ≡ StopsAt p
   pub shows-14 : n ≡ 14 → Full room s x p
   pub waits : Waits n (s ++ x ∷ [])
 
@@ -122,8 +123,8 @@ pub record First (ps : List Packet) (n p : ℕ) : Type 0 where
 pub record Last (room : ℕ) (s : List ℕ) (n p : ℕ) : Type 0 where
   pub refusal : among refusals n ≡ true
   pub not-1 : n ≡ 1 → ⊥
-  pub shows-2 : n ≡ 2 → firstBad s ≡ Bad p
-  pub shows-3 : n ≡ 3 → tokensOf s .fault ≡ Bad p
+  pub shows-2 : n ≡ 2 → firstBad s ≡ StopsAt p
+  pub shows-3 : n ≡ 3 → tokensOf s .fault ≡ StopsAt p
   pub shows-14 : n ≡ 14 → (kind : ℕ) × (end : ℕ) × (index : ℕ) × At (tokensOf s .list) index (tok kind p end) × (room ≤ index)
-  pub good-2 : 2 < n → firstBad s ≡ Good
-  pub good-3 : 3 < n → tokensOf s .fault ≡ Good
+  pub good-2 : 2 < n → firstBad s ≡ Through
+  pub good-3 : 3 < n → tokensOf s .fault ≡ Through

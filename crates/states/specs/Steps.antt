@@ -4,8 +4,9 @@ use mathlib.Core.List.{List, [], _∷_, _++_}
 use lib.Dec.{ltb, eqb}
 use lib.ListN.{length}
 use Rattle.text.specs.Booleans.{choose}
-use Rattle.text.specs.declared.Check.{Check}
-use Rattle.text.specs.declared.Check.the-variants.{Good, Bad}
+use Rattle.text.specs.declared.Scan.{Scan}
+use Rattle.text.specs.declared.Scan.the-variants.{Through, StopsAt}
+use Rattle.text.specs.Limits.{maxText}
 use Rattle.token.specs.Lists.{Tok, startOf}
 use Rattle.states.specs.declared.Conf.{Conf}
 use Rattle.states.specs.declared.Utf.{Utf}
@@ -23,22 +24,22 @@ pub data Step : Type 0 where
   Faults : ℕ → ℕ → Step
 
 -- a refusal, if its place was found
-abbrev pub unless : ℕ → Check → (Unit {0} → Step) → Step
-unless number (Bad place) f = Faults number place
-unless number Good f = f tt
+abbrev pub unless : ℕ → Scan → (Unit {0} → Step) → Step
+unless number (StopsAt place) f = Faults number place
+unless number Through f = f tt
 
 -- 1: over 65,536 bytes
-unfoldable pub longAt : ℕ → Check
-longAt n = choose (ltb 65536 n) (λ u. Bad 0) (λ u. Good)
+unfoldable pub longAt : ℕ → Scan
+longAt n = choose (ltb maxText n) (λ u. StopsAt 0) (λ u. Through)
 
 -- 3: the tokens' machine refused
-unfoldable pub refusedAt : Conf → Check
-refusedAt c = choose (eqb (codeOf (c .state)) refusedCode) (λ u. Bad (c .start)) (λ u. Good)
+unfoldable pub refusedAt : Conf → Scan
+refusedAt c = choose (eqb (codeOf (c .state)) refusedCode) (λ u. StopsAt (c .start)) (λ u. Through)
 
 -- 14: of tokens given behind n records, the first for which there is no room
-unfoldable pub overAt : ℕ → ℕ → List Tok → Check
-overAt room n [] = Good
-overAt room n (t ∷ ts) = choose (ltb n room) (λ u. overAt room (suc n) ts) (λ u. Bad (startOf t))
+unfoldable pub overAt : ℕ → ℕ → List Tok → Scan
+overAt room n [] = Through
+overAt room n (t ∷ ts) = choose (ltb n room) (λ u. overAt room (suc n) ts) (λ u. StopsAt (startOf t))
 
 -- where a stream stands after a byte that UTF-8's machine took to u and the tokens' machine to o
 abbrev pub movedTo : Stand → Utf → Out → Stand

@@ -3,8 +3,8 @@ use Prim.Native.Nat.{ℕ, suc}
 use mathlib.Core.List.{List, [], _∷_}
 use lib.Dec.{ltb, eqb}
 use Rattle.text.specs.Booleans.{choose}
-use Rattle.text.specs.declared.Check.{Check}
-use Rattle.text.specs.declared.Check.the-variants.{Good, Bad}
+use Rattle.text.specs.declared.Scan.{Scan}
+use Rattle.text.specs.declared.Scan.the-variants.{Through, StopsAt}
 use Rattle.states.specs.declared.Tail.{Tail}
 use Rattle.states.specs.declared.Tail.the-variants.{T1, T2, T3, TE0, TED, TF0, TF4}
 use Rattle.states.specs.declared.Utf.{Utf}
@@ -37,10 +37,10 @@ utfStep Whole a x = utfLead a x
 utfStep (Mid t s) a x = choose (tailOk t x) (λ u. utfNext t s) (λ u. Broke s)
 utfStep (Broke p) a x = Broke p
 
-abbrev pub utfEnd : Utf → Check
-utfEnd Whole = Good
-utfEnd (Mid t s) = Bad s
-utfEnd (Broke p) = Bad p
+abbrev pub utfEnd : Utf → Scan
+utfEnd Whole = Through
+utfEnd (Mid t s) = StopsAt s
+utfEnd (Broke p) = StopsAt p
 
 -- from a place on
 unfoldable pub utfFeed : Utf → ℕ → List ℕ → Utf
@@ -53,7 +53,7 @@ utfRest (Mid t s) = missing t
 utfRest (Broke p) = []
 
 -- 2: a sequence is broken
-abbrev pub brokenAt : Utf → Check
-brokenAt Whole = Good
-brokenAt (Mid t s) = Good
-brokenAt (Broke p) = Bad p
+abbrev pub brokenAt : Utf → Scan
+brokenAt Whole = Through
+brokenAt (Mid t s) = Through
+brokenAt (Broke p) = StopsAt p

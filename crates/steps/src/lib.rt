@@ -2,7 +2,7 @@
 pub mod inner;
 
 use states::Conf;
-use text::Check;
+use text::Scan;
 
 // A token that a byte ended, by its kind, start and end; or none.
 pub enum Given {
@@ -21,5 +21,5 @@ pub struct Row {
 // The token that stands when the text ends, or a fault's place.
 pub struct Finish {
     pub token: Given,
-    pub fault: Check,
+    pub fault: Scan,
 }

@@ -12,11 +12,12 @@ use lib.ListN.{length, drop, take, getD, set, length-append, length-drop, take-a
 use lib.Seq.{sets, drop-append-le, length-sets, take-suc, length-take-le, drop-cons, drop-drop, getD-drop, sets-eq, take-at, take-all}
 use borrow.Author.Tests.{eqb-true, lt-ltb}
 use Rattle.text.specs.Utf8.{firstBad}
-use Rattle.text.specs.declared.Check.the-variants.{Good}
+use Rattle.text.specs.declared.Scan.the-variants.{Through}
 use Rattle.text.specs.Scans.{later}
 use Rattle.token.specs.Tokens.{moved, tokenOf}
 use Rattle.text.proofs.Splices.{sets-append}
 use Rattle.text.proofs.Booleans.{and-true}
+use Rattle.text.specs.Limits.{maxText}
 use Rattle.token.specs.Lists.{Tok, tok, Tokens}
 use Rattle.token.specs.declared.Token.{Token}
 use Rattle.token.specs.declared.Token.the-variants.{Found, End, NoToken}
@@ -98,12 +99,12 @@ between-is c s e =
     let a : c .conf .start ≡ c .seen = omega (arith, s .sum) in
     (λ i. record { conf = record { state = q i; start = a i; size = n i }; utf = u i; seen = c .seen; count = c .count })
 
-good-whole : (a : ℕ) (u : Utf) → utfEnd u ≡ Good → brokenAt u ≡ Good
+good-whole : (a : ℕ) (u : Utf) → utfEnd u ≡ Through → brokenAt u ≡ Through
 good-whole a Whole e = refl
 good-whole a (Mid t s) e = refl
 good-whole a (Broke p) e = e
 
-pub clean-is : (a : ℕ) (xs : List ℕ) → firstBad xs ≡ Good → brokenAt (utfFeed Whole a xs) ≡ Good
+pub clean-is : (a : ℕ) (xs : List ℕ) → firstBad xs ≡ Through → brokenAt (utfFeed Whole a xs) ≡ Through
 clean-is a xs e = good-whole a (utfFeed Whole a xs) (sym (machine-at a xs) ∙ ap (later a) e)
 
 -- ---- one token
@@ -131,7 +132,7 @@ module _ (xs : List ℕ) (at k s e : ℕ) (h : Holds xs at k s e) where
       let z : at + (e - at) ≡ e = omega arith in
       drop-drop (e - at) at xs ∙ ap (λ (n : ℕ). drop n xs) z
 
-  pub clean-on : (p : ℕ) → brokenAt (utfFeed Whole p (drop at xs)) ≡ Good → brokenAt (utfFeed Whole (p + (e - at)) (drop e xs)) ≡ Good
+  pub clean-on : (p : ℕ) → brokenAt (utfFeed Whole p (drop at xs)) ≡ Through → brokenAt (utfFeed Whole (p + (e - at)) (drop e xs)) ≡ Through
   unfolding utfFeed
   clean-on p c =
       let i = inside in
@@ -144,8 +145,8 @@ module _ (xs : List ℕ) (at k s e : ℕ) (h : Holds xs at k s e) where
       let y : ℕ = getD xs e 0 in
       let d : drop e xs ≡ y ∷ drop (suc e) xs = drop-cons xs e 0 (omega (arith, h .inside)) in
       let f : utfFeed Whole p ys ≡ utfFeed u (p + m) (drop e xs) = ap (utfFeed Whole p) (sym (take-append-drop m ys)) ∙ utf-cuts (take m ys) (drop m ys) Whole p ∙ ap (λ (n : ℕ). utfFeed u n (drop m ys)) w ∙ ap (utfFeed u (p + m)) shorter in
-      let g : brokenAt (utfFeed u (p + m) (drop e xs)) ≡ Good = ap brokenAt (sym f) ∙ c in
-      let j : brokenAt (utfFeed u (p + m) (y ∷ drop (suc e) xs)) ≡ Good = ap (λ (l : List ℕ). brokenAt (utfFeed u (p + m) l)) (sym d) ∙ g in
+      let g : brokenAt (utfFeed u (p + m) (drop e xs)) ≡ Through = ap brokenAt (sym f) ∙ c in
+      let j : brokenAt (utfFeed u (p + m) (y ∷ drop (suc e) xs)) ≡ Through = ap (λ (l : List ℕ). brokenAt (utfFeed u (p + m) l)) (sym d) ∙ g in
       let b : u ≡ Whole = ascii-next u (p + m) y (h .ascii) (still (drop (suc e) xs) (utfStep u (p + m) y) (suc (p + m)) j) .0 in
       ap (λ (v : Utf). brokenAt (utfFeed v (p + m) (drop e xs))) (sym b) ∙ g
 
@@ -161,7 +162,7 @@ module _ (xs : List ℕ) (at k s e : ℕ) (h : Holds xs at k s e) where
       l .2 f ∙ ap (λ (ys : List ℕ). given (tok k (p + (s - at)) (p + (e - at)) ∷ []) (ranOf room (startAt (p + (e - at)) (suc n)) ys)) (ap (λ (j : ℕ). drop j (drop at xs)) m ∙ shorter)
   leap-by room p n (inr l) = never (l .0)
 
-  pub leap-one : (room p n : ℕ) → Coherent (startAt p n) → p + (length xs - at) ≤ 65536 → n < room → brokenAt (utfFeed Whole p (drop at xs)) ≡ Good
+  pub leap-one : (room p n : ℕ) → Coherent (startAt p n) → p + (length xs - at) ≤ maxText → n < room → brokenAt (utfFeed Whole p (drop at xs)) ≡ Through
       → ranOf room (startAt p n) (drop at xs) ≡ given (tok k (p + (s - at)) (p + (e - at)) ∷ []) (ranOf room (startAt (p + (e - at)) (suc n)) (drop e xs))
   leap-one room p n sound short space clean =
       let i = inside in
@@ -209,7 +210,7 @@ leapt-more room c i n xs l m d j h us f a o e p q r t w s =
 
 -- ---- all of it
 
-pub over-fits : (room : ℕ) (us : List Tok) (n : ℕ) → overAt room n us ≡ Good → 0 < length us → n + length us ≤ room
+pub over-fits : (room : ℕ) (us : List Tok) (n : ℕ) → overAt room n us ≡ Through → 0 < length us → n + length us ≤ room
 unfolding overAt
 over-fits room [] n e h = absurd (omega arith)
 over-fits room (tok k a b ∷ []) n e h = let z : n < room = has-room room n a _ e .0 in omega arith
@@ -238,11 +239,7 @@ copy-turn l s m a i h e =
 
 -- ---- in the words of the code
 
-pub yes : (b : Bool) → not b ≡ false → b ≡ true
-yes true e = refl
-yes false e = never (sym e)
-
-pub over-yes : (room : ℕ) (us : List Tok) (n : ℕ) → n + length us ≤ room → overAt room n us ≡ Good
+pub over-yes : (room : ℕ) (us : List Tok) (n : ℕ) → n + length us ≤ room → overAt room n us ≡ Through
 unfolding overAt
 over-yes room [] n h = refl
 over-yes room (t ∷ us) n h = rw (lt-ltb n room (omega arith)) (over-yes room us (suc n) (omega arith))
@@ -266,14 +263,14 @@ settle-turn room c xs l m o d i n a b f h e g r v w =
     leapt-more room c 0 0 xs l m d i h us f (i + 1) o (at-move room d xs i g us f v) (w ∙ ap (λ (j : ℕ). sets m (j * 3) (flat us)) z) q
     (λ p. let x : d .count + length us ≤ room = over-fits room us (d .count) (k .0) p in omega arith) (omega arith) (omega arith) (step-sound room d (getD xs i 0) us f (h .sound) v)
 
-pub sound-start : (p n : ℕ) → p ≤ 65536 → n ≤ p → Coherent (startAt p n)
+pub sound-start : (p n : ℕ) → p ≤ maxText → n ≤ p → Coherent (startAt p n)
 sound-start p n h g = record { short = h; sum = omega arith; count = g; state = refl; utf = refl }
 
 pub sound-between : (c : Stand) → Coherent c → Coherent (startAt (c .seen) (c .count))
 sound-between c s = sound-start (c .seen) (c .count) (s .short) (omega (arith, s .count, s .sum))
 
-pub leap-turn : (room : ℕ) (c : Stand) (i b : ℕ) (xs l m o : List ℕ) (p n at k s e j : ℕ) → Leapt room c i b xs l m (startAt p n) at → j + c .count ≡ n + b → Holds xs at k s e → p + (length xs - at) ≤ 65536 → n < room
-    → brokenAt (utfFeed Whole p (drop at xs)) ≡ Good → j < roomOf l → o ≡ sets m (j * 3) (flat (tok k (p + (s - at)) (p + (e - at)) ∷ [])) → Leapt room c i b xs l o (startAt (p + (e - at)) (n + 1)) e
+pub leap-turn : (room : ℕ) (c : Stand) (i b : ℕ) (xs l m o : List ℕ) (p n at k s e j : ℕ) → Leapt room c i b xs l m (startAt p n) at → j + c .count ≡ n + b → Holds xs at k s e → p + (length xs - at) ≤ maxText → n < room
+    → brokenAt (utfFeed Whole p (drop at xs)) ≡ Through → j < roomOf l → o ≡ sets m (j * 3) (flat (tok k (p + (s - at)) (p + (e - at)) ∷ [])) → Leapt room c i b xs l o (startAt (p + (e - at)) (n + 1)) e
 leap-turn room c i b xs l m o p n at k s e j h z t short space clean y w =
     let us : List Tok = tok k (p + (s - at)) (p + (e - at)) ∷ [] in
     let g = inside xs at k s e t in

@@ -13,10 +13,11 @@ use borrow.Author.Tests.{ltb-true, eqb-true, lt-ltb, le-ltb}
 use Rattle.text.specs.Booleans.{choose, and, or, among}
 use Rattle.text.specs.Classes.{classOf, blanks, letter, digit, ones, openers}
 use Rattle.text.specs.Words.{startsWord, inWord}
-use Rattle.text.specs.declared.Check.{Check}
-use Rattle.text.specs.declared.Check.the-variants.{Good, Bad}
+use Rattle.text.specs.declared.Scan.{Scan}
+use Rattle.text.specs.declared.Scan.the-variants.{Through, StopsAt}
 use Rattle.text.proofs.Tests.{within-low}
 use Rattle.text.proofs.Booleans.{and-true, choose-by}
+use Rattle.text.specs.Limits.{maxText}
 use Rattle.literal.specs.Escapes.{simpleOf}
 use Rattle.token.specs.Blanks.{inDigits, isZero}
 use Rattle.token.specs.Tokens.{pushLiteral, oneKind}
@@ -267,7 +268,7 @@ end-at Refused a n k b e ts h = empty h
 
 -- ---- UTF-8: an ASCII byte comes between characters, or breaks one
 
-bad : {A : Type 0} {p : ℕ} → Bad p ≡ Good → A
+bad : {A : Type 0} {p : ℕ} → StopsAt p ≡ Through → A
 bad e = let z : _≡_ {A = ℕ} 0 1 = cc in absurd (omega arith)
 
 tail-high : (t : Tail) (x : ℕ) → x < 128 → tailOk t x ≡ false
@@ -279,43 +280,43 @@ tail-high TED x h = within-low 0x80 0x9f x h
 tail-high TF0 x h = within-low 0x90 0xbf x (omega arith)
 tail-high TF4 x h = within-low 0x80 0x8f x h
 
-pub ascii-next : (u : Utf) (a x : ℕ) → x < 128 → brokenAt (utfStep u a x) ≡ Good → (u ≡ Whole) × (utfStep u a x ≡ Whole)
+pub ascii-next : (u : Utf) (a x : ℕ) → x < 128 → brokenAt (utfStep u a x) ≡ Through → (u ≡ Whole) × (utfStep u a x ≡ Whole)
 unfolding utfLead
 ascii-next Whole a x h g = (refl, rw (lt-ltb x 128 h))
-ascii-next (Mid t s) a x h g = let z : Bad s ≡ Good = rw (tail-high t x h) at g in bad z
+ascii-next (Mid t s) a x h g = let z : StopsAt s ≡ Through = rw (tail-high t x h) at g in bad z
 ascii-next (Broke p) a x h g = bad g
 
 -- what isn't broken later isn't now
-pub still : (xs : List ℕ) (u : Utf) (a : ℕ) → brokenAt (utfFeed u a xs) ≡ Good → brokenAt u ≡ Good
+pub still : (xs : List ℕ) (u : Utf) (a : ℕ) → brokenAt (utfFeed u a xs) ≡ Through → brokenAt u ≡ Through
 still xs Whole a g = refl
 still xs (Mid t s) a g = refl
-still xs (Broke p) a g = let z : Bad p ≡ Good = rw (stays p a xs) at g in bad z
+still xs (Broke p) a g = let z : StopsAt p ≡ Through = rw (stays p a xs) at g in bad z
 
 -- ---- a byte before the end, at it, and behind it
 
-not-refused : (c : Conf) (xs : List ℕ) (t : Tok) (ts : List Tok) → left c xs .list ≡ t ∷ ts → refusedAt c ≡ Good
+not-refused : (c : Conf) (xs : List ℕ) (t : Tok) (ts : List Tok) → left c xs .list ≡ t ∷ ts → refusedAt c ≡ Through
 unfolding refusedAt
 not-refused c xs t ts h =
-    choose-by (λ (k : Check). k ≡ Good) (eqb (codeOf (c .state)) refusedCode) _ _
+    choose-by (λ (k : Scan). k ≡ Through) (eqb (codeOf (c .state)) refusedCode) _ _
     (λ e. let z : [] ≡ t ∷ ts = rw (code-refused (c .state) e) at h in empty z)
     (λ e. refl)
 
-same-unless : (ts : List Tok) (n : ℕ) (k : Check) (f g : Unit {0} → Step) → f tt ≡ given ts (g tt) → unless n k f ≡ given ts (unless n k g)
-same-unless ts n Good f g e = e
-same-unless ts n (Bad p) f g e = refl
+same-unless : (ts : List Tok) (n : ℕ) (k : Scan) (f g : Unit {0} → Step) → f tt ≡ given ts (g tt) → unless n k f ≡ given ts (unless n k g)
+same-unless ts n Through f g e = e
+same-unless ts n (StopsAt p) f g e = refl
 
 module _ (room : ℕ) where
-  goes-on : (c : Stand) (x : ℕ) (u : Utf) (o : Out) → utfStep (c .utf) (c .seen) x ≡ u → step (c .conf) x ≡ o → suc (c .seen) ≤ 65536 → brokenAt u ≡ Good → refusedAt (o .next) ≡ Good
-      → overAt room (c .count) (o .gives) ≡ Good → stepOf room c x ≡ Goes (o .gives) (movedTo c u o)
+  goes-on : (c : Stand) (x : ℕ) (u : Utf) (o : Out) → utfStep (c .utf) (c .seen) x ≡ u → step (c .conf) x ≡ o → suc (c .seen) ≤ maxText → brokenAt u ≡ Through → refusedAt (o .next) ≡ Through
+      → overAt room (c .count) (o .gives) ≡ Through → stepOf room c x ≡ Goes (o .gives) (movedTo c u o)
   unfolding stepOf longAt
-  goes-on c x u o e f h b r v = rw (e, f, le-ltb 65536 (suc (c .seen)) h, b, r, v)
+  goes-on c x u o e f h b r v = rw (e, f, le-ltb maxText (suc (c .seen)) h, b, r, v)
 
   -- a byte that ends a token
-  give-step : (c : Stand) (x k a b : ℕ) → step (c .conf) x ≡ giveDoc k a b (suc (c .seen)) → x < 128 → suc (c .seen) ≤ 65536 → brokenAt (utfStep (c .utf) (c .seen) x) ≡ Good → c .count < room
+  give-step : (c : Stand) (x k a b : ℕ) → step (c .conf) x ≡ giveDoc k a b (suc (c .seen)) → x < 128 → suc (c .seen) ≤ maxText → brokenAt (utfStep (c .utf) (c .seen) x) ≡ Through → c .count < room
       → stepOf room c x ≡ Goes (tok k a b ∷ []) (startAt (suc (c .seen)) (suc (c .count)))
   unfolding refusedAt overAt
   give-step c x k a b e h s g l =
-      let v : overAt room (c .count) (tok k a b ∷ []) ≡ Good = rw (lt-ltb (c .count) room l) in
+      let v : overAt room (c .count) (tok k a b ∷ []) ≡ Through = rw (lt-ltb (c .count) room l) in
       goes-on c x Whole (giveDoc k a b (suc (c .seen))) (ascii-next (c .utf) (c .seen) x h g .1) e s refl refl v ∙ ap (λ (n : ℕ). Goes (tok k a b ∷ []) (startAt (suc (c .seen)) n)) (add-one (c .count))
 
   again-by : (c : Stand) (u : Utf) (o : Out) (k a : ℕ) → c .count < room
@@ -340,7 +341,7 @@ module _ (room : ℕ) where
       ∙ again-by c (utfLead (c .seen) x) (startRow x (c .seen)) k a l
 
   -- a line's end of two bytes, outside tokens
-  crlf : (p n : ℕ) (ys : List ℕ) → suc (suc p) ≤ 65536 → ranOf room (startAt p n) (13 ∷ 10 ∷ ys) ≡ ranOf room (startAt (suc (suc p)) n) ys
+  crlf : (p n : ℕ) (ys : List ℕ) → suc (suc p) ≤ maxText → ranOf room (startAt p n) (13 ∷ 10 ∷ ys) ≡ ranOf room (startAt (suc (suc p)) n) ys
   unfolding ranOf refusedAt overAt classRow classOf utfLead
   crlf p n ys h =
       let c : Stand = record { conf = record { state = Cr; start = p; size = 1 }; utf = Whole; seen = suc p; count = n + 0 } in
@@ -366,7 +367,7 @@ module _ (room : ℕ) where
     abbrev pub Closes : Stand → List ℕ → Type 0
     Closes c xs = (isCr (c .conf .state) ≡ true) × (c .seen ≡ suc e) × (ys : List ℕ) × (xs ≡ 10 ∷ ys) × (ranOf room c xs ≡ given one (ranOf room (startAt (suc (c .seen)) (suc (c .count))) ys))
 
-    module _ (c : Stand) (x : ℕ) (xs : List ℕ) (ts : List Tok) (sound : Coherent c) (long : suc (c .seen + length xs) ≤ 65536) (space : c .count < room) (clean : brokenAt (utfStep (c .utf) (c .seen) x) ≡ Good)
+    module _ (c : Stand) (x : ℕ) (xs : List ℕ) (ts : List Tok) (sound : Coherent c) (long : suc (c .seen + length xs) ≤ maxText) (space : c .count < room) (clean : brokenAt (utfStep (c .utf) (c .seen) x) ≡ Through)
         (list : step (c .conf) x .gives ++ left (step (c .conf) x .next) xs .list ≡ tok k b e ∷ ts) where
       abbrev o : Out
       o = step (c .conf) x
@@ -374,7 +375,7 @@ module _ (room : ℕ) where
       abbrev d : Stand
       d = quietly c x
 
-      short : suc (c .seen) ≤ 65536
+      short : suc (c .seen) ≤ maxText
       short = omega arith
 
       module _ (g : o .gives ≡ []) where
@@ -384,7 +385,7 @@ module _ (room : ℕ) where
         quiet-step : stepOf room c x ≡ Goes [] d
         unfolding overAt
         quiet-step =
-            let v : overAt room (c .count) (o .gives) ≡ Good = rw g in
+            let v : overAt room (c .count) (o .gives) ≡ Through = rw g in
             let z : c .count + length (o .gives) ≡ c .count = rw (g, add-zero (c .count)) in
             goes-on c x (utfStep (c .utf) (c .seen) x) o refl refl short clean (not-refused (o .next) xs (tok k b e) ts rest) v
             ∙ ap (λ (us : List Tok). Goes us (movedTo c (utfStep (c .utf) (c .seen) x) o)) g
@@ -405,7 +406,7 @@ module _ (room : ℕ) where
             let z : suc (c .seen) ≡ suc e = h .1 in
             let w : c .seen ≡ e = omega arith in
             let l : suc (length (h .2)) ≡ length xs = sym (ap length (h .3)) in
-            let q : suc (suc e) ≤ 65536 = omega arith in
+            let q : suc (suc e) ≤ maxText = omega arith in
             let r : ranOf room (startAt e (suc (c .count))) (x ∷ xs) ≡ ranOf room (startAt (suc (suc e)) (suc (c .count))) (h .2) = rw (cr (h .0), h .3) (crlf e (suc (c .count)) (h .2) q) in
             inl (0, omega arith, λ y. quiet-ran ∙ h .4 ∙ ap (λ (n : ℕ). given one (ranOf room (startAt (suc n) (suc (c .count))) (h .2))) z ∙ ap (given one) (sym r))
 
@@ -474,7 +475,7 @@ module _ (room : ℕ) where
       leaps-by more (inr (inr (inl p))) = again-leaps p
       leaps-by more (inr (inr (inr p))) = doc-leaps p
 
-    pub leaps : (xs : List ℕ) (c : Stand) (ts : List Tok) → Coherent c → c .seen + length xs ≤ 65536 → c .count < room → brokenAt (utfFeed (c .utf) (c .seen) xs) ≡ Good → suc e < c .seen + length xs
+    pub leaps : (xs : List ℕ) (c : Stand) (ts : List Tok) → Coherent c → c .seen + length xs ≤ maxText → c .count < room → brokenAt (utfFeed (c .utf) (c .seen) xs) ≡ Through → suc e < c .seen + length xs
         → left (c .conf) xs .list ≡ tok k b e ∷ ts → Leaps c xs ⊎ Closes c xs
     unfolding utfFeed
     leaps [] c ts s l r n h g =
@@ -482,8 +483,8 @@ module _ (room : ℕ) where
         absurd (omega (arith, s .sum))
     leaps (x ∷ xs) c ts s l r n h g =
         let list : step (c .conf) x .gives ++ left (step (c .conf) x .next) xs .list ≡ tok k b e ∷ ts = ap (λ (t : Tokens). t .list) (sym (row-law (c .conf .state) (c .conf .start) (c .conf .size) x xs)) ∙ g in
-        let clean : brokenAt (utfStep (c .utf) (c .seen) x) ≡ Good = still xs (utfStep (c .utf) (c .seen) x) (suc (c .seen)) n in
-        let long : suc (c .seen + length xs) ≤ 65536 = omega arith in
+        let clean : brokenAt (utfStep (c .utf) (c .seen) x) ≡ Through = still xs (utfStep (c .utf) (c .seen) x) (suc (c .seen)) n in
+        let long : suc (c .seen + length xs) ≤ maxText = omega arith in
         leaps-by c x xs ts s long r clean list
         (λ f. leaps xs (quietly c x) ts (quiet-sound c x xs ts s long r clean list f) (omega arith) r n (omega arith) (rest c x xs ts s long r clean list f))
         (did (c .conf .state) (c .conf .start) (c .conf .size) (c .seen) x (s .sum) (s .state))

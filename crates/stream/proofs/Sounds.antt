@@ -5,8 +5,8 @@ use mathlib.Core.List.{List, _++_}
 use native.Mathlib.Numerals.{add-one}
 use native.Mathlib.Omega.{arith}
 use lib.ListN.{length}
-use Rattle.text.specs.declared.Check.{Check}
-use Rattle.text.specs.declared.Check.the-variants.{Good, Bad}
+use Rattle.text.specs.declared.Scan.{Scan}
+use Rattle.text.specs.declared.Scan.the-variants.{Through, StopsAt}
 use Rattle.token.specs.Lists.{Tok, Tokens}
 use Rattle.states.specs.declared.Utf.{Utf}
 use Rattle.states.specs.declared.Stand.{Stand}
@@ -45,38 +45,38 @@ many-two k m n g h v w = let l : length (listOf g ++ listOf h) ≡ length (listO
 
 -- ---- a step
 
-unless-bad : (n : ℕ) (k : Check) (f : Unit {0} → Step) (p : ℕ) → k ≡ Bad p → unless n k f ≡ Faults n p
+unless-bad : (n : ℕ) (k : Scan) (f : Unit {0} → Step) (p : ℕ) → k ≡ StopsAt p → unless n k f ≡ Faults n p
 unless-bad n k f p e = rw e
 
-unless-good : (n : ℕ) (k : Check) (f : Unit {0} → Step) → k ≡ Good → unless n k f ≡ f tt
+unless-good : (n : ℕ) (k : Scan) (f : Unit {0} → Step) → k ≡ Through → unless n k f ≡ f tt
 unless-good n k f e = rw e
 
 module _ (room : ℕ) (c : Stand) (x p : ℕ) where
-  pub stops-1 : longAt (suc (c .seen)) ≡ Bad p → Faults 1 p ≡ stepOf room c x
+  pub stops-1 : longAt (suc (c .seen)) ≡ StopsAt p → Faults 1 p ≡ stepOf room c x
   unfolding stepOf
   stops-1 e = sym (unless-bad 1 (longAt (suc (c .seen))) _ p e)
 
-  pub stops-2 : (u : Utf) → longAt (suc (c .seen)) ≡ Good → u ≡ utfStep (c .utf) (c .seen) x → brokenAt u ≡ Bad p → Faults 2 p ≡ stepOf room c x
+  pub stops-2 : (u : Utf) → longAt (suc (c .seen)) ≡ Through → u ≡ utfStep (c .utf) (c .seen) x → brokenAt u ≡ StopsAt p → Faults 2 p ≡ stepOf room c x
   unfolding stepOf
   stops-2 u e f g =
       let h : stepBy room c u (step (c .conf) x) ≡ stepOf room c x = ap (λ (v : Utf). stepBy room c v (step (c .conf) x)) f in
       sym (unless-bad 2 (brokenAt u) _ p g) ∙ sym (unless-good 1 (longAt (suc (c .seen))) _ e) ∙ h
 
 -- UTF-8 took the byte
-pub stops-later : (room : ℕ) (c : Stand) (x : ℕ) (u : Utf) (o : Out) → longAt (suc (c .seen)) ≡ Good → u ≡ utfStep (c .utf) (c .seen) x → brokenAt u ≡ Good → o ≡ step (c .conf) x → takenBy room c u o ≡ stepOf room c x
+pub stops-later : (room : ℕ) (c : Stand) (x : ℕ) (u : Utf) (o : Out) → longAt (suc (c .seen)) ≡ Through → u ≡ utfStep (c .utf) (c .seen) x → brokenAt u ≡ Through → o ≡ step (c .conf) x → takenBy room c u o ≡ stepOf room c x
 unfolding stepOf
 stops-later room c x u o e f g h =
     sym (unless-good 1 (longAt (suc (c .seen))) _ e ∙ unless-good 2 (brokenAt u) _ g) ∙ ap (λ (v : Utf). stepBy room c v o) f ∙ ap (stepBy room c (utfStep (c .utf) (c .seen) x)) h
 
 module _ (room : ℕ) (c : Stand) (u : Utf) (r : Row) where
-  pub takes-3 : (p : ℕ) → refusedAt (r .conf) ≡ Bad p → Faults 3 p ≡ takenBy room c u (outOf r)
+  pub takes-3 : (p : ℕ) → refusedAt (r .conf) ≡ StopsAt p → Faults 3 p ≡ takenBy room c u (outOf r)
   takes-3 p h = sym (unless-bad 3 (refusedAt (r .conf)) _ p h)
 
-  module _ (h : refusedAt (r .conf) ≡ Good) where
-    pub takes-14 : (p : ℕ) → overAt room (c .count) (outOf r .gives) ≡ Bad p → Faults 14 p ≡ takenBy room c u (outOf r)
+  module _ (h : refusedAt (r .conf) ≡ Through) where
+    pub takes-14 : (p : ℕ) → overAt room (c .count) (outOf r .gives) ≡ StopsAt p → Faults 14 p ≡ takenBy room c u (outOf r)
     takes-14 p k = sym (unless-good 3 (refusedAt (r .conf)) _ h ∙ unless-bad 14 (overAt room (c .count) (outOf r .gives)) _ p k)
 
-    pub takes-on : (m n : ℕ) → m ≡ length (listOf (r .before)) → n ≡ length (listOf (r .here)) → overAt room (c .count) (outOf r .gives) ≡ Good
+    pub takes-on : (m n : ℕ) → m ≡ length (listOf (r .before)) → n ≡ length (listOf (r .here)) → overAt room (c .count) (outOf r .gives) ≡ Through
         → steppedOf (Moves (r .before) (r .here) (record { conf = r .conf; utf = u; seen = c .seen + 1; count = c .count + m + n })) ≡ takenBy room c u (outOf r)
     takes-on m n v w k =
         let s : c .count + m + n ≡ c .count + length (outOf r .gives) = many-two (c .count) m n (r .before) (r .here) v w in
@@ -87,11 +87,11 @@ module _ (room : ℕ) (c : Stand) (u : Utf) (r : Row) where
 -- ---- the end
 
 module _ (room : ℕ) (c : Stand) where
-  pub last-2 : (p : ℕ) → utfEnd (c .utf) ≡ Bad p → Faults 2 p ≡ lastOf room c
+  pub last-2 : (p : ℕ) → utfEnd (c .utf) ≡ StopsAt p → Faults 2 p ≡ lastOf room c
   unfolding lastOf
   last-2 p e = sym (unless-bad 2 (utfEnd (c .utf)) _ p e)
 
-  module _ (e : utfEnd (c .utf) ≡ Good) (f : Finish) (o : finishBy f ≡ finish (c .conf)) where
+  module _ (e : utfEnd (c .utf) ≡ Through) (f : Finish) (o : finishBy f ≡ finish (c .conf)) where
     abbrev behind : Tokens → Step
     behind t = unless 3 (t .fault) (λ _. unless 14 (overAt room (c .count) (t .list)) (λ _. Goes (t .list) begin))
 
@@ -99,11 +99,11 @@ module _ (room : ℕ) (c : Stand) where
     unfolding lastOf
     last-by = ap behind o ∙ sym (unless-good 2 (utfEnd (c .utf)) (λ _. behind (finish (c .conf))) e)
 
-    pub last-3 : (p : ℕ) → f .fault ≡ Bad p → Faults 3 p ≡ lastOf room c
+    pub last-3 : (p : ℕ) → f .fault ≡ StopsAt p → Faults 3 p ≡ lastOf room c
     last-3 p g = sym (unless-bad 3 (f .fault) _ p g) ∙ last-by
 
-    pub last-14 : (p : ℕ) → f .fault ≡ Good → overAt room (c .count) (listOf (f .token)) ≡ Bad p → Faults 14 p ≡ lastOf room c
+    pub last-14 : (p : ℕ) → f .fault ≡ Through → overAt room (c .count) (listOf (f .token)) ≡ StopsAt p → Faults 14 p ≡ lastOf room c
     last-14 p g h = sym (unless-bad 14 (overAt room (c .count) (listOf (f .token))) _ p h) ∙ sym (unless-good 3 (f .fault) _ g) ∙ last-by
 
-    pub last-goes : f .fault ≡ Good → overAt room (c .count) (listOf (f .token)) ≡ Good → Goes (listOf (f .token)) begin ≡ lastOf room c
+    pub last-goes : f .fault ≡ Through → overAt room (c .count) (listOf (f .token)) ≡ Through → Goes (listOf (f .token)) begin ≡ lastOf room c
     last-goes g h = sym (unless-good 14 (overAt room (c .count) (listOf (f .token))) _ h) ∙ sym (unless-good 3 (f .fault) _ g) ∙ last-by

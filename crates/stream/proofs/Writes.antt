@@ -11,8 +11,8 @@ use lib.ListN.{length, drop, getD}
 use lib.Seq.{sets}
 use borrow.Author.Tests.{ltb-true, lt-ltb}
 use Rattle.text.specs.Booleans.{choose, among}
-use Rattle.text.specs.declared.Check.{Check}
-use Rattle.text.specs.declared.Check.the-variants.{Good, Bad}
+use Rattle.text.specs.declared.Scan.{Scan}
+use Rattle.text.specs.declared.Scan.the-variants.{Through, StopsAt}
 use Rattle.text.proofs.Splices.{sets-append}
 use Rattle.text.proofs.Booleans.{choose-by}
 use Rattle.token.specs.Lists.{Tok}
@@ -39,26 +39,26 @@ use Rattle.stream.proofs.Sounds.{to-fitting, to-sound}
 
 -- ---- room
 
-module _ (room n a : ℕ) (f : Unit {0} → Check) where
-  room-by : (b : Bool) → ltb n room ≡ b → choose b f (λ u. Bad a) ≡ Good → (n < room) × (f tt ≡ Good)
+module _ (room n a : ℕ) (f : Unit {0} → Scan) where
+  room-by : (b : Bool) → ltb n room ≡ b → choose b f (λ u. StopsAt a) ≡ Through → (n < room) × (f tt ≡ Through)
   room-by true e g = (ltb-true n room e, g)
   room-by false e g = let z : _≡_ {A = ℕ} 0 1 = cc in absurd (omega arith)
 
-  pub has-room : choose (ltb n room) f (λ u. Bad a) ≡ Good → (n < room) × (f tt ≡ Good)
+  pub has-room : choose (ltb n room) f (λ u. StopsAt a) ≡ Through → (n < room) × (f tt ≡ Through)
   has-room e = room-by (ltb n room) refl e
 
 -- a record behind n others lies in the list
-pub over-room : (l : List ℕ) (n k a b : ℕ) → overAt (roomOf l) n (listOf (Yes k a b)) ≡ Good → n * 3 + 3 ≤ length l
+pub over-room : (l : List ℕ) (n k a b : ℕ) → overAt (roomOf l) n (listOf (Yes k a b)) ≡ Through → n * 3 + 3 ≤ length l
 unfolding overAt
 over-room l n k a b e = row-fits l n (has-room (roomOf l) n a _ e .0)
 
 module _ (room n : ℕ) where
-  pub over-first : (g h : Given) → overAt room n (listOf g ++ listOf h) ≡ Good → overAt room n (listOf g) ≡ Good
+  pub over-first : (g h : Given) → overAt room n (listOf g ++ listOf h) ≡ Through → overAt room n (listOf g) ≡ Through
   unfolding overAt
   over-first No h e = refl
   over-first (Yes k a b) h e = rw (lt-ltb n room (has-room room n a _ e .0))
 
-  pub over-second : (g h : Given) → overAt room n (listOf g ++ listOf h) ≡ Good → overAt room (n + length (listOf g)) (listOf h) ≡ Good
+  pub over-second : (g h : Given) → overAt room n (listOf g ++ listOf h) ≡ Through → overAt room (n + length (listOf g)) (listOf h) ≡ Through
   unfolding overAt
   over-second No h e = rw (add-zero n) e
   over-second (Yes k a b) h e = rw (add-one n) (has-room room n a _ e .1)
@@ -127,7 +127,7 @@ ran-end room c s i h = loop-ends room s (ranOf room c (drop i s)) [] c i (loop-s
 
 module _ (room : ℕ) where
   -- a step that is good: there was room, and the records are counted
-  pub step-room : (c : Stand) (x : ℕ) (ts : List Tok) (d : Stand) → Goes ts d ≡ stepOf room c x → (overAt room (c .count) ts ≡ Good) × (d .count ≡ c .count + length ts)
+  pub step-room : (c : Stand) (x : ℕ) (ts : List Tok) (d : Stand) → Goes ts d ≡ stepOf room c x → (overAt room (c .count) ts ≡ Through) × (d .count ≡ c .count + length ts)
   step-room c x ts d e =
       let k = took room c x ts d (sym e) in
       (rw (k .gives) (k .room), rw (k .moved, k .gives))
@@ -135,7 +135,7 @@ module _ (room : ℕ) where
   pub step-sound : (c : Stand) (x : ℕ) (ts : List Tok) (d : Stand) → Coherent c → Goes ts d ≡ stepOf room c x → Coherent d
   step-sound c x ts d h e = to-sound d (fitting-step room c x ts d (to-fitting c h) (sym e))
 
-  pub last-room : (c : Stand) (ts : List Tok) (d : Stand) → Goes ts d ≡ lastOf room c → overAt room (c .count) ts ≡ Good
+  pub last-room : (c : Stand) (ts : List Tok) (d : Stand) → Goes ts d ≡ lastOf room c → overAt room (c .count) ts ≡ Through
   unfolding lastOf
   last-room c ts d e =
       let o = finish (c .conf) in

@@ -7,7 +7,8 @@ use lib.Dec.{eqb}
 use lib.ListN.{length, drop, getD}
 use lib.Seq.{sets}
 use Rattle.text.specs.Booleans.{and}
-use Rattle.text.specs.declared.Check.the-variants.{Good}
+use Rattle.text.specs.declared.Scan.the-variants.{Through}
+use Rattle.text.specs.Limits.{maxText}
 use Rattle.token.specs.Tokens.{tokenAt}
 use Rattle.token.specs.Lists.{Tok}
 use Rattle.token.specs.declared.Token.the-variants.{Found}
@@ -32,8 +33,8 @@ isBetween c = and (eqb (codeOf (c .conf .state)) 0) (eqb (utfCode (c .utf)) 0)
 -- the stream stands so, and no byte of what is left is refused by 1 or 2
 pub record Free (c : Stand) (xs : List ℕ) : Type 0 where
   pub between : c ≡ startAt (c .seen) (c .count)
-  pub short : c .seen + length xs ≤ 65536
-  pub clean : brokenAt (utfFeed Whole (c .seen) xs) ≡ Good
+  pub short : c .seen + length xs ≤ maxText
+  pub clean : brokenAt (utfFeed Whole (c .seen) xs) ≡ Through
 
 -- a token of a packet with its end: the byte behind it is there, in ASCII, and one more
 pub record Holds (xs : List ℕ) (at k s e : ℕ) : Type 0 where

@@ -3,6 +3,7 @@ use Prim.Native.Nat.{ℕ, _+_, _≤_}
 use mathlib.Core.Path.{_≡_}
 use mathlib.Core.Bool.{Bool, true, false}
 use mathlib.Core.List.{List, [], _++_}
+use Rattle.text.specs.Limits.{maxText}
 use Rattle.token.specs.Lists.{Tok}
 use Rattle.states.specs.declared.Stand.{Stand}
 use Rattle.states.specs.declared.Utf.{Utf}
@@ -43,7 +44,7 @@ isGood (Faults n p) = false
 
 -- a stream whose numbers fit one another
 pub record Coherent (c : Stand) : Type 0 where
-  pub short : c .seen ≤ 65536
+  pub short : c .seen ≤ maxText
   pub sum : c .conf .start + (c .conf .size + waiting (c .conf .state)) ≡ c .seen
   pub count : c .count ≤ c .conf .start
   pub state : stateFits (c .conf .state) (c .conf .size) ≡ true

@@ -7,42 +7,44 @@ use crate::Stepped;
 use states::Stand;
 use states::Utf;
 use steps::Row;
-use text::Check;
+use text::Scan;
+use text::limits;
 ghost use mathlib.Core.Path.{_≡_};
 ghost use mathlib.Core.Bool.{true};
 ghost use Prim.Native.Nat.{suc, _*_, _≤_};
 ghost use lib.Seq.{sets};
 ghost use Rattle.text.specs.Classes.{classes};
+ghost use Rattle.text.specs.Limits.{maxText};
 ghost use Rattle.token.specs.Table.{flat, roomOf};
 ghost use Rattle.states.specs.Steps.{longAt, stepOf, ranOf, lastOf};
 ghost use Rattle.steps.specs.Shapes.{outOf};
 ghost use Rattle.stream.specs.Shapes.{takenBy, steppedOf, ranBy, givesOf, isGood, Coherent};
 
 // One byte more is too many.
-fn long(seen: usize) -> Check
+fn long(seen: usize) -> Scan
     ensures { λ r. ⌜ r ≡ longAt (suc seen) ⌝ }
 {
-    if 65536 <= seen {
-        return Check::Bad(0);
+    if limits::TEXT <= seen {
+        return Scan::StopsAt(0);
     }
-    Check::Good
+    Scan::Through
 }
 
 // A byte that UTF-8 took to a state and the table to a row: 3, then 14.
 fn take(room: usize, c: Stand, utf: Utf, row: Row) -> Stepped
-    requires { ⌜ c .seen ≤ 65536 ⌝ }
-    requires { ⌜ c .count ≤ 65536 ⌝ }
+    requires { ⌜ c .seen ≤ maxText ⌝ }
+    requires { ⌜ c .count ≤ maxText ⌝ }
     ensures { λ r. ⌜ steppedOf r ≡ takenBy room c utf (outOf row) ⌝ }
 {
     let conf = row.conf;
     let refused = keep::inner::kept::refused(conf);
-    if let Check::Bad(place) = refused {
+    if let Scan::StopsAt(place) = refused {
         return Stepped::Stops(3, place);
     }
     let before = row.before;
     let here = row.here;
     let over = rooms::over_two(room, c.count, before, here);
-    if let Check::Bad(place) = over {
+    if let Scan::StopsAt(place) = over {
         return Stepped::Stops(14, place);
     }
     let count = c.count + rooms::many(before) + rooms::many(here);
@@ -65,17 +67,17 @@ fn step(t: &[u8; 256], room: usize, c: Stand, x: u8) -> Stepped
     ensures { λ r. ⌜ steppedOf r ≡ stepOf room c x ⌝ }
 {
     let too_long = long(c.seen);
-    if let Check::Bad(place) = too_long {
+    if let Scan::StopsAt(place) = too_long {
         return Stepped::Stops(1, place);
     }
     let u = c.utf;
     let utf = steps::inner::utf8::step(u, c.seen, x);
     let broken = steps::inner::utf8::broken(utf);
-    if let Check::Bad(place) = broken {
+    if let Scan::StopsAt(place) = broken {
         return Stepped::Stops(2, place);
     }
     let conf = c.conf;
-    let row = steps::inner::table::step(t, conf, x);
+    let row = steps::inner::transitions::step(t, conf, x);
     take(room, c, utf, row)
 }
 
@@ -165,18 +167,18 @@ pub(crate) fn last(room: usize, c: Stand) -> Stepped
 {
     let u = c.utf;
     let cut = steps::inner::utf8::ended(u);
-    if let Check::Bad(place) = cut {
+    if let Scan::StopsAt(place) = cut {
         return Stepped::Stops(2, place);
     }
     let conf = c.conf;
     let finish = steps::inner::ends::finish(conf);
     let fault = finish.fault;
-    if let Check::Bad(place) = fault {
+    if let Scan::StopsAt(place) = fault {
         return Stepped::Stops(3, place);
     }
     let token = finish.token;
     let over = rooms::over(room, c.count, token);
-    if let Check::Bad(place) = over {
+    if let Scan::StopsAt(place) = over {
         return Stepped::Stops(14, place);
     }
     Stepped::Moves(steps::Given::No, token, keep::inner::opened::fresh())

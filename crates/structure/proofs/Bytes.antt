@@ -12,8 +12,9 @@ use Rattle.text.specs.Words.{begins}
 use Rattle.text.specs.Splice.{spent}
 use Rattle.literal.specs.Escapes.{badEscape, unescaped}
 use Rattle.text.specs.Scans.{spelled, sought}
-use Rattle.text.specs.declared.Check.the-variants.{Good}
+use Rattle.text.specs.declared.Scan.the-variants.{Through}
 use Rattle.text.proofs.Booleans.{choose-false, choose-true}
+use Rattle.text.specs.Limits.{maxText}
 use Rattle.token.specs.Table.{kind, start, end, is, between, word}
 use Rattle.token.proofs.Table.{part-none, word-is, word-length}
 use Rattle.structure.specs.Tokens.{same, spells}
@@ -26,14 +27,14 @@ pub bytes-none : (s : List ℕ) (a z : ℕ) → z ≤ a → 0 ≡ length (unesca
 unfolding unescaped spelled
 bytes-none s a z h = sym (ap (λ (l : List ℕ). length (unescaped l)) (part-none s a z h))
 
-pub bytes-left : (s : List ℕ) (a z left : ℕ) → length s ≤ 65536 → left ≡ spent most (unescaped (between s a z)) → (left ≤ most) × (most - left ≡ length (unescaped (between s a z)))
+pub bytes-left : (s : List ℕ) (a z left : ℕ) → length s ≤ maxText → left ≡ spent most (unescaped (between s a z)) → (left ≤ most) × (most - left ≡ length (unescaped (between s a z)))
 unfolding spent
 bytes-left s a z left w e =
     let x = unescaped-short (between s a z) in
     let y = part-short s a z in
     (omega arith, omega arith)
 
-pub bad-none : (s : List ℕ) (a z : ℕ) → z ≤ a → Good ≡ badEscape (between s a z)
+pub bad-none : (s : List ℕ) (a z : ℕ) → z ≤ a → Through ≡ badEscape (between s a z)
 unfolding badEscape sought
 bad-none s a z h = sym (ap badEscape (part-none s a z h))
 

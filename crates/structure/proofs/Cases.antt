@@ -8,6 +8,7 @@ use native.Mathlib.Omega.{arith}
 use lib.Dec.{leb}
 use Rattle.text.specs.Words.{push}
 use Rattle.text.proofs.Booleans.{split}
+use Rattle.text.specs.Limits.{maxOpen}
 use Rattle.token.specs.Table.{start, end, is, word, label}
 use Rattle.token.specs.Tokens.{pushLiteral}
 use Rattle.table.specs.Tree.{Span, text, range, plain, Tree, leaf, Rule, endsAt}
@@ -18,7 +19,7 @@ use Rattle.table.specs.declared.Sort.the-variants.{Str, Insens, Ident, PushLite
 use Rattle.structure.specs.declared.Level.{Level}
 use Rattle.structure.specs.Tokens.{across, spells}
 use Rattle.structure.specs.Values.{number, string, character}
-use Rattle.structure.specs.Structure.{got, next, limit, join, closed, prefixed, postfixed, inTag, post, noPost, fromNumber, fromComma, postfixAt, slice, pushed, ranged, slices, leafAt, expr, term, signed, node, chain, posts, Run, isName, markAt, pastMark, pastBar, ruling, ruleFrom}
+use Rattle.structure.specs.Structure.{got, next, join, closed, prefixed, postfixed, inTag, post, noPost, fromNumber, fromComma, postfixAt, slice, pushed, ranged, slices, leafAt, expr, term, signed, node, chain, posts, Run, isName, markAt, pastMark, pastBar, ruling, ruleFrom}
 use Rattle.structure.proofs.Steps.{no-tree, next-got, want-got, want-post, opened-got, posts-by}
 use Rattle.structure.proofs.Grammar.{expr-law, chain-law, term-law, signed-law, node-law, posts-law}
 use Rattle.structure.proofs.Cycle.{finished}
@@ -78,8 +79,8 @@ module _ (level : Level) (s : List ℕ) where
       unsigned u x i v w f (h ∙ ap (got x) z) (cc))) (sym (signed-law level s o at) ∙ e)
 
   pub data NodeRead (o at : ℕ) (t : Tree Span) (n : ℕ) : Type 0 where
-    group : (u : Tree Span) (i : ℕ) → is s at 6 ≡ true → leb limit o ≡ false → Run level s (expr (o + 1) (at + 1)) ≡ got u i → is s i 7 ≡ true → t ≡ endsAt u (end s i) → n ≡ i + 1 → NodeRead o at t n
-    pushes : (u : Tree Span) (i : ℕ) → is s at 6 ≡ false → spells push s at ≡ true → is s (at + 1) 6 ≡ true → leb limit o ≡ false → Run level s (expr (o + 1) (at + 1 + 1)) ≡ got u i → is s i 7 ≡ true
+    group : (u : Tree Span) (i : ℕ) → is s at 6 ≡ true → leb maxOpen o ≡ false → Run level s (expr (o + 1) (at + 1)) ≡ got u i → is s i 7 ≡ true → t ≡ endsAt u (end s i) → n ≡ i + 1 → NodeRead o at t n
+    pushes : (u : Tree Span) (i : ℕ) → is s at 6 ≡ false → spells push s at ≡ true → is s (at + 1) 6 ≡ true → leb maxOpen o ≡ false → Run level s (expr (o + 1) (at + 1 + 1)) ≡ got u i → is s i 7 ≡ true
         → t ≡ prefixed (start s at) (plain Push) u → n ≡ i + 1 → NodeRead o at t n
     holds-none : is s at 6 ≡ false → spells push s at ≡ false → leafAt o s at ≡ got t n → NodeRead o at t n
 
@@ -146,7 +147,7 @@ postfix-read s at e =
 
 -- a leaf, by its tokens
 pub data LeafRead (o : ℕ) (s : List ℕ) (at : ℕ) (t : Tree Span) (n : ℕ) : Type 0 where
-  literal : spells pushLiteral s at ≡ true → is s (at + 1) 6 ≡ true → leb limit o ≡ false → is s (at + 1 + 1) 23 ≡ true → is s (at + 1 + 1 + 1) 7 ≡ true
+  literal : spells pushLiteral s at ≡ true → is s (at + 1) 6 ≡ true → leb maxOpen o ≡ false → is s (at + 1 + 1) 23 ≡ true → is s (at + 1 + 1 + 1) 7 ≡ true
       → t ≡ leaf (across s (at + 1 + 1) (at + 1 + 1)) (text PushLiteral (string s (at + 1 + 1))) → n ≡ at + 1 + 1 + 1 + 1 → LeafRead o s at t n
   sliced : spells pushLiteral s at ≡ false → slices s at ≡ true → slice s at (at + 2) ≡ got t n → LeafRead o s at t n
   ident : spells pushLiteral s at ≡ false → slices s at ≡ false → is s at 18 ≡ true → t ≡ leaf (across s at at) (text Ident (word s at)) → n ≡ at + 1 → LeafRead o s at t n

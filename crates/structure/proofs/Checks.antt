@@ -9,6 +9,7 @@ use lib.ListN.{length}
 use Rattle.text.specs.Booleans.{choose, and}
 use Rattle.text.specs.Words.{push}
 use Rattle.text.proofs.Booleans.{choose-false, choose-true}
+use Rattle.text.specs.Limits.{maxText}
 use Rattle.token.specs.Table.{toks, kind, start, end, is, label}
 use Rattle.token.proofs.Table.{label-length}
 use Rattle.table.specs.Tree.{Span, plain, Tree, count, size, endsAt}
@@ -47,7 +48,7 @@ pub record Opened (level : Level) (s : List ℕ) (at p k b : ℕ) : Type 0 where
   pub from : at + k ≤ p
   pub within : (at ≡ p → ⊥) → p ≤ length (toks s)
   pub one : k ≤ 1
-  pub small : length s ≤ 65536 → b ≤ most * k
+  pub small : length s ≤ maxText → b ≤ most * k
   pub wrap : Tree Span → Tree Span
   pub same : (o : ℕ) → Run level s (term o at) ≡ next (Run level s (signed o p)) (λ t n. got (wrap t) n)
   pub grown : (t : Tree Span) → Grown t (wrap t) k b

@@ -10,6 +10,7 @@ use lib.ListN.{length}
 use borrow.Author.Tests.{le-leb, lt-leb}
 use Rattle.text.specs.Booleans.{choose}
 use Rattle.text.proofs.Booleans.{choose-false, choose-true}
+use Rattle.text.specs.Limits.{maxOpen, maxText}
 use Rattle.token.specs.Table.{toks, kind, start, is}
 use Rattle.table.specs.Tree.{Span, Tree, count, size, startsAt}
 use Rattle.table.specs.declared.Join.the-variants.{Seq}
@@ -27,7 +28,7 @@ use Rattle.structure.specs.declared.Bracket.{Bracket}
 use Rattle.structure.specs.declared.Bracket.the-variants.{Unopened, Nothing}
 use Rattle.structure.specs.declared.PostfixEnds.{PostfixEnds}
 use Rattle.structure.specs.declared.PostfixEnds.the-variants as PostfixEnds
-use Rattle.structure.specs.Structure.{Parsed, got, refused, next, limit, join, closed, leafAt, Call, expr, term, node, chain, posts, place, Run}
+use Rattle.structure.specs.Structure.{Parsed, got, refused, next, join, closed, leafAt, Call, expr, term, node, chain, posts, place, Run}
 use Rattle.structure.specs.Answers.{unread, summary, wanted, openingOf, predicates, Signed, bracketOf, Posted}
 use Rattle.structure.proofs.Steps.{inside-is, sees, misses, next-good, next-bad, next-assoc, next-on, opened-true, opened-false}
 use Rattle.structure.proofs.Sizes.{most, Grown, grown-none, grown-starts, count-closed, size-closed, count-more, size-more}
@@ -58,7 +59,7 @@ pub record Ends (s : List ℕ) (at n k b : ℕ) : Type 0 where
   pub few : at + k ≤ n
   pub small : b ≤ most * k
 
-module _ (level : Level) (s : List ℕ) (w : length s ≤ 65536) where
+module _ (level : Level) (s : List ℕ) (w : length s ≤ maxText) where
   ends-of : (at : ℕ) (c : Call) (r : Checked) (n k b : ℕ) → place c ≡ at → held c ≡ 0 → heldSize c ≡ 0 → ((t : Tree Span) → Went s c t n → at < n) → r ≡ summary (Run level s c) → r ≡ Checked.Good n k b → Ends s at n k b
   ends-of at c r n k b x y v z e q =
       let (t, f, g, h) = good _ r n k b e q in
@@ -80,7 +81,7 @@ module _ (level : Level) (s : List ℕ) (w : length s ≤ 65536) where
 
 -- ---- an expression
 
-module _ (level : Level) (s : List ℕ) (w : length s ≤ 65536) (o at : ℕ) where
+module _ (level : Level) (s : List ℕ) (w : length s ≤ maxText) (o at : ℕ) where
   -- what was read of a chain, with its nodes and bytes
   pub record ChainInv (i k b : ℕ) : Type 0 where
     pub ends : Ends s at i k b
@@ -190,7 +191,7 @@ module _ (level : Level) (s : List ℕ) (w : length s ≤ 65536) (o at : ℕ) wh
           sum-refused (to-node ∙ next-bad _ _ (next-good _ _ g ∙ next-bad _ _ (tails-bad _ t x y (j .around level t) h)))
 
       module _ (z k₂ : ℕ) (h : x ≡ PostfixEnds.All z k₂) where
-        pub term-sums : length (toks s) ≤ 65536 → (k₁ + k₂ + (f - p) + k ≤ 65536) × (b₁ + b ≤ most * 65536)
+        pub term-sums : length (toks s) ≤ maxText → (k₁ + k₂ + (f - p) + k ≤ maxText) × (b₁ + b ≤ most * maxText)
         term-sums l =
             let (t, g, c, d) = good _ r n k₁ b₁ e q in
             let (u, g₁, w₁) = tails-all _ t x z k₂ (j .around level t) h in
@@ -228,19 +229,19 @@ module _ (level : Level) (s : List ℕ) (w : length s ≤ 65536) (o at : ℕ) wh
 
   module _ (p k : ℕ) (v : Bracketed level s at p k) where
     pub node-deep : 1024 ≤ o → (y : Refusal) → y ≡ because TooDeep (start s p) → Checked.Refused y ≡ summary (Run level s (node o at))
-    node-deep h y z = ap Checked.Refused z ∙ sum-refused (v .same o ∙ opened-true o s p _ (le-leb limit o h))
+    node-deep h y z = ap Checked.Refused z ∙ sum-refused (v .same o ∙ opened-true o s p _ (le-leb maxOpen o h))
 
     module _ (h : o < 1024) (r : Checked) (e : r ≡ summary (Run level s (expr (o + 1) (p + 1)))) where
       pub node-refused : (x : Refusal) → r ≡ Checked.Refused x → Checked.Refused x ≡ summary (Run level s (node o at))
-      node-refused x q = sum-refused (v .same o ∙ opened-false o s p _ (lt-leb limit o h) ∙ next-bad _ _ (bad _ r x e q))
+      node-refused x q = sum-refused (v .same o ∙ opened-false o s p _ (lt-leb maxOpen o h) ∙ next-bad _ _ (bad _ r x e q))
 
       module _ (n k₁ b₁ : ℕ) (q : r ≡ Checked.Good n k₁ b₁) (c : Wanted) (f : c ≡ wanted s n 7) where
         pub node-unclosed : c ≡ Missing → (y : Refusal) → y ≡ because NotAllowed (start s n) → Checked.Refused y ≡ summary (Run level s (node o at))
         node-unclosed g y z =
             let (t, l, a, b) = good _ r n k₁ b₁ e q in
-            sum-refused (v .same o ∙ opened-false o s p _ (lt-leb limit o h) ∙ next-good _ _ l ∙ wanted-off refused s n 7 _ c y f g z)
+            sum-refused (v .same o ∙ opened-false o s p _ (lt-leb maxOpen o h) ∙ next-good _ _ l ∙ wanted-off refused s n 7 _ c y f g z)
 
-        pub node-sum : length (toks s) ≤ 65536 → k₁ + k ≤ 65536
+        pub node-sum : length (toks s) ≤ maxText → k₁ + k ≤ maxText
         node-sum l =
             let a = expr-ends level s w (o + 1) (p + 1) r n k₁ b₁ e q in
             omega (arith, a .few, a .within, v .from, v .one)
@@ -249,7 +250,7 @@ module _ (level : Level) (s : List ℕ) (w : length s ≤ 65536) (o at : ℕ) wh
         node-closed z g =
             let (t, l, a, b) = good _ r n k₁ b₁ e q in
             let y = v .grown t n in
-            sum-got {t = v .wrap t n} z (k₁ + k) b₁ (v .same o ∙ opened-false o s p _ (lt-leb limit o h) ∙ next-good _ _ l ∙ wanted-on refused s n 7 _ c z f g) refl (omega arith) (omega arith)
+            sum-got {t = v .wrap t n} z (k₁ + k) b₁ (v .same o ∙ opened-false o s p _ (lt-leb maxOpen o h) ∙ next-good _ _ l ∙ wanted-on refused s n 7 _ c z f g) refl (omega arith) (omega arith)
 
 -- ---- what is unread falls along the cycle
 

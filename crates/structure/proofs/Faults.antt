@@ -2,6 +2,7 @@
 use Prim.Native.Nat.{ℕ, zero, suc, _+_, _-_, _≤_, _<_}
 use mathlib.Core.Path.{_≡_, refl, sym, ap, _∙_}
 use mathlib.Core.Bool.{Bool, true, false}
+use mathlib.Core.Logic.{_⊎_, inl, inr}
 use mathlib.Core.List.{List}
 use native.Mathlib.Omega.{arith}
 use native.Mathlib.Nat.{zero-add}
@@ -13,8 +14,8 @@ use Rattle.text.specs.Digits.{decimalOf}
 use Rattle.text.specs.Scans.{later}
 use Rattle.text.specs.declared.Decimal.{Decimal}
 use Rattle.text.specs.declared.Decimal.the-variants as Decimal
-use Rattle.text.specs.declared.Check.{Check}
-use Rattle.text.specs.declared.Check.the-variants as Check
+use Rattle.text.specs.declared.Scan.{Scan}
+use Rattle.text.specs.declared.Scan.the-variants as Scan
 use Rattle.text.proofs.Booleans.{choose-false, choose-true, or-first, or-neither, or-second}
 use Rattle.literal.specs.Escapes.{escapeLook, badEscape}
 use Rattle.token.proofs.Bounds.{stop-at}
@@ -90,6 +91,10 @@ module _ (s : List ℕ) (before i : ℕ) (r : Fault) where
   pub number-after-dots : before ≡ 22 → r ≡ peekFault s i (integerOf s i) → r ≡ numberFault s before i
   number-after-dots q h = h ∙ sym (choose-true (or (eqb before 4) (eqb before 22)) _ _ (or-second (eqb before 4) (eqb before 22) (eq-eqb before 22 q)))
 
+  pub number-in-slice : (before ≡ 4) ⊎ (before ≡ 22) → r ≡ peekFault s i (integerOf s i) → r ≡ numberFault s before i
+  number-in-slice (inl q) h = number-after-bracket q h
+  number-in-slice (inr q) h = number-after-dots q h
+
   pub number-repeats : (before ≡ 4 → ⊥) → (before ≡ 22 → ⊥) → r ≡ repeatFault s i (decimalOf 4294967295 (word s i)) → r ≡ numberFault s before i
   number-repeats q p h = h ∙ sym (choose-false (or (eqb before 4) (eqb before 22)) _ _ (or-neither (eqb before 4) (eqb before 22) (ne-eqb before 4 q) (ne-eqb before 22 p)))
 
@@ -105,22 +110,22 @@ module _ (level : Level) (s : List ℕ) (i : ℕ) (q : level ≡ Plain) (b : Boo
 -- ---- literals
 
 -- a bad escape stands inside
-bad-in : (xs : List ℕ) (k : ℕ) → badEscape xs ≡ Check.Bad k → k < length xs
+bad-in : (xs : List ℕ) (k : ℕ) → badEscape xs ≡ Scan.StopsAt k → k < length xs
 unfolding badEscape
 bad-in xs k e =
-    let (n, f, g, h) = stop-at escapeLook xs 0 k (ap (later 0) e ∙ ap Check.Bad (zero-add k)) in
+    let (n, f, g, h) = stop-at escapeLook xs 0 k (ap (later 0) e ∙ ap Scan.StopsAt (zero-add k)) in
     omega arith
 
-module _ (s : List ℕ) (i n a z : ℕ) (e : n ≡ opening s i) (f : a ≡ start s i + n) (g : z ≡ end s i - 1) (r : Check) (h : r ≡ badEscape (between s a z)) where
-  pub literal-sound : r ≡ Check.Good → Sound ≡ literalFault s i (badEscape (literalBytes s i))
+module _ (s : List ℕ) (i n a z : ℕ) (e : n ≡ opening s i) (f : a ≡ start s i + n) (g : z ≡ end s i - 1) (r : Scan) (h : r ≡ badEscape (between s a z)) where
+  pub literal-sound : r ≡ Scan.Through → Sound ≡ literalFault s i (badEscape (literalBytes s i))
   literal-sound q = sym (ap (literalFault s i) (ap badEscape (sym (inside-of s i n a z e f g)) ∙ sym h ∙ q))
 
-  pub literal-bad : (k : ℕ) → r ≡ Check.Bad k → At (because NotScalar (a + k)) ≡ literalFault s i (badEscape (literalBytes s i))
+  pub literal-bad : (k : ℕ) → r ≡ Scan.StopsAt k → At (because NotScalar (a + k)) ≡ literalFault s i (badEscape (literalBytes s i))
   literal-bad k q =
       let y : a + k ≡ start s i + opening s i + k = omega arith in
       ap (λ (n : ℕ). At (because NotScalar n)) y ∙ sym (ap (literalFault s i) (ap badEscape (sym (inside-of s i n a z e f g)) ∙ sym h ∙ q))
 
-  pub literal-low : (k : ℕ) → r ≡ Check.Bad k → k < length s
+  pub literal-low : (k : ℕ) → r ≡ Scan.StopsAt k → k < length s
   literal-low k q = let m = bad-in (between s a z) k (sym h ∙ q) in let l = part-short s a z in omega arith
 
 -- ---- a token's value
@@ -157,6 +162,11 @@ module _ (level : Level) (s : List ℕ) (before i x : ℕ) (e : x ≡ kind s i) 
   value-character q h =
       literal-by (another s i x 25 18 e q (λ m. omega arith)) (another s i x 25 20 e q (λ m. omega arith)) (another s i x 25 21 e q (λ m. omega arith))
       (or-second (is s i 23) (or (is s i 24) (is s i 25)) (or-second (is s i 24) (is s i 25) (sees s i x 25 e q))) h
+
+  -- a string or a character
+  pub value-quoted : (x ≡ 23) ⊎ (x ≡ 25) → r ≡ literalFault s i (badEscape (literalBytes s i)) → r ≡ faultAt level s before i
+  value-quoted (inl q) h = value-string q h
+  value-quoted (inr q) h = value-character q h
 
   pub value-none : (x ≡ 18 → ⊥) → (x ≡ 20 → ⊥) → (x ≡ 21 → ⊥) → (x ≡ 23 → ⊥) → (x ≡ 24 → ⊥) → (x ≡ 25 → ⊥) → Sound ≡ faultAt level s before i
   unfolding faultAt

@@ -9,6 +9,7 @@ use lib.ListN.{length}
 use Rattle.text.specs.Booleans.{choose}
 use Rattle.text.specs.Words.{push}
 use Rattle.text.proofs.Booleans.{choose-cong, split}
+use Rattle.text.specs.Limits.{maxText}
 use Rattle.token.specs.Table.{toks, start, end, is, word, label}
 use Rattle.token.specs.Tokens.{pushLiteral}
 use Rattle.table.specs.Tree.{Span, Atom, text, range, peekSlice, plain, Tree, leaf, one, below, count, stored, size, atomStored, endsAt, startsAt}
@@ -71,10 +72,10 @@ pub record Leaf (s : List ℕ) (at : ℕ) (t : Tree Span) (n : ℕ) : Type 0 whe
   pub past : at < n
   pub within : n ≤ length (toks s)
   pub counts : count t ≡ 1
-  pub small : length s ≤ 65536 → size t ≤ most
+  pub small : length s ≤ maxText → size t ≤ most
 
 leaf-is : (s : List ℕ) (at m : ℕ) (p : Span) (a : Atom) {t : Tree Span} {n : ℕ} → at < m → m ≤ length (toks s)
-    → (length s ≤ 65536 → length (atomStored a) ≤ most) → got (leaf p a) m ≡ got t n → Leaf s at t n
+    → (length s ≤ maxText → length (atomStored a) ≤ most) → got (leaf p a) m ≡ got t n → Leaf s at t n
 unfolding below stored
 leaf-is s at m p a {t} {n} h l w e =
     let z : m ≡ n = cc in
@@ -162,7 +163,7 @@ pub record Went (s : List ℕ) (c : Call) (t : Tree Span) (n : ℕ) : Type 0 whe
   pub few : place c + count t ≤ n + held c
   pub more : held c ≤ count t
   pub large : heldSize c ≤ size t
-  pub small : length s ≤ 65536 → size t + most * held c ≤ most * count t + heldSize c
+  pub small : length s ≤ maxText → size t + most * held c ≤ most * count t + heldSize c
 
 module _ (level : Level) (s : List ℕ) where
   abbrev Wents : (Call → Parsed) → Type 0

@@ -2,16 +2,20 @@
 use Prim.Native.Nat.{ℕ, _+_, _-_, _≤_, _<_}
 use mathlib.Core.Path.{_≡_, refl, sym, ap, _∙_}
 use mathlib.Core.Bool.{Bool, true, false}
+use mathlib.Core.Logic.{_⊎_, inl, inr, ⊎-elim}
 use mathlib.Core.List.{List}
 use native.Mathlib.Omega.{arith}
 use lib.ListN.{length}
 use borrow.Author.Tests.{le-leb, lt-leb}
 use Rattle.text.specs.Booleans.{choose, and}
+use Rattle.text.proofs.Tests.{lt-or-ge}
 use Rattle.text.proofs.Booleans.{and-both, and-first, and-second, choose-false, choose-true, or-first, or-neither, or-second}
+use Rattle.text.specs.Limits.{maxOpen}
 use Rattle.token.specs.Table.{toks, kind, start, is, word}
 use Rattle.token.specs.Tokens.{pushLiteral}
 use Rattle.table.specs.Tree.{Span, Atom, text, range, peekSlice, leaf, below, stored, atomStored}
-use Rattle.table.specs.declared.Unary.the-variants.{RepMax, RepMinMax}
+use Rattle.table.specs.declared.Unary.{Unary}
+use Rattle.table.specs.declared.Unary.the-variants.{RepMin, RepMax, RepMinMax}
 use Rattle.table.specs.declared.Sort.the-variants.{Str, Insens, Ident, PushLiteral}
 use Rattle.table.specs.declared.End.{End}
 use Rattle.table.specs.declared.End.the-variants.{Open, At}
@@ -26,12 +30,23 @@ use Rattle.structure.specs.declared.PostfixEnd.{PostfixEnd}
 use Rattle.structure.specs.declared.PostfixEnd.the-variants as PostfixEnd
 use Rattle.structure.specs.Tokens.{across, spells, peek}
 use Rattle.structure.specs.Values.{isInteger, integer, number, string, character}
-use Rattle.structure.specs.Structure.{Parsed, got, refused, want, limit, post, notPost, fromNumber, fromComma, postfixAt, sliceTo, slice, pushed, ranged, slices, leafAt}
+use Rattle.structure.specs.Structure.{Parsed, got, refused, want, post, notPost, toMost, fromNumber, fromComma, postfixAt, sliceTo, slice, pushed, ranged, slices, leafAt}
 use Rattle.structure.specs.Answers.{summary, wanted, pastInteger, tailOf}
 use Rattle.structure.proofs.Steps.{inside-is, sees, misses, opened-true, opened-false, another, spells-kind}
 use Rattle.structure.proofs.Wants.{wanted-on, wanted-off, tail-past, tail-bad, tail-ended, sum-refused, sum-got}
 
 -- ---- postfixes
+
+module _ (s : List ℕ) (at : ℕ) (c : Wanted) (f : c ≡ wanted s at 20) where
+  pub most-bare : c ≡ Missing → (y : Refusal) → y ≡ because NotAllowed (start s at) → (v : ℕ → Unary) → PostfixEnd.Bad y ≡ tailOf (toMost s at v)
+  most-bare g y z v = tail-bad (wanted-off notPost s at 20 _ c y f g z)
+
+  module _ (k : ℕ) (g : c ≡ Here k) (d : Wanted) (m : d ≡ wanted s k 3) where
+    pub most-unclosed : d ≡ Missing → (y : Refusal) → y ≡ because NotAllowed (start s k) → (v : ℕ → Unary) → PostfixEnd.Bad y ≡ tailOf (toMost s at v)
+    most-unclosed n y z v = tail-bad (wanted-on notPost s at 20 _ c k f g ∙ wanted-off notPost s k 3 _ d y m n z)
+
+    pub most-closed : (i : ℕ) → d ≡ Here i → (v : ℕ → Unary) → PostfixEnd.Past i ≡ tailOf (toMost s at v)
+    most-closed i n v = tail-past (wanted-on notPost s at 20 _ c k f g ∙ wanted-on notPost s k 3 _ d i m n) refl
 
 module _ (s : List ℕ) (at x : ℕ) (e : x ≡ kind s (at + 1)) where
   pub number-exact : x ≡ 3 → PostfixEnd.Past (at + 1 + 1) ≡ tailOf (fromNumber s at)
@@ -44,67 +59,48 @@ module _ (s : List ℕ) (at x : ℕ) (e : x ≡ kind s (at + 1)) where
     number-open g y z = tail-bad (choose-false (is s (at + 1) 3) _ _ (misses s (at + 1) x 3 e q) ∙ wanted-off notPost s (at + 1) 15 _ c y f g z)
 
     module _ (j : ℕ) (g : c ≡ Here j) (w : ℕ) (h : w ≡ kind s j) where
-      pub number-least : w ≡ 3 → PostfixEnd.Past (j + 1) ≡ tailOf (fromNumber s at)
+      past-comma : fromNumber s at ≡ choose (is s j 3) (λ u. post (RepMin (number s at)) (j + 1)) (λ u. toMost s j (RepMinMax (number s at)))
       unfolding fromNumber
-      number-least l = tail-past (choose-false (is s (at + 1) 3) _ _ (misses s (at + 1) x 3 e q) ∙ wanted-on notPost s (at + 1) 15 _ c j f g ∙ choose-true (is s j 3) _ _ (sees s j w 3 h l)) refl
+      past-comma = choose-false (is s (at + 1) 3) _ _ (misses s (at + 1) x 3 e q) ∙ wanted-on notPost s (at + 1) 15 _ c j f g
 
-      module _ (l : w ≡ 3 → ⊥) (d : Wanted) (m : d ≡ wanted s j 20) where
-        pub number-comma : d ≡ Missing → (y : Refusal) → y ≡ because NotAllowed (start s j) → PostfixEnd.Bad y ≡ tailOf (fromNumber s at)
-        unfolding fromNumber
-        number-comma n y z =
-            tail-bad (choose-false (is s (at + 1) 3) _ _ (misses s (at + 1) x 3 e q) ∙ wanted-on notPost s (at + 1) 15 _ c j f g ∙ choose-false (is s j 3) _ _ (misses s j w 3 h l)
-            ∙ wanted-off notPost s j 20 _ d y m n z)
+      pub number-least : w ≡ 3 → PostfixEnd.Past (j + 1) ≡ tailOf (fromNumber s at)
+      number-least l = tail-past (past-comma ∙ choose-true (is s j 3) _ _ (sees s j w 3 h l)) refl
 
-        module _ (k : ℕ) (n : d ≡ Here k) (b : Wanted) (a : b ≡ wanted s k 3) where
-          rest : fromNumber s at ≡ want notPost s k 3 (λ i. post (RepMinMax (number s at) (number s j)) i)
-          unfolding fromNumber
-          rest =
-              choose-false (is s (at + 1) 3) _ _ (misses s (at + 1) x 3 e q) ∙ wanted-on notPost s (at + 1) 15 _ c j f g ∙ choose-false (is s j 3) _ _ (misses s j w 3 h l)
-              ∙ wanted-on notPost s j 20 _ d k m n
-
-          pub number-unclosed : b ≡ Missing → (y : Refusal) → y ≡ because NotAllowed (start s k) → PostfixEnd.Bad y ≡ tailOf (fromNumber s at)
-          number-unclosed p y z = tail-bad (rest ∙ wanted-off notPost s k 3 _ b y a p z)
-
-          pub number-both : (i : ℕ) → b ≡ Here i → PostfixEnd.Past i ≡ tailOf (fromNumber s at)
-          number-both i p = tail-past (rest ∙ wanted-on notPost s k 3 _ b i a p) refl
+      pub number-most : (w ≡ 3 → ⊥) → (r : PostfixEnd) → ((v : ℕ → Unary) → r ≡ tailOf (toMost s j v)) → r ≡ tailOf (fromNumber s at)
+      number-most l r y = y (RepMinMax (number s at)) ∙ ap tailOf (sym (past-comma ∙ choose-false (is s j 3) _ _ (misses s j w 3 h l)))
 
 module _ (s : List ℕ) (at : ℕ) (c : Wanted) (f : c ≡ wanted s at 15) where
   pub comma-none : c ≡ Missing → (y : Refusal) → y ≡ because NotAllowed (start s at) → PostfixEnd.Bad y ≡ tailOf (fromComma s at)
   unfolding fromComma
   comma-none g y z = tail-bad (wanted-off notPost s at 15 _ c y f g z)
 
-  module _ (j : ℕ) (g : c ≡ Here j) (d : Wanted) (m : d ≡ wanted s j 20) where
-    pub comma-bare : d ≡ Missing → (y : Refusal) → y ≡ because NotAllowed (start s j) → PostfixEnd.Bad y ≡ tailOf (fromComma s at)
-    unfolding fromComma
-    comma-bare n y z = tail-bad (wanted-on notPost s at 15 _ c j f g ∙ wanted-off notPost s j 20 _ d y m n z)
-
-    module _ (k : ℕ) (n : d ≡ Here k) (b : Wanted) (a : b ≡ wanted s k 3) where
-      after-most : fromComma s at ≡ want notPost s k 3 (λ i. post (RepMax (number s j)) i)
-      unfolding fromComma
-      after-most = wanted-on notPost s at 15 _ c j f g ∙ wanted-on notPost s j 20 _ d k m n
-
-      pub comma-unclosed : b ≡ Missing → (y : Refusal) → y ≡ because NotAllowed (start s k) → PostfixEnd.Bad y ≡ tailOf (fromComma s at)
-      comma-unclosed p y z = tail-bad (after-most ∙ wanted-off notPost s k 3 _ b y a p z)
-
-      pub comma-most : (i : ℕ) → b ≡ Here i → PostfixEnd.Past i ≡ tailOf (fromComma s at)
-      comma-most i p = tail-past (after-most ∙ wanted-on notPost s k 3 _ b i a p) refl
+  pub comma-most : (j : ℕ) → c ≡ Here j → (r : PostfixEnd) → ((v : ℕ → Unary) → r ≡ tailOf (toMost s j v)) → r ≡ tailOf (fromComma s at)
+  unfolding fromComma
+  comma-most j g r y = y RepMax ∙ ap tailOf (sym (wanted-on notPost s at 15 _ c j f g))
 
 module _ (s : List ℕ) (at x : ℕ) (e : x ≡ kind s at) where
   pub post-in : (k : ℕ) → 0 < k → x ≡ k → at < length (toks s)
   post-in k h q = inside-is s at k h (sees s at x k e q)
 
-  pub post-opt : x ≡ 12 → PostfixEnd.Past (at + 1) ≡ tailOf (postfixAt s at)
+  pub post-some : 0 < x → at < length (toks s)
+  post-some h = post-in x h refl
+
+  post-opt : x ≡ 12 → PostfixEnd.Past (at + 1) ≡ tailOf (postfixAt s at)
   unfolding postfixAt
   post-opt q = tail-past (choose-true (is s at 12) _ _ (sees s at x 12 e q)) refl
 
-  pub post-rep : x ≡ 13 → PostfixEnd.Past (at + 1) ≡ tailOf (postfixAt s at)
+  post-rep : x ≡ 13 → PostfixEnd.Past (at + 1) ≡ tailOf (postfixAt s at)
   unfolding postfixAt
   post-rep q = tail-past (choose-false (is s at 12) _ _ (another s at x 13 12 e q (λ h. omega arith)) ∙ choose-true (is s at 13) _ _ (sees s at x 13 e q)) refl
 
-  pub post-once : x ≡ 14 → PostfixEnd.Past (at + 1) ≡ tailOf (postfixAt s at)
+  post-once : x ≡ 14 → PostfixEnd.Past (at + 1) ≡ tailOf (postfixAt s at)
   unfolding postfixAt
   post-once q =
       tail-past (choose-false (is s at 12) _ _ (another s at x 14 12 e q (λ h. omega arith)) ∙ choose-false (is s at 13) _ _ (another s at x 14 13 e q (λ h. omega arith)) ∙ choose-true (is s at 14) _ _ (sees s at x 14 e q)) refl
+
+  -- `?`, `*` and `+` are one token
+  pub post-one : 12 ≤ x → x ≤ 14 → PostfixEnd.Past (at + 1) ≡ tailOf (postfixAt s at)
+  post-one l h = ⊎-elim (λ a. post-opt (omega arith)) (λ a. ⊎-elim (λ b. post-rep (omega arith)) (λ b. post-once (omega arith)) (lt-or-ge x 14)) (lt-or-ge x 13)
 
   module _ (q : x ≡ 2) (w : ℕ) (f : w ≡ kind s (at + 1)) where
     braced : postfixAt s at ≡ choose (is s (at + 1) 20) (λ u. fromNumber s (at + 1)) (λ u. fromComma s (at + 1))
@@ -126,11 +122,9 @@ module _ (s : List ℕ) (at x : ℕ) (e : x ≡ kind s at) where
 
   -- ---- a number in a slice
 
-  pub integer-plus : x ≡ 20 → at + 1 ≡ pastInteger s at
-  integer-plus q = sym (choose-true (isInteger s at) _ _ (or-first (is s at 20) (is s at 21) (sees s at x 20 e q)))
-
-  pub integer-minus : (x ≡ 20 → ⊥) → x ≡ 21 → at + 1 ≡ pastInteger s at
-  integer-minus n q = sym (choose-true (isInteger s at) _ _ (or-second (is s at 20) (is s at 21) (sees s at x 21 e q)))
+  pub integer-here : (x ≡ 20) ⊎ (x ≡ 21) → at + 1 ≡ pastInteger s at
+  integer-here (inl q) = sym (choose-true (isInteger s at) _ _ (or-first (is s at 20) (is s at 21) (sees s at x 20 e q)))
+  integer-here (inr q) = sym (choose-true (isInteger s at) _ _ (or-second (is s at 20) (is s at 21) (sees s at x 21 e q)))
 
   pub integer-none : (x ≡ 20 → ⊥) → (x ≡ 21 → ⊥) → at ≡ pastInteger s at
   integer-none n q = sym (choose-false (isInteger s at) _ _ (or-neither (is s at 20) (is s at 21) (misses s at x 20 e n) (misses s at x 21 e q)))
@@ -185,24 +179,24 @@ module _ (o : ℕ) (s : List ℕ) (at : ℕ) (a : Wanted) (f : a ≡ wanted s (a
   module _ (i : ℕ) (g : a ≡ Here i) where
     pub pushed-deep : 1024 ≤ o → (y : Refusal) → y ≡ because TooDeep (start s (at + 1)) → Checked.Refused y ≡ summary (pushed o s at)
     unfolding pushed
-    pushed-deep h y z = ap Checked.Refused z ∙ sum-refused (wanted-on refused s (at + 1) 6 _ a i f g ∙ opened-true o s (at + 1) _ (le-leb limit o h))
+    pushed-deep h y z = ap Checked.Refused z ∙ sum-refused (wanted-on refused s (at + 1) 6 _ a i f g ∙ opened-true o s (at + 1) _ (le-leb maxOpen o h))
 
     module _ (h : o < 1024) (b : Wanted) (l : b ≡ wanted s i 23) where
       pub pushed-empty : b ≡ Missing → (y : Refusal) → y ≡ because NotAllowed (start s i) → Checked.Refused y ≡ summary (pushed o s at)
       unfolding pushed
-      pushed-empty m y z = sum-refused (wanted-on refused s (at + 1) 6 _ a i f g ∙ opened-false o s (at + 1) _ (lt-leb limit o h) ∙ wanted-off refused s i 23 _ b y l m z)
+      pushed-empty m y z = sum-refused (wanted-on refused s (at + 1) 6 _ a i f g ∙ opened-false o s (at + 1) _ (lt-leb maxOpen o h) ∙ wanted-off refused s i 23 _ b y l m z)
 
       module _ (j : ℕ) (m : b ≡ Here j) (c : Wanted) (k : c ≡ wanted s j 7) where
         pub pushed-unclosed : c ≡ Missing → (y : Refusal) → y ≡ because NotAllowed (start s j) → Checked.Refused y ≡ summary (pushed o s at)
         unfolding pushed
         pushed-unclosed n y z =
-            sum-refused (wanted-on refused s (at + 1) 6 _ a i f g ∙ opened-false o s (at + 1) _ (lt-leb limit o h) ∙ wanted-on refused s i 23 _ b j l m ∙ wanted-off refused s j 7 _ c y k n z)
+            sum-refused (wanted-on refused s (at + 1) 6 _ a i f g ∙ opened-false o s (at + 1) _ (lt-leb maxOpen o h) ∙ wanted-on refused s i 23 _ b j l m ∙ wanted-off refused s j 7 _ c y k n z)
 
         pub pushed-read : (n : ℕ) → c ≡ Here n → (v : ℕ) → v ≡ length (string s i) → Checked.Good n 1 v ≡ summary (pushed o s at)
         unfolding pushed
         pushed-read n p v w =
             sum-leaf {p = across s i i} {a = text PushLiteral (string s i)} v
-            (wanted-on refused s (at + 1) 6 _ a i f g ∙ opened-false o s (at + 1) _ (lt-leb limit o h) ∙ wanted-on refused s i 23 _ b j l m ∙ wanted-on refused s j 7 _ c n k p) w
+            (wanted-on refused s (at + 1) 6 _ a i f g ∙ opened-false o s (at + 1) _ (lt-leb maxOpen o h) ∙ wanted-on refused s i 23 _ b j l m ∙ wanted-on refused s j 7 _ c n k p) w
 
 module _ (s : List ℕ) (at : ℕ) (a : Wanted) (f : a ≡ wanted s (at + 1) 22) where
   pub range-undotted : a ≡ Missing → (y : Refusal) → y ≡ because NotAllowed (start s (at + 1)) → Checked.Refused y ≡ summary (ranged s at)
@@ -252,14 +246,18 @@ module _ (o : ℕ) (s : List ℕ) (at : ℕ) where
     unfolding leafAt
     past-words n = choose-false (spells pushLiteral s at) _ _ (spells-kind pushLiteral s at n) ∙ choose-false (slices s at) _ _ (slices-kind s at n) ∙ choose-false (is s at 18) _ _ n
 
-    pub leaf-string : x ≡ 23 → (n : ℕ) → n ≡ length (string s at) → Checked.Good (at + 1) 1 n ≡ summary (leafAt o s at)
+    leaf-string : x ≡ 23 → (n : ℕ) → n ≡ length (string s at) → Checked.Good (at + 1) 1 n ≡ summary (leafAt o s at)
     leaf-string q n w =
         sum-leaf {p = across s at at} {a = text Str (string s at)} n (past-words (another s at x 23 18 e q (λ h. omega arith)) ∙ choose-true (is s at 23) _ _ (sees s at x 23 e q)) w
 
-    pub leaf-insens : x ≡ 24 → (n : ℕ) → n ≡ length (string s at) → Checked.Good (at + 1) 1 n ≡ summary (leafAt o s at)
+    leaf-insens : x ≡ 24 → (n : ℕ) → n ≡ length (string s at) → Checked.Good (at + 1) 1 n ≡ summary (leafAt o s at)
     leaf-insens q n w =
         sum-leaf {p = across s at at} {a = text Insens (string s at)} n
         (past-words (another s at x 24 18 e q (λ h. omega arith)) ∙ choose-false (is s at 23) _ _ (another s at x 24 23 e q (λ h. omega arith)) ∙ choose-true (is s at 24) _ _ (sees s at x 24 e q)) w
+
+    -- both kinds of string
+    pub leaf-literal : 23 ≤ x → x ≤ 24 → (n : ℕ) → n ≡ length (string s at) → Checked.Good (at + 1) 1 n ≡ summary (leafAt o s at)
+    leaf-literal l h n w = ⊎-elim (λ a. leaf-string (omega arith) n w) (λ a. leaf-insens (omega arith) n w) (lt-or-ge x 24)
 
     pub leaf-range : x ≡ 25 → (r : Checked) → r ≡ summary (ranged s at) → r ≡ summary (leafAt o s at)
     leaf-range q r w =

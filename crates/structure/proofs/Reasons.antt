@@ -11,11 +11,12 @@ use lib.ListN.{length}
 use Rattle.text.specs.Booleans.{choose, or}
 use Rattle.text.specs.Digits.{decimalOf}
 use Rattle.text.specs.Words.{push}
-use Rattle.text.specs.declared.Check.{Check}
-use Rattle.text.specs.declared.Check.the-variants as Check
+use Rattle.text.specs.declared.Scan.{Scan}
+use Rattle.text.specs.declared.Scan.the-variants as Scan
 use Rattle.text.specs.declared.Decimal.{Decimal}
 use Rattle.text.specs.declared.Decimal.the-variants as Decimal
 use Rattle.text.proofs.Booleans.{choose-by}
+use Rattle.text.specs.Limits.{maxOpen}
 use Rattle.literal.specs.Escapes.{badEscape}
 use Rattle.token.specs.Table.{toks, start, end, kind, is, word, label}
 use Rattle.token.specs.Tokens.{pushLiteral}
@@ -32,7 +33,7 @@ use Rattle.structure.specs.declared.Fault.the-variants as Fault
 use Rattle.structure.specs.Refusals.{because}
 use Rattle.structure.specs.Tokens.{spells}
 use Rattle.structure.specs.Values.{isInteger, integerOf, literalBytes, repeatFault, peekFault, literalFault, wordFault, numberFault, faultAt, orFault, faultsFrom, faults}
-use Rattle.structure.specs.Structure.{Parsed, got, refused, next, want, limit, opened, Postfix, post, notPost, noPost, fromNumber, fromComma, postfixAt, sliceTo, slice, pushed, ranged, slices, leafAt, postsBy, Call, expr, term, signed, node, chain, posts, body, run, Run, isName, pastMark, pastBar, Ruled, rules, unruled, withRule, Ruling, ruling, noRule, ruleOf, thenRules, ruleFrom, rulesUpTo, docs, grammar}
+use Rattle.structure.specs.Structure.{Parsed, got, refused, next, want, opened, Postfix, post, notPost, noPost, fromNumber, fromComma, postfixAt, sliceTo, slice, pushed, ranged, slices, leafAt, postsBy, Call, expr, term, signed, node, chain, posts, body, run, Run, isName, pastMark, pastBar, Ruled, rules, unruled, withRule, Ruling, ruling, noRule, ruleOf, thenRules, ruleFrom, rulesUpTo, docs, grammar}
 
 -- ---- structure: 4 and 9
 
@@ -58,7 +59,7 @@ module _ (s : List ℕ) where
 
   read-opened : (o i : ℕ) (f : Unit {0} → Parsed) → Read (f tt) → Read (opened o s i f)
   unfolding opened
-  read-opened o i f x = choose-by Read (leb limit o) _ _ (λ e. inr refl) (λ e. x)
+  read-opened o i f x = choose-by Read (leb maxOpen o) _ _ (λ e. inr refl) (λ e. x)
 
   read-next : (m : Parsed) (f : Tree Span → ℕ → Parsed) → Read m → ((t : Tree Span) (n : ℕ) → Read (f t n)) → Read (next m f)
   unfolding next
@@ -203,9 +204,9 @@ module _ (level : Level) (s : List ℕ) where
   of-peek i Decimal.Over = inr (inr (inl refl))
   of-peek i Decimal.NotDigits = tt
 
-  of-literal : (i : ℕ) (c : Check) → Valued (literalFault s i c)
-  of-literal i Check.Good = tt
-  of-literal i (Check.Bad k) = inr (inr (inr (inl refl)))
+  of-literal : (i : ℕ) (c : Scan) → Valued (literalFault s i c)
+  of-literal i Scan.Through = tt
+  of-literal i (Scan.StopsAt k) = inr (inr (inr (inl refl)))
 
   of-word : (l : Level) (i : ℕ) → Valued (wordFault l s i)
   of-word Tagged i = tt

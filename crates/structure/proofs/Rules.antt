@@ -10,6 +10,7 @@ use borrow.Author.Tests.{le-leb, lt-leb, eq-eqb, ne-eqb}
 use Rattle.text.specs.Booleans.{choose, and}
 use Rattle.text.specs.Words.{begins, push}
 use Rattle.text.proofs.Booleans.{and-left, choose-false, choose-true, split}
+use Rattle.text.specs.Limits.{maxText}
 use Rattle.token.specs.Table.{toks, kind, start, end, is, between, word}
 use Rattle.token.proofs.Table.{word-is}
 use Rattle.table.specs.Tree.{Span, Tree, Rule, count, counts, stored, size, ruleStored, rulesStored}
@@ -133,7 +134,7 @@ unfolding ruleStored
 size-rule r = length-append (r .name) (stored (r .tree))
 
 -- where a rule ends, and that it isn't large
-pub rule-went : (level : Level) (s : List ℕ) (at : ℕ) (r : Rule Span) (n : ℕ) → length s ≤ 65536 → ruleFrom level s at ≡ ruling r n
+pub rule-went : (level : Level) (s : List ℕ) (at : ℕ) (r : Rule Span) (n : ℕ) → length s ≤ maxText → ruleFrom level s at ≡ ruling r n
     → (at + count (r .tree) < n) × (n ≤ length (toks s)) × (length (ruleStored r) ≤ most * count (r .tree) + most)
 unfolding ruleFrom
 rule-went level s at r n w e =
@@ -354,7 +355,7 @@ module _ (level : Level) (s : List ℕ) where
       go (suc k) l w =
           sym (w ∙ ap (λ (m : Ruled). plus a b c (summaries m)) (rules-rule k i h (misses s i x 27 e q) ∙ rule-else i k (was-unruled (ruleFrom level s i) r y f g)))
 
-  pub grammar-more : length s ≤ 65536 → (i a b c x : ℕ) → i < length (toks s) → x ≡ kind s i → (x ≡ 27 → ⊥) → RulesInv i a b c
+  pub grammar-more : length s ≤ maxText → (i a b c x : ℕ) → i < length (toks s) → x ≡ kind s i → (x ≡ 27 → ⊥) → RulesInv i a b c
       → (r : Checked) (n k₁ b₁ : ℕ) → r ≡ ruleSummary (ruleFrom level s i) → r ≡ Checked.Good n k₁ b₁ → (i < n) × RulesInv n (a + 1) (b + k₁) (c + b₁)
   grammar-more t i a b c x h e q v r n k₁ b₁ f g = go (v .fuel) (v .enough) (v .same)
     where

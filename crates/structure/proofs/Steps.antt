@@ -10,6 +10,7 @@ use lib.ListN.{length, List·getD-eq-default}
 use borrow.Author.Tests.{eqb-true, eq-eqb, ne-eqb}
 use Rattle.text.specs.Booleans.{choose, and, or}
 use Rattle.text.proofs.Booleans.{and-first, and-left, choose-cong, choose-false, choose-true, split}
+use Rattle.text.specs.Limits.{maxOpen}
 use Rattle.token.specs.Lists.{tok, kindOf}
 use Rattle.token.specs.Table.{toks, tokOf, kind, start, is, word}
 use Rattle.table.specs.Tree.{Span, Tree}
@@ -18,13 +19,13 @@ use Rattle.structure.specs.declared.Refusal.{Refusal}
 use Rattle.structure.specs.declared.Why.the-variants.{NotAllowed, TooDeep}
 use Rattle.structure.specs.Refusals.{because}
 use Rattle.structure.specs.Tokens.{same, spells}
-use Rattle.structure.specs.Structure.{Parsed, got, refused, next, want, limit, opened, Postfix, post, notPost, noPost, postsBy}
+use Rattle.structure.specs.Structure.{Parsed, got, refused, next, want, opened, Postfix, post, notPost, noPost, postsBy}
 
 -- ---- a token of a kind
 
-pub inside : (s : List ℕ) (i : ℕ) → (kind s i ≡ 0 → ⊥) → i < length (toks s)
+pub has-token : (s : List ℕ) (i : ℕ) → (kind s i ≡ 0 → ⊥) → i < length (toks s)
 unfolding kind tokOf
-inside s i h = go (decLt i (length (toks s)))
+has-token s i h = go (decLt i (length (toks s)))
   where
     go : Dec (i < length (toks s)) → i < length (toks s)
     go (yes l) = l
@@ -33,7 +34,7 @@ inside s i h = go (decLt i (length (toks s)))
 -- a token of a kind is no end of the text
 pub inside-is : (s : List ℕ) (i k : ℕ) → 0 < k → is s i k ≡ true → i < length (toks s)
 unfolding is
-inside-is s i k p e = inside s i (λ z. let q : kind s i ≡ k = eqb-true (kind s i) k e in omega arith)
+inside-is s i k p e = has-token s i (λ z. let q : kind s i ≡ k = eqb-true (kind s i) k e in omega arith)
 
 pub sees : (s : List ℕ) (i x k : ℕ) → x ≡ kind s i → x ≡ k → is s i k ≡ true
 unfolding is
@@ -126,21 +127,21 @@ want-post s i k f p e =
     split (is s i k) _ _ (λ v e₀. (v, inside-is s i k p v, e₀)) (λ v e₀. let z : _≡_ {A = ℕ} 0 1 = cc in absurd (omega arith)) e
 
 pub opened-got : (o : ℕ) (s : List ℕ) (i : ℕ) (f : Unit {0} → Parsed) {t : Tree Span} {n : ℕ} → opened o s i f ≡ got t n
-    → (leb limit o ≡ false) × (f tt ≡ got t n)
+    → (leb maxOpen o ≡ false) × (f tt ≡ got t n)
 unfolding opened
-opened-got o s i f e = split (leb limit o) _ _ (λ v e₀. no-tree e₀) (λ v e₀. (v, e₀)) e
+opened-got o s i f e = split (leb maxOpen o) _ _ (λ v e₀. no-tree e₀) (λ v e₀. (v, e₀)) e
 
-pub opened-true : (o : ℕ) (s : List ℕ) (i : ℕ) (f : Unit {0} → Parsed) → leb limit o ≡ true → opened o s i f ≡ refused (because TooDeep (start s i))
+pub opened-true : (o : ℕ) (s : List ℕ) (i : ℕ) (f : Unit {0} → Parsed) → leb maxOpen o ≡ true → opened o s i f ≡ refused (because TooDeep (start s i))
 unfolding opened
-opened-true o s i f e = choose-true (leb limit o) _ _ e
+opened-true o s i f e = choose-true (leb maxOpen o) _ _ e
 
-pub opened-false : (o : ℕ) (s : List ℕ) (i : ℕ) (f : Unit {0} → Parsed) → leb limit o ≡ false → opened o s i f ≡ f tt
+pub opened-false : (o : ℕ) (s : List ℕ) (i : ℕ) (f : Unit {0} → Parsed) → leb maxOpen o ≡ false → opened o s i f ≡ f tt
 unfolding opened
-opened-false o s i f e = choose-false (leb limit o) _ _ e
+opened-false o s i f e = choose-false (leb maxOpen o) _ _ e
 
 pub opened-cong : (o : ℕ) (s : List ℕ) (i : ℕ) (f g : Unit {0} → Parsed) → f tt ≡ g tt → opened o s i f ≡ opened o s i g
 unfolding opened
-opened-cong o s i f g h = choose-cong (leb limit o) _ _ _ _ (λ v. refl) (λ v. h)
+opened-cong o s i f g h = choose-cong (leb maxOpen o) _ _ _ _ (λ v. refl) (λ v. h)
 
 pub posts-cong : (p : Postfix) (f g : Unary → ℕ → Parsed) (x : Unit {0} → Parsed) → ((v : Unary) (n : ℕ) → p ≡ post v n → f v n ≡ g v n) → postsBy p f x ≡ postsBy p g x
 posts-cong (post v n) f g x h = h v n refl

@@ -8,6 +8,7 @@ use lib.Dec.{leb, eqb}
 use lib.ListN.{length}
 use Rattle.text.specs.Booleans.{choose, and, or}
 use Rattle.text.specs.Words.{begins, push}
+use Rattle.text.specs.Limits.{maxOpen}
 use Rattle.token.specs.Table.{toks, start, end, is, word, label}
 use Rattle.token.specs.Tokens.{pushLiteral}
 use Rattle.table.specs.Tree.{Span, text, range, peekSlice, Wrap, plain, nodeTag, Tree, leaf, one, two, Rule, placeOf, endsAt, startsAt}
@@ -38,13 +39,9 @@ next (refused r) f = refused r
 unfoldable pub want : {A : Type 0} → (Refusal → A) → List ℕ → ℕ → ℕ → (ℕ → A) → A
 want fail s i k f = choose (is s i k) (λ u. f (i + 1)) (λ u. fail (because NotAllowed (start s i)))
 
--- 1,024 brackets may be open at once
-abbrev pub limit : ℕ
-limit = 1024
-
 -- a `(` that makes one more open than that is 9
 unfoldable pub opened : ℕ → List ℕ → ℕ → (Unit {0} → Parsed) → Parsed
-opened o s i f = choose (leb limit o) (λ u. refused (because TooDeep (start s i))) f
+opened o s i f = choose (leb maxOpen o) (λ u. refused (because TooDeep (start s i))) f
 
 -- from where one tree starts to where another ends
 abbrev pub over : Tree Span → Tree Span → Span
@@ -78,17 +75,21 @@ pub data Postfix : Type 0 where
   notPost : Refusal → Postfix
   noPost : Postfix
 
+-- a maximum and `}`, from the maximum on
+abbrev pub toMost : List ℕ → ℕ → (ℕ → Unary) → Postfix
+toMost s i v = want notPost s i 20 (λ k. want notPost s k 3 (λ n. post (v (number s i)) n))
+
 -- `{n}`, `{n,}`, `{n, m}`, from the n on
 unfoldable pub fromNumber : List ℕ → ℕ → Postfix
 fromNumber s i =
     choose (is s (i + 1) 3) (λ u. post (RepExact (number s i)) (i + 2))
     (λ u. want notPost s (i + 1) 15
     (λ j. choose (is s j 3) (λ u. post (RepMin (number s i)) (j + 1))
-    (λ u. want notPost s j 20 (λ k. want notPost s k 3 (λ n. post (RepMinMax (number s i) (number s j)) n)))))
+    (λ u. toMost s j (RepMinMax (number s i)))))
 
 -- `{,n}`, from the comma on
 unfoldable pub fromComma : List ℕ → ℕ → Postfix
-fromComma s i = want notPost s i 15 (λ j. want notPost s j 20 (λ k. want notPost s k 3 (λ n. post (RepMax (number s j)) n)))
+fromComma s i = want notPost s i 15 (λ j. toMost s j RepMax)
 
 -- `?`, `*`, `+`, `{n}`, `{n,}`, `{,n}`, `{n, m}`
 unfoldable pub postfixAt : List ℕ → ℕ → Postfix

@@ -11,8 +11,8 @@ use Rattle.text.specs.declared.Decimal.{Decimal}
 use Rattle.text.specs.declared.Decimal.the-variants as Decimal
 use Rattle.text.specs.declared.Sequence.{Sequence}
 use Rattle.text.specs.declared.Sequence.the-variants as Sequence
-use Rattle.text.specs.declared.Check.{Check}
-use Rattle.text.specs.declared.Check.the-variants as Check
+use Rattle.text.specs.declared.Scan.{Scan}
+use Rattle.text.specs.declared.Scan.the-variants as Scan
 use Rattle.literal.specs.Escapes.{escapeOf, unescaped, badEscape}
 use Rattle.literal.specs.declared.Escape.{Escape}
 use Rattle.literal.specs.declared.Escape.the-variants as Escape
@@ -88,9 +88,9 @@ peekFault s i Decimal.Over = faultBy PeekRange (start s i)
 peekFault s i Decimal.NotDigits = Sound
 
 -- an escape of a surrogate or above U+10FFFF, at its backslash
-abbrev pub literalFault : List ℕ → ℕ → Check → Fault
-literalFault s i Check.Good = Sound
-literalFault s i (Check.Bad k) = faultBy NotScalar (start s i + opening s i + k)
+abbrev pub literalFault : List ℕ → ℕ → Scan → Fault
+literalFault s i Scan.Through = Sound
+literalFault s i (Scan.StopsAt k) = faultBy NotScalar (start s i + opening s i + k)
 
 -- plain only: PUSH_LITERAL
 abbrev pub wordFault : Level → List ℕ → ℕ → Fault

@@ -15,7 +15,7 @@ use Rattle.table.specs.declared.Leaf.the-variants.{Text}
 use Rattle.table.specs.declared.Node.the-variants.{Tip}
 use Rattle.table.specs.declared.First.the-variants.{At, Nowhere}
 use Rattle.table.specs.Record.{nodeSize, part, nodeOf, nodeAt}
-use Rattle.table.specs.Check.{isGood, isUtf8, fineText, inStore, goodLeaf, verdict}
+use Rattle.table.specs.Check.{isThrough, isUtf8, fineText, inStore, goodLeaf, verdict}
 use Rattle.table.proofs.Texts.{text-in}
 use Rattle.table.proofs.Verdicts.{verdict-tip, verdict-tip-out}
 
@@ -32,7 +32,7 @@ drop-low (suc n) (x ∷ xs) h k = drop-low n xs (λ j. h (suc j)) k
 
 low-utf8 : (xs : List ℕ) → Low xs → isUtf8 xs ≡ true
 unfolding isUtf8
-low-utf8 xs h = ap isGood (low-good xs h)
+low-utf8 xs h = ap isThrough (low-good xs h)
 
 -- kinds 1, 2 and 18
 abbrev pub stringKind : ℕ → Bool

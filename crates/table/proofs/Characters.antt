@@ -1,4 +1,4 @@
--- Laws of characters. Good bytes before a text change nothing of what is good behind them, so that a place behind whole characters parts
+-- Laws of characters. Through bytes before a text change nothing of what is good behind them, so that a place behind whole characters parts
 -- a line into two that are UTF-8.
 use mathlib.Core.Path.{_≡_, refl, sym, ap, _∙_}
 use mathlib.Core.Bool.{Bool, true, false}
@@ -11,8 +11,8 @@ use lib.Seq.{drop-length, drop-append-le, drop-drop, take-add}
 use Rattle.text.specs.Booleans.{choose, and, within}
 use Rattle.text.specs.Scans.{later, soughtBy, sought}
 use Rattle.text.specs.Utf8.{scalar, leadOf, gathered, judged, sequenceBy, charOf, lookBy, seqLook, firstBad, encoded}
-use Rattle.text.specs.declared.Check.{Check}
-use Rattle.text.specs.declared.Check.the-variants.{Good, Bad}
+use Rattle.text.specs.declared.Scan.{Scan}
+use Rattle.text.specs.declared.Scan.the-variants.{Through, StopsAt}
 use Rattle.text.specs.declared.Lead.{Lead}
 use Rattle.text.specs.declared.Lead.the-variants.{Row, Stray}
 use Rattle.text.specs.declared.Look.{Look}
@@ -47,9 +47,9 @@ found-before ys (two a b t e l s) = two a b t e l s
 found-before ys (three a b t u e l s) = three a b t u e l s
 found-before ys (four a b t u v e l s) = four a b t u v e l s
 
-later-good : (k : ℕ) (r : Check) → later k r ≡ Good → r ≡ Good
-later-good k Good e = refl
-later-good k (Bad i) e = let z : _≡_ {A = ℕ} 0 1 = cc in absurd (omega arith)
+later-good : (k : ℕ) (r : Scan) → later k r ≡ Through → r ≡ Through
+later-good k Through e = refl
+later-good k (StopsAt i) e = let z : _≡_ {A = ℕ} 0 1 = cc in absurd (omega arith)
 
 -- a character and what stands behind it
 step : (s : List ℕ) (c n : ℕ) → charOf s ≡ Is c n → firstBad s ≡ later n (firstBad (drop n s))
@@ -60,12 +60,12 @@ step s c n e =
     let h : 0 < length s = omega (arith, d .some, d .inside) in
     sym (later-zero (sought seqLook 0 s)) ∙ look-step s 0 c n h e ∙ rw z
 
-broken : (x : ℕ) (xs : List ℕ) → charOf (x ∷ xs) ≡ Broken → firstBad (x ∷ xs) ≡ Good → ⊥
+broken : (x : ℕ) (xs : List ℕ) → charOf (x ∷ xs) ≡ Broken → firstBad (x ∷ xs) ≡ Through → ⊥
 unfolding firstBad sought
-broken x xs e g = let w : Bad 0 ≡ Good = sym (ap (λ q. soughtBy (lookBy q) (λ n. sought seqLook n xs)) e) ∙ g in let z : _≡_ {A = ℕ} 0 1 = cc in omega arith
+broken x xs e g = let w : StopsAt 0 ≡ Through = sym (ap (λ q. soughtBy (lookBy q) (λ n. sought seqLook n xs)) e) ∙ g in let z : _≡_ {A = ℕ} 0 1 = cc in omega arith
 
 abbrev Before : List ℕ → List ℕ → Type 0
-Before xs ys = firstBad xs ≡ Good → firstBad (xs ++ ys) ≡ later (length xs) (firstBad ys)
+Before xs ys = firstBad xs ≡ Through → firstBad (xs ++ ys) ≡ later (length xs) (firstBad ys)
 
 before-step : (f : ℕ) (ys : List ℕ) → ((zs : List ℕ) → length zs ≤ f → Before zs ys) → (xs : List ℕ) → length xs ≤ suc f → Before xs ys
 before-step f ys ih [] l g = sym (later-zero (firstBad ys))
@@ -76,7 +76,7 @@ before-step f ys ih (x ∷ xs) l g = by (charOf (x ∷ xs)) refl
         let d = decoded (x ∷ xs) c n e in
         let h : length (drop n (x ∷ xs)) ≡ length (x ∷ xs) - n = length-drop n (x ∷ xs) in
         let k : n + length (drop n (x ∷ xs)) ≡ length (x ∷ xs) = omega (arith, d .inside) in
-        let r : firstBad (drop n (x ∷ xs)) ≡ Good = later-good n _ (sym (step (x ∷ xs) c n e) ∙ g) in
+        let r : firstBad (drop n (x ∷ xs)) ≡ Through = later-good n _ (sym (step (x ∷ xs) c n e) ∙ g) in
         step ((x ∷ xs) ++ ys) c n (found-read (found-before ys (found (x ∷ xs) c n e)))
         ∙ ap (λ t. later n (firstBad t)) (drop-append-le n (x ∷ xs) ys (d .inside))
         ∙ ap (later n) (ih (drop n (x ∷ xs)) (omega (arith, d .some)) r)
@@ -92,7 +92,7 @@ good-before zero xs ys l g = before-step zero ys (λ zs m. none zs m) xs (omega 
     none (z ∷ zs) m h = absurd (omega arith)
 good-before (suc f) xs ys l g = before-step f ys (λ zs m. good-before f zs ys m) xs l g
 
-encoded-good : (c : ℕ) → scalar c ≡ true → firstBad (encoded c) ≡ Good
+encoded-good : (c : ℕ) → scalar c ≡ true → firstBad (encoded c) ≡ Through
 unfolding firstBad sought
 encoded-good c s =
     let e : charOf (encoded c) ≡ Is c (length (encoded c)) = ap charOf (sym (append-nil (encoded c))) ∙ encoded-read c [] s in
@@ -101,15 +101,15 @@ encoded-good c s =
 -- a place that parts a line between two characters
 pub record Edge (line : List ℕ) (at : ℕ) : Type 0 where
   pub inside : at ≤ length line
-  pub front : firstBad (take at line) ≡ Good
-  pub back : firstBad (drop at line) ≡ Good
+  pub front : firstBad (take at line) ≡ Through
+  pub back : firstBad (drop at line) ≡ Through
 
-pub edge-first : (line : List ℕ) → firstBad line ≡ Good → Edge line 0
+pub edge-first : (line : List ℕ) → firstBad line ≡ Through → Edge line 0
 unfolding firstBad sought
 edge-first line g = record { inside = omega arith; front = refl; back = g }
 
 module _ (line : List ℕ) (at : ℕ) (t : Edge line at) where
-  pub edge-more : (n : ℕ) → at + n ≤ length line → firstBad (take n (drop at line)) ≡ Good → Edge line (at + n)
+  pub edge-more : (n : ℕ) → at + n ≤ length line → firstBad (take n (drop at line)) ≡ Through → Edge line (at + n)
   edge-more n l g =
       let a : length (take n (drop at line)) ≡ n = simp (length-take, length-drop) (omega arith) in
       record {

@@ -9,9 +9,9 @@ use lib.ListN.{length, take, drop}
 use borrow.Author.Tests.{eq-eqb, ne-eqb, eqb-true}
 use Rattle.text.specs.Booleans.{and}
 use Rattle.text.specs.Words.{begins}
-use Rattle.text.specs.declared.Check.{Check}
-use Rattle.text.specs.declared.Check.the-variants.{Good, Bad}
-use Rattle.text.proofs.Booleans.{and-both, and-first, and-true}
+use Rattle.text.specs.declared.Scan.{Scan}
+use Rattle.text.specs.declared.Scan.the-variants.{Through, StopsAt}
+use Rattle.text.proofs.Booleans.{and-both, and-first, and-true, not-false}
 use Rattle.table.specs.declared.Head.{Head}
 use Rattle.table.specs.declared.Named.{Named}
 use Rattle.table.specs.declared.Named.the-variants.{By, Nobody}
@@ -57,7 +57,7 @@ same-equal xs ys e = let b = and-true (eqb (length xs) (length ys)) (begins xs y
 -- ---- the search
 
 module _ (rs st b : List ℕ) where
-  pub named-at : (n k : ℕ) {t : Bool} → n ≡ rulesIn rs → k < n → lowest (otherName rs st b) k ≡ Good → t ≡ sameText (nameAt rs st k) b → t ≡ true → By k ≡ ruleNamed rs st b
+  pub named-at : (n k : ℕ) {t : Bool} → n ≡ rulesIn rs → k < n → lowest (otherName rs st b) k ≡ Through → t ≡ sameText (nameAt rs st k) b → t ≡ true → By k ≡ ruleNamed rs st b
   unfolding ruleNamed otherName
   named-at n k m l h e t = let z : otherName rs st b k ≡ false = ap not (sym e ∙ t) in sym (ap namedBy (lowest-bad (otherName rs st b) (rulesIn rs) k (omega arith) h z))
 
@@ -65,7 +65,7 @@ module _ (rs st b : List ℕ) where
   unfolding otherName
   other-at k e t = ap not (sym e ∙ t)
 
-  pub named-none : (n k : ℕ) → n ≡ rulesIn rs → k ≤ n → n ≤ k → lowest (otherName rs st b) k ≡ Good → Nobody ≡ ruleNamed rs st b
+  pub named-none : (n k : ℕ) → n ≡ rulesIn rs → k ≤ n → n ≤ k → lowest (otherName rs st b) k ≡ Through → Nobody ≡ ruleNamed rs st b
   unfolding ruleNamed
   named-none n k m l g h = let e : rulesIn rs ≡ k = omega arith in sym (ap (λ x. namedBy (lowest (otherName rs st b) x)) e ∙ ap namedBy h)
 
@@ -74,15 +74,11 @@ pub named-rule : (rs st b : List ℕ) (k : ℕ) → ruleNamed rs st b ≡ By k �
 unfolding ruleNamed otherName
 named-rule rs st b k e =
     let f = lowest-fails (otherName rs st b) (rulesIn rs) k (by-bad (lowest (otherName rs st b) (rulesIn rs)) e) in
-    (f .0, same-equal (nameAt rs st k) b (not-not (sameText (nameAt rs st k) b) (f .1)))
+    (f .0, same-equal (nameAt rs st k) b (not-false (sameText (nameAt rs st k) b) (f .1)))
   where
-    by-bad : (r : Check) → namedBy r ≡ By k → r ≡ Bad k
-    by-bad Good w = let z : _≡_ {A = ℕ} 0 1 = cc in absurd (omega arith)
-    by-bad (Bad j) w = let q : j ≡ k = cc in ap Bad q
-
-    not-not : (t : Bool) → not t ≡ false → t ≡ true
-    not-not true w = refl
-    not-not false w = let z : _≡_ {A = ℕ} 0 1 = cc in absurd (omega arith)
+    by-bad : (r : Scan) → namedBy r ≡ By k → r ≡ StopsAt k
+    by-bad Through w = let z : _≡_ {A = ℕ} 0 1 = cc in absurd (omega arith)
+    by-bad (StopsAt j) w = let q : j ≡ k = cc in ap StopsAt q
 
 module _ (rs st : List ℕ) (k : ℕ) (h : Head) (e : h ≡ headAt rs k) where
   pub head-name : take (h .offset + h .length - h .offset) (drop (h .offset) st) ≡ nameAt rs st k

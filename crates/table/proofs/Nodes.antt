@@ -19,7 +19,7 @@ use Rattle.table.specs.declared.Node.{Node}
 use Rattle.table.specs.declared.Node.the-variants.{Tip, One, Two, Unknown}
 use Rattle.table.specs.Tree.{Span, Tree, leaf, one, two, Atom, Wrap}
 use Rattle.table.specs.Record.{nodeAt, spanAt, Row, tip, wrap, pair, atomOf, wrapOf, rowOf, rowAt, column, entry, blank, treeOf, treeBy, treeAt, firstOf, firstBy, firstAt}
-use Rattle.table.specs.Check.{goodLeaf, goodOp, goodNode, goodAt, Sound}
+use Rattle.table.specs.Check.{goodLeaf, goodOp, goodNode, goodAt, SoundUpTo}
 use Rattle.table.proofs.Columns.{length-column, column-at, column-all}
 
 -- ---- first nodes
@@ -97,7 +97,7 @@ module _ (ns st : List ℕ) (i : ℕ) where
 
   -- ---- nodes of which those up to i are not false
 
-  module _ (s : Sound ns st (i + 1)) where
+  module _ (s : SoundUpTo ns st (i + 1)) where
     is-good : {x : Node} → nodeAt ns i ≡ x → goodNode ns st i x ≡ true
     is-good e = sym (good-is e) ∙ s .good i (omega arith)
 
@@ -125,5 +125,5 @@ module _ (ns st : List ℕ) (i : ℕ) where
     pub sound-tree-two : {j : Join} {a b : ℕ} → nodeAt ns i ≡ Two j a b → treeAt ns st i ≡ two (spanAt ns i) j (treeAt ns st a) (treeAt ns st b)
     sound-tree-two e = let b = sound-two e in tree-two e (b .2) (omega arith)
 
-pub sound-below : {ns st : List ℕ} {n : ℕ} (m : ℕ) → m ≤ n → Sound ns st n → Sound ns st m
+pub sound-below : {ns st : List ℕ} {n : ℕ} (m : ℕ) → m ≤ n → SoundUpTo ns st n → SoundUpTo ns st m
 sound-below m h s = record { whole = omega (arith, s .whole); good = λ k l. s .good k (omega arith) }

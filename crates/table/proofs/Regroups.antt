@@ -8,7 +8,7 @@ use lib.Dec.{leb}
 use lib.ListN.{length, length-append}
 use borrow.Author.Tests.{not-true}
 use Rattle.text.specs.Booleans.{choose, and}
-use Rattle.text.proofs.Booleans.{and-both, and-true, choose-false}
+use Rattle.text.proofs.Booleans.{and-assoc, and-both, and-one, and-true, choose-false}
 use Rattle.table.specs.declared.Join.{Join}
 use Rattle.table.specs.declared.Join.the-variants.{Seq, Choice}
 use Rattle.table.specs.Tree.{Atom, Wrap, plain, nodeTag, Tree, leaf, one, two, Rule, placed, below, count, counts, atomStored, wrapStored, stored, ruleStored, rulesStored, Nowhere, aside, ruleBy}
@@ -50,10 +50,6 @@ unfolding itemsStored
 stored-append [] ys = refl
 stored-append (x ∷ xs) ys = ap (λ z. itemStored x ++ z) (stored-append xs ys) ∙ sym (append-assoc (itemStored x) (itemsStored xs) (itemsStored ys))
 
-and-assoc : (x y z : Bool) → and x (and y z) ≡ and (and x y) z
-and-assoc true y z = refl
-and-assoc false y z = refl
-
 fine-append : (xs ys : List Item) → itemsFine (xs ++ ys) ≡ and (itemsFine xs) (itemsFine ys)
 unfolding itemsFine
 fine-append [] ys = refl
@@ -76,11 +72,7 @@ module _ {P : Type 0} where
 
   items-fine : (t : Tree P) → fine t ≡ itemsFine (items t)
   unfolding fine items itemsFine itemFine
-  items-fine (leaf s a) = and-one (fineAtom a)
-    where
-      and-one : (x : Bool) → x ≡ and x true
-      and-one true = refl
-      and-one false = refl
+  items-fine (leaf s a) = sym (and-one (fineAtom a))
   items-fine (one s o t) = ap (and (fineWrap o)) (items-fine t)
   items-fine (two s j a b) =
       ap (λ z. and z (fine b)) (items-fine a) ∙ ap (and (itemsFine (items a))) (items-fine b) ∙ sym (fine-append (items a) (items b))

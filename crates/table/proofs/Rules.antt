@@ -12,9 +12,10 @@ use borrow.Author.Tests.{le-leb, lt-ltb, eq-eqb}
 use Rattle.table.specs.Tree.{Span, Rule, below, count, counts, stored, ruleStored, rulesStored}
 use Rattle.table.specs.Record.{nodeSize, ruleSize, nodesIn, rulesIn, part, spanAt, rowAt, firstAt, nameOffset, nameLength, nameAt, markAt, rootAt, nameSpan, RuleRow, ruleRowAt, ruleMade, ruleAt, rulesFrom, rulesOf}
 use Rattle.table.specs.Flat.{flat, ruleRecord, nodesFrom, recordsFrom, nodesOf, recordsOf, Lies, ruleRow, RulesLie}
-use Rattle.table.specs.Check.{maxNodes, maxRules, maxStore, isName, goodAt, beginAt, goodName, goodRoot, goodRule, fine, fineRule, fineRules, Valid}
+use Rattle.table.specs.Check.{isName, goodAt, beginAt, goodName, goodRoot, goodRule, fine, fineRule, fineRules, Valid}
 use Rattle.text.proofs.Tests.{lt-or-ge}
 use Rattle.text.proofs.Booleans.{and-both, and-true}
+use Rattle.text.specs.Limits.{maxNodes, maxRules, maxStore}
 use Rattle.table.proofs.Held.{Held, held-whole, held-left, held-right, held-inside, held-part, held-at}
 use Rattle.table.proofs.Flats.{span-is, length-flat, Holds, lies-flat}
 use Rattle.table.proofs.Trees.{lies-tree, lies-alike, read, flat-first, flat-good}

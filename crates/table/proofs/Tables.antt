@@ -10,15 +10,16 @@ use borrow.Author.Tests.{le-leb, eq-eqb, ne-eqb, leb-true, ltb-true, eqb-true}
 use Rattle.table.specs.Tree.{Span, Rule, below, count, counts, rulesStored}
 use Rattle.table.specs.Record.{nodeSize, ruleSize, nodesIn, rulesIn, treeAt, firstAt, nameOffset, nameLength, nameAt, markAt, rootAt, nameSpan, ruleRowAt, ruleAt, rulesFrom, rulesOf}
 use Rattle.table.specs.Flat.{nodesOf, recordsOf, ruleRow, RulesLie, Alike}
-use Rattle.table.specs.Check.{maxNodes, maxRules, maxStore, inStore, isName, goodAt, beginAt, goodName, goodRoot, goodRule, lowest, orElse, leftOver, shaped, tables, Numbered, numbered, fine, fineRule, fineRules, Sound, Valid}
+use Rattle.table.specs.Check.{inStore, isName, goodAt, beginAt, goodName, goodRoot, goodRule, lowest, orElse, leftOver, shaped, tables, Numbered, numbered, fine, fineRule, fineRules, SoundUpTo, Valid}
 use Rattle.table.proofs.Trees.{read}
 use Rattle.table.proofs.Nodes.{sound-below}
 use Rattle.table.proofs.Lowest.{lowest-good, lowest-all}
 use Rattle.table.proofs.Rules.{length-nodes, length-records, rules-many, nodes-alike, rules-alike, flat-lie, flat-valid}
 use Rattle.text.specs.Booleans.{choose}
-use Rattle.text.specs.declared.Check.{Check}
-use Rattle.text.specs.declared.Check.the-variants.{Good, Bad}
+use Rattle.text.specs.declared.Scan.{Scan}
+use Rattle.text.specs.declared.Scan.the-variants.{Through, StopsAt}
 use Rattle.text.proofs.Booleans.{and-both, and-true, choose-false, choose-true}
+use Rattle.text.specs.Limits.{maxNodes, maxRules, maxStore}
 use Rattle.table.specs.declared.TableCheck.{TableCheck}
 use Rattle.table.specs.declared.TableCheck.the-variants as Table
 
@@ -50,7 +51,7 @@ module _ {ns rs st : List ℕ} (v : Valid ns rs st) where
   pub sound-at : (k : ℕ) → k < rulesIn rs → RuleSound ns rs st k
   sound-at k l = rule-sound ns rs st k (v .rules k l)
 
-  pub sound-root : (k : ℕ) → k < rulesIn rs → Sound ns st (rootAt rs k + 1)
+  pub sound-root : (k : ℕ) → k < rulesIn rs → SoundUpTo ns st (rootAt rs k + 1)
   sound-root k l = let s = sound-at k l in let b : rootAt rs k + 1 ≤ nodesIn ns = omega (arith, s .rooted) in sound-below (rootAt rs k + 1) b (v .nodes)
 
   row-of : (k : ℕ) → beginAt rs k + below (treeAt ns st (rootAt rs k)) ≡ rootAt rs k → ruleRowAt rs st k ≡ ruleRow (beginAt rs k) (ruleAt ns rs st k)
@@ -136,17 +137,17 @@ module _ (ns rs st : List ℕ) where
     unfolding tables
     past-shape = choose-true (shaped ns rs st) _ _ e
 
-    pub tables-node : {i : ℕ} → lowest (goodAt ns st) (nodesIn ns) ≡ Bad i → tables ns rs st ≡ Table.Node i
+    pub tables-node : {i : ℕ} → lowest (goodAt ns st) (nodesIn ns) ≡ StopsAt i → tables ns rs st ≡ Table.Node i
     tables-node h = past-shape ∙ rw h
 
-    module _ (g : lowest (goodAt ns st) (nodesIn ns) ≡ Good) where
+    module _ (g : lowest (goodAt ns st) (nodesIn ns) ≡ Through) where
       past-nodes : tables ns rs st ≡ orElse (lowest (goodRule ns rs st) (rulesIn rs)) Table.Rule (λ u. leftOver ns rs)
       past-nodes = past-shape ∙ rw g
 
-      pub tables-rule : {i : ℕ} → lowest (goodRule ns rs st) (rulesIn rs) ≡ Bad i → tables ns rs st ≡ Table.Rule i
+      pub tables-rule : {i : ℕ} → lowest (goodRule ns rs st) (rulesIn rs) ≡ StopsAt i → tables ns rs st ≡ Table.Rule i
       tables-rule h = past-nodes ∙ rw h
 
-      module _ (h : lowest (goodRule ns rs st) (rulesIn rs) ≡ Good) where
+      module _ (h : lowest (goodRule ns rs st) (rulesIn rs) ≡ Through) where
         past-rules : tables ns rs st ≡ leftOver ns rs
         past-rules = past-nodes ∙ rw h
 
@@ -158,9 +159,9 @@ module _ (ns rs st : List ℕ) where
 
 -- ---- a good check is what makes tables valid
 
-or-else-good : (c : Check) (f : ℕ → TableCheck) (g : Unit {0} → TableCheck) → ((i : ℕ) → f i ≡ Table.Good → ⊥) → orElse c f g ≡ Table.Good → (c ≡ Good) × (g tt ≡ Table.Good)
-or-else-good Good f g n e = (refl, e)
-or-else-good (Bad i) f g n e = absurd (n i e)
+or-else-good : (c : Scan) (f : ℕ → TableCheck) (g : Unit {0} → TableCheck) → ((i : ℕ) → f i ≡ Table.Good → ⊥) → orElse c f g ≡ Table.Good → (c ≡ Through) × (g tt ≡ Table.Good)
+or-else-good Through f g n e = (refl, e)
+or-else-good (StopsAt i) f g n e = absurd (n i e)
 
 choose-good : (b : Bool) (x y : TableCheck) → (y ≡ Table.Good → ⊥) → choose b (λ u. x) (λ u. y) ≡ Table.Good → (b ≡ true) × (x ≡ Table.Good)
 choose-good true x y n e = (refl, e)
@@ -206,10 +207,6 @@ valid-tables ns rs st v =
 pub flat-passes : (us : List (Rule Span)) → fineRules us ≡ true → counts us ≤ maxNodes → length us ≤ maxRules → length (rulesStored us) ≤ maxStore
     → tables (nodesOf us) (recordsOf us) (rulesStored us) ≡ Table.Good
 flat-passes us f n m s = valid-tables (nodesOf us) (recordsOf us) (rulesStored us) (flat-valid us f n m s)
-
--- two answers that meet the promise are equal
-pub check-one : (ns rs st : List ℕ) (x y : TableCheck) → x ≡ tables ns rs st → y ≡ tables ns rs st → x ≡ y
-check-one ns rs st x y d e = d ∙ sym e
 
 -- number and place decide the answer
 pub numbered-one : (x y : TableCheck) → numbered x ≡ numbered y → x ≡ y

@@ -17,12 +17,12 @@ use Rattle.table.specs.declared.Op.the-variants.{NodeTag}
 use Rattle.table.specs.Record.{part, atomOf, wrapOf}
 use Rattle.text.specs.Utf8.{scalar, firstBad}
 use Rattle.text.specs.Words.{wordOf}
-use Rattle.text.specs.declared.Check.{Check}
-use Rattle.text.specs.declared.Check.the-variants.{Good, Bad}
+use Rattle.text.specs.declared.Scan.{Scan}
+use Rattle.text.specs.declared.Scan.the-variants.{Through, StopsAt}
 use Rattle.text.specs.declared.Word.{Word}
 use Rattle.text.specs.declared.Word.the-variants as Word
 use Rattle.text.proofs.Booleans.{and-true}
-use Rattle.table.specs.Check.{isGood, mayName, mayTag, isUtf8, isName, isLabel, fineText, fineAtom, fineWrap, inStore, leafInside, opInside, goodLeaf, goodOp}
+use Rattle.table.specs.Check.{isThrough, mayName, mayTag, isUtf8, isName, isLabel, fineText, fineAtom, fineWrap, inStore, leafInside, opInside, goodLeaf, goodOp}
 
 module _ (st : List ℕ) where
   pub leaf-inside : (k : Sort) (p n : ℕ) → goodLeaf st (Text k p n) ≡ true → p + n ≤ length st
@@ -74,9 +74,9 @@ leb-sub p n m h = by (leb n (m - p)) (leb (p + n) m) refl refl
 
 -- ---- what fine texts are
 
-good-is : (c : Check) → isGood c ≡ true → c ≡ Good
-good-is Good e = refl
-good-is (Bad i) e = let z : _≡_ {A = ℕ} 0 1 = cc in absurd (omega arith)
+good-is : (c : Scan) → isThrough c ≡ true → c ≡ Through
+good-is Through e = refl
+good-is (StopsAt i) e = let z : _≡_ {A = ℕ} 0 1 = cc in absurd (omega arith)
 
 name-word : (w : Word) → mayName w ≡ true → w ≡ Word.Name
 name-word Word.Name e = refl
@@ -89,7 +89,7 @@ label-word Word.Push e = inr refl
 label-word Word.Neither e = let z : _≡_ {A = ℕ} 0 1 = cc in absurd (omega arith)
 
 module _ (b : List ℕ) where
-  pub utf8-is : isUtf8 b ≡ true → firstBad b ≡ Good
+  pub utf8-is : isUtf8 b ≡ true → firstBad b ≡ Through
   unfolding isUtf8
   utf8-is e = good-is (firstBad b) e
 

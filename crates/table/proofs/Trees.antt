@@ -17,7 +17,7 @@ use Rattle.table.specs.declared.Node.the-variants.{Tip, One, Two, Unknow
 use Rattle.table.specs.Tree.{Span, Atom, text, range, peekSlice, Wrap, plain, nodeTag, Tree, leaf, one, two, below, count, atomStored, wrapStored, size}
 use Rattle.table.specs.Record.{nodeAt, spanAt, wrap, pair, atomOf, wrapOf, rowAt, treeAt, firstAt}
 use Rattle.table.specs.Flat.{leafAt, opAt, Lies}
-use Rattle.table.specs.Check.{fineAtom, fineWrap, goodLeaf, goodOp, goodAt, fine, Sound}
+use Rattle.table.specs.Check.{fineAtom, fineWrap, goodLeaf, goodOp, goodAt, fine, SoundUpTo}
 use Rattle.text.proofs.Tests.{lt-or-ge}
 use Rattle.text.proofs.Booleans.{and-both, and-true}
 use Rattle.table.proofs.Nodes.{first-tip, first-one, first-two, row-is, row-tree-tip, row-tree-one, row-tree-two, tree-tip, tree-one, tree-two, good-is, sound-tip, sound-one, sound-two, sound-unknown, sound-below}
@@ -87,7 +87,7 @@ read-as : (ns st : List ℕ) (r i : ℕ) (t : Tree Span) → firstAt ns r ≡ i 
 read-as ns st r i t e f h g k =
     record { lies = rw (e, f) h; root = rw (e, f) g; is-fine = rw f k }
 
-module _ (ns st : List ℕ) (r : ℕ) (s : Sound ns st (r + 1)) where
+module _ (ns st : List ℕ) (r : ℕ) (s : SoundUpTo ns st (r + 1)) where
   read-tip : (l : Leaf) → nodeAt ns r ≡ Tip l → Read ns st r
   unfolding fine
   read-tip l e =
@@ -119,20 +119,20 @@ module _ (ns st : List ℕ) (r : ℕ) (s : Sound ns st (r + 1)) where
       (and-both (fine u) (fine v) (h .is-fine) (g .is-fine))
 
 -- by the shape of the node, the trees of those before it being read
-read-node : (ns st : List ℕ) (r : ℕ) → Sound ns st (r + 1) → ((k : ℕ) → k < r → Read ns st k) → (x : Node) → nodeAt ns r ≡ x → Read ns st r
+read-node : (ns st : List ℕ) (r : ℕ) → SoundUpTo ns st (r + 1) → ((k : ℕ) → k < r → Read ns st k) → (x : Node) → nodeAt ns r ≡ x → Read ns st r
 read-node ns st r s h (Tip l) e = read-tip ns st r s l e
 read-node ns st r s h (One o c) e = let b = sound-one ns st r s e in read-one ns st r s o c e (h c (omega arith))
 read-node ns st r s h (Two j a b) e = let w = sound-two ns st r s e in read-two ns st r s j a b e (h a (w .2)) (h b (omega arith))
 read-node ns st r s h Unknown e = absurd (sound-unknown ns st r s e)
 
-read-below : (ns st : List ℕ) (n : ℕ) → Sound ns st n → (r : ℕ) → r < n → Read ns st r
+read-below : (ns st : List ℕ) (n : ℕ) → SoundUpTo ns st n → (r : ℕ) → r < n → Read ns st r
 read-below ns st zero s r l = absurd (omega arith)
 read-below ns st (suc n) s r l = ⊎-elim
     (λ e. read-node ns st r (sound-below (r + 1) (omega arith) s) (λ k m. read-below ns st n (sound-below n (omega arith) s) k (omega arith)) (nodeAt ns r) refl)
     (λ m. read-below ns st n (sound-below n (omega arith) s) r (omega arith))
     (eq-or-lt-of-le l)
 
-pub read : {ns st : List ℕ} {n : ℕ} → Sound ns st n → (r : ℕ) → r < n → Read ns st r
+pub read : {ns st : List ℕ} {n : ℕ} → SoundUpTo ns st n → (r : ℕ) → r < n → Read ns st r
 read {ns} {st} {n} s r l = read-below ns st n s r l
 
 -- ---- the records of a fine tree aren't false

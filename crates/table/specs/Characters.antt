@@ -1,20 +1,20 @@
 -- Characters and tests, for crates that see the tables alone: passed on, and two answers under names that those can say.
-use Rattle.text.specs.declared.Check.{Check}
-use Rattle.text.specs.declared.Check.the-variants as Check
+use Rattle.text.specs.declared.Scan.{Scan}
+use Rattle.text.specs.declared.Scan.the-variants as Scan
 use Rattle.text.specs.declared.Sequence.{Sequence}
 use Rattle.text.specs.declared.Sequence.the-variants as Sequence
 use Rattle.table.specs.declared.Fault.{Fault}
 use Rattle.table.specs.declared.Fault.the-variants as Fault
 use Rattle.table.specs.declared.Character.{Character}
 use Rattle.table.specs.declared.Character.the-variants as Character
-pub use Rattle.text.specs.declared.Check.the-variants.{Good, Bad}
+pub use Rattle.text.specs.declared.Scan.the-variants.{Through, StopsAt}
 unfoldable pub use Rattle.text.specs.Utf8.{charOf, firstBad}
 pub use Rattle.text.specs.Booleans.{choose, and, or, within, nextIs}
 unfoldable pub use Rattle.text.specs.Splice.{fronted}
 
-abbrev pub faultOf : Check → Fault
-faultOf Check.Good = Fault.None
-faultOf (Check.Bad i) = Fault.At i
+abbrev pub faultOf : Scan → Fault
+faultOf Scan.Through = Fault.None
+faultOf (Scan.StopsAt i) = Fault.At i
 
 abbrev pub character : Sequence → Character
 character (Sequence.Is c n) = Character.Is c n

@@ -8,10 +8,11 @@ use lib.ListN.{length, getD}
 use Rattle.text.specs.Booleans.{choose, and}
 use Rattle.text.specs.Utf8.{scalar, firstBad}
 use Rattle.text.specs.Words.{wordOf}
-use Rattle.text.specs.declared.Check.{Check}
-use Rattle.text.specs.declared.Check.the-variants.{Good, Bad}
+use Rattle.text.specs.declared.Scan.{Scan}
+use Rattle.text.specs.declared.Scan.the-variants.{Through, StopsAt}
 use Rattle.text.specs.declared.Word.{Word}
 use Rattle.text.specs.declared.Word.the-variants as Word
+use Rattle.text.specs.Limits.{maxNodes, maxRules, maxStore}
 use Rattle.table.specs.declared.Sort.{Sort}
 use Rattle.table.specs.declared.Sort.the-variants.{Str, Insens, Ident, PushLiteral}
 use Rattle.table.specs.declared.Leaf.{Leaf}
@@ -28,15 +29,6 @@ use Rattle.table.specs.Tree.{Atom, text, range, peekSlice, Wrap, plain, 
 use Rattle.table.specs.Record.{nodeSize, ruleSize, nodesIn, rulesIn, nodeAt, atomOf, wrapOf, firstAt, nameOffset, nameLength, nameAt, markAt, rootAt}
 
 -- the limits: 4,096 nodes, 1,024 rules, 65,536 bytes of store
-abbrev pub maxNodes : ℕ
-maxNodes = 4096
-
-abbrev pub maxRules : ℕ
-maxRules = 1024
-
-abbrev pub maxStore : ℕ
-maxStore = 65536
-
 -- whole records, no more than the limits
 unfoldable pub shaped : List ℕ → List ℕ → List ℕ → Bool
 shaped ns rs st =
@@ -44,9 +36,9 @@ shaped ns rs st =
     (and (eqb (length rs % ruleSize) 0)
     (and (leb (nodesIn ns) maxNodes) (and (leb (rulesIn rs) maxRules) (leb (length st) maxStore))))
 
-abbrev pub isGood : Check → Bool
-isGood Good = true
-isGood (Bad i) = false
+abbrev pub isThrough : Scan → Bool
+isThrough Through = true
+isThrough (StopsAt i) = false
 
 abbrev pub mayName : Word → Bool
 mayName Word.Name = true
@@ -60,7 +52,7 @@ mayTag Word.Neither = false
 
 -- strings are UTF-8
 unfoldable pub isUtf8 : List ℕ → Bool
-isUtf8 b = isGood (firstBad b)
+isUtf8 b = isThrough (firstBad b)
 
 -- a name is a word that doesn't begin PUSH
 unfoldable pub isName : List ℕ → Bool
@@ -135,19 +127,19 @@ goodRoot ns begin root = and (ltb root (nodesIn ns)) (eqb (firstAt ns root) begi
 unfoldable pub goodRule : List ℕ → List ℕ → List ℕ → ℕ → Bool
 goodRule ns rs st k = and (goodName rs st k) (and (leb (markAt rs k) 4) (goodRoot ns (beginAt rs k) (rootAt rs k)))
 
-abbrev pub lowestBy : Check → Bool → ℕ → Check
-lowestBy (Bad k) g i = Bad k
-lowestBy Good true i = Good
-lowestBy Good false i = Bad i
+abbrev pub lowestBy : Scan → Bool → ℕ → Scan
+lowestBy (StopsAt k) g i = StopsAt k
+lowestBy Through true i = Through
+lowestBy Through false i = StopsAt i
 
 -- the lowest index below a number at which a test fails
-unfoldable pub lowest : (ℕ → Bool) → ℕ → Check
-lowest f zero = Good
+unfoldable pub lowest : (ℕ → Bool) → ℕ → Scan
+lowest f zero = Through
 lowest f (suc i) = lowestBy (lowest f i) (f i) i
 
-abbrev pub orElse : Check → (ℕ → TableCheck) → (Unit {0} → TableCheck) → TableCheck
-orElse (Bad i) f g = f i
-orElse Good f g = g tt
+abbrev pub orElse : Scan → (ℕ → TableCheck) → (Unit {0} → TableCheck) → TableCheck
+orElse (StopsAt i) f g = f i
+orElse Through f g = g tt
 
 -- nodes left over are a fault at the number of rules
 abbrev pub leftOver : List ℕ → List ℕ → TableCheck
@@ -195,7 +187,7 @@ fineRules [] = true
 fineRules (r ∷ rs) = and (fineRule r) (fineRules rs)
 
 -- the first n nodes are there, and none of them is false: what a walk asks of the nodes up to its own
-pub record Sound (ns st : List ℕ) (n : ℕ) : Type 0 where
+pub record SoundUpTo (ns st : List ℕ) (n : ℕ) : Type 0 where
   pub whole : nodeSize * n ≤ length ns
   pub good : (k : ℕ) → k < n → goodAt ns st k ≡ true
 
@@ -206,6 +198,6 @@ pub record Valid (ns rs st : List ℕ) : Type 0 where
   pub whole-rules : length rs ≡ ruleSize * rulesIn rs
   pub few-rules : rulesIn rs ≤ maxRules
   pub short : length st ≤ maxStore
-  pub nodes : Sound ns st (nodesIn ns)
+  pub nodes : SoundUpTo ns st (nodesIn ns)
   pub rules : (k : ℕ) → k < rulesIn rs → goodRule ns rs st k ≡ true
   pub all : beginAt rs (rulesIn rs) ≡ nodesIn ns

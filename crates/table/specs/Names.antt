@@ -8,8 +8,8 @@ use lib.Dec.{eqb}
 use lib.ListN.{length}
 use Rattle.text.specs.Booleans.{and}
 use Rattle.text.specs.Words.{begins}
-use Rattle.text.specs.declared.Check.{Check}
-use Rattle.text.specs.declared.Check.the-variants.{Good, Bad}
+use Rattle.text.specs.declared.Scan.{Scan}
+use Rattle.text.specs.declared.Scan.the-variants.{Through, StopsAt}
 use Rattle.table.specs.declared.Named.{Named}
 use Rattle.table.specs.declared.Named.the-variants.{By, Nobody}
 use Rattle.table.specs.Record.{rulesIn, nameOffset, nameLength, nameAt}
@@ -23,9 +23,9 @@ sameText xs ys = and (eqb (length xs) (length ys)) (begins xs ys)
 unfoldable pub otherName : List ℕ → List ℕ → List ℕ → ℕ → Bool
 otherName rs st b k = not (sameText (nameAt rs st k) b)
 
-abbrev pub namedBy : Check → Named
-namedBy Good = Nobody
-namedBy (Bad k) = By k
+abbrev pub namedBy : Scan → Named
+namedBy Through = Nobody
+namedBy (StopsAt k) = By k
 
 -- the lowest rule of a name
 unfoldable pub ruleNamed : List ℕ → List ℕ → List ℕ → Named

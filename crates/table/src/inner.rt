@@ -2,5 +2,5 @@
 // and characters.
 pub mod characters;
 pub mod checks;
+pub mod layout;
 pub mod names;
-pub mod records;

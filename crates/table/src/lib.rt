@@ -4,8 +4,10 @@
 // The entry point stands here and asks nothing of its callers. `inner` has what the crates above it
 // build on.
 pub mod inner;
+pub mod kind;
 
-use text::Check;
+use text::Scan;
+use text::limits;
 ghost use mathlib.Core.Path.{_≡_};
 ghost use Rattle.table.specs.Check.{tables};
 
@@ -113,17 +115,17 @@ pub fn check_tables(nodes: &[u32], rules: &[u32], store: &[u8]) -> TableCheck
         return TableCheck::Shape;
     }
     let t = text::inner::classes::classes();
-    let mut firsts = [0u16; 4096];
+    let mut firsts = [0u16; limits::NODES];
     let node = inner::checks::lowest_node(&t, nodes, store, &mut firsts);
-    if let Check::Bad(i) = node {
+    if let Scan::StopsAt(i) = node {
         return TableCheck::Node(i);
     }
     let rule = inner::checks::lowest_rule(&t, nodes, rules, store, &firsts);
-    if let Check::Bad(k) = rule {
+    if let Scan::StopsAt(k) = rule {
         return TableCheck::Rule(k);
     }
-    let m = rules.len() / inner::records::RULE_SIZE;
-    if inner::checks::begin_at(rules, m) == nodes.len() / inner::records::NODE_SIZE {
+    let m = rules.len() / inner::layout::RULE_SIZE;
+    if inner::checks::begin_at(rules, m) == nodes.len() / inner::layout::NODE_SIZE {
         return TableCheck::Good;
     }
     TableCheck::Rule(m)

@@ -1,9 +1,18 @@
 // Runs the check of whole tables on the vectors of its standard input: each way in which a node or a
 // rule can be false. It writes each vector with the answer's number and place.
 use table::TableCheck;
+use table::inner::layout::NODE_SIZE;
+use table::inner::layout::RULE_SIZE;
+
+// The numbers of tables with one node, or one rule, too many.
+const CHAIN: usize = NODE_SIZE * 4097;
+
+const NAMES: usize = NODE_SIZE * 1025;
+
+const NAMED: usize = RULE_SIZE * 1025;
 
 // All nineteen kinds, in two rules.
-const NODES: [u32; 150] = [
+const NODES: [u32; NODE_SIZE * 25] = [
     1,
     0,
     0,
@@ -208,11 +217,11 @@ fn node(i: u32, j: u32, value: u32) {
     if 24 < i {
         return;
     }
-    if 5 < j {
+    if NODE_SIZE <= j as usize {
         return;
     }
     let mut nodes = base_nodes();
-    nodes[(6 * i + j) as usize] = value;
+    nodes[NODE_SIZE * i as usize + j as usize] = value;
     answer(&nodes, &base_rules(), &base_store());
 }
 
@@ -221,11 +230,11 @@ fn rule(k: u32, j: u32, value: u32) {
     if 1 < k {
         return;
     }
-    if 5 < j {
+    if RULE_SIZE <= j as usize {
         return;
     }
     let mut rules = base_rules();
-    rules[(6 * k + j) as usize] = value;
+    rules[RULE_SIZE * k as usize + j as usize] = value;
     answer(&base_nodes(), &rules, &base_store());
 }
 
@@ -256,15 +265,15 @@ fn cut(n: u32, m: u32, k: u32) {
 
 // A name, and Opt over Opt.
 fn chain(nodes: &mut [u32]) {
-    if nodes.len() != 24582 {
+    if nodes.len() != CHAIN {
         return;
     }
     nodes[0] = 4;
     nodes[4] = 1;
     let mut i = 1;
     while i < 4097 {
-        nodes[6 * i] = 10;
-        nodes[6 * i + 3] = i as u32 - 1;
+        nodes[NODE_SIZE * i] = 10;
+        nodes[NODE_SIZE * i + 3] = i as u32 - 1;
         i += 1;
     }
 }
@@ -277,25 +286,32 @@ fn deep(n: u32) {
     if 4097 < n {
         return;
     }
-    let mut nodes = [0u32; 24582];
+    let mut nodes = [0u32; CHAIN];
     chain(&mut nodes);
-    prefixes(&nodes, 6 * n as usize, &[0, 1, 0, n - 1, 0, 0], 6, b"a", 1);
+    prefixes(
+        &nodes,
+        NODE_SIZE * n as usize,
+        &[0, 1, 0, n - 1, 0, 0],
+        RULE_SIZE,
+        b"a",
+        1,
+    );
 }
 
 // Rules of one name each.
 fn names(nodes: &mut [u32], rules: &mut [u32]) {
-    if nodes.len() != 6150 {
+    if nodes.len() != NAMES {
         return;
     }
-    if rules.len() != 6150 {
+    if rules.len() != NAMED {
         return;
     }
     let mut i = 0;
     while i < 1025 {
-        nodes[6 * i] = 4;
-        nodes[6 * i + 4] = 1;
-        rules[6 * i + 1] = 1;
-        rules[6 * i + 3] = i as u32;
+        nodes[NODE_SIZE * i] = 4;
+        nodes[NODE_SIZE * i + 4] = 1;
+        rules[RULE_SIZE * i + 1] = 1;
+        rules[RULE_SIZE * i + 3] = i as u32;
         i += 1;
     }
 }
@@ -305,11 +321,11 @@ fn many(m: u32) {
     if 1025 < m {
         return;
     }
-    let mut nodes = [0u32; 6150];
-    let mut rules = [0u32; 6150];
+    let mut nodes = [0u32; NAMES];
+    let mut rules = [0u32; NAMED];
     names(&mut nodes, &mut rules);
-    let e = 6 * m as usize;
-    prefixes(&nodes, e, &rules, e, b"a", 1);
+    let m = m as usize;
+    prefixes(&nodes, NODE_SIZE * m, &rules, RULE_SIZE * m, b"a", 1);
 }
 
 // s K: a store of as many bytes, up to 65,537
@@ -335,25 +351,15 @@ fn run(op: u8, a: u32, b: u32, c: u32) {
 }
 
 fn run_line(line: &[u8]) {
-    let op = vectors::field(line, 0);
-    let first = vectors::field(line, op.end);
-    let second = vectors::field(line, first.end);
-    let third = vectors::field(line, second.end);
-    let a = first.start;
-    let b = first.end;
-    let c = second.start;
-    let d = second.end;
-    let e = third.start;
-    let f = third.end;
-    let x = small(vectors::number(&line[a..b]));
-    let y = small(vectors::number(&line[c..d]));
-    let z = small(vectors::number(&line[e..f]));
-    let at = op.start;
+    let op = vectors::word(line, 0);
+    let x = small(vectors::number(vectors::word(line, 1)));
+    let y = small(vectors::number(vectors::word(line, 2)));
+    let z = small(vectors::number(vectors::word(line, 3)));
     vectors::write(line);
-    if line.len() <= at {
+    if op.len() == 0 {
         return;
     }
-    run(line[at], x, y, z);
+    run(op[0], x, y, z);
     vectors::write(b"\n");
 }
 

@@ -7,7 +7,7 @@ use native.Mathlib.Omega.{arith}
 use lib.ListN.{length, getD, List·getD-eq-default}
 use Rattle.text.specs.Scans.{sought, later}
 use Rattle.text.specs.Utf8.{seqLook, lookBy, firstBad}
-use Rattle.text.specs.declared.Check.the-variants.{Good}
+use Rattle.text.specs.declared.Scan.the-variants.{Through}
 use Rattle.text.proofs.Tests.{lt-or-ge}
 use Rattle.text.proofs.Walks.{past-head}
 use Rattle.text.proofs.Decodes.{one}
@@ -22,11 +22,11 @@ pub low-all : (s : List ℕ) (i x : ℕ) → ((k : ℕ) → k < i → getD s k 0
 low-all s i x h l m k =
     ⊎-elim (λ b. omega (arith, h k b)) (λ g. omega (arith, List·getD-eq-default s 0 {n = k} (omega arith))) (lt-or-ge k i)
 
-low-sought : (xs : List ℕ) → Low xs → sought seqLook 0 xs ≡ Good
+low-sought : (xs : List ℕ) → Low xs → sought seqLook 0 xs ≡ Through
 unfolding sought
 low-sought [] h = refl
 low-sought (x ∷ xs) h = past-head seqLook x xs 0 (ap lookBy (found-read (one (h zero)))) ∙ ap (later 1) (low-sought xs (λ k. h (suc k)))
 
-pub low-good : (xs : List ℕ) → Low xs → firstBad xs ≡ Good
+pub low-good : (xs : List ℕ) → Low xs → firstBad xs ≡ Through
 unfolding firstBad
 low-good xs h = low-sought xs h

@@ -30,6 +30,9 @@ pub choose-cong : {A : Type 0} (b : Bool) (x y x′ y′ : Unit {0} → A) → (
 choose-cong true x y x′ y′ f g = f refl
 choose-cong false x y x′ y′ f g = g refl
 
+pub choose-same : {A : Type 0} (b : Bool) {x y : A} (z : A) → x ≡ y → choose b (λ u. x) (λ u. z) ≡ choose b (λ u. y) (λ u. z)
+choose-same b z e = choose-cong b _ _ _ _ (λ v. e) (λ v. refl)
+
 -- ---- both
 
 pub and-true : (x y : Bool) → and x y ≡ true → (x ≡ true) × (y ≡ true)
@@ -54,6 +57,14 @@ pub and-second : (x y : Bool) → y ≡ false → and x y ≡ false
 and-second true y e = e
 and-second false y e = refl
 
+pub and-one : (x : Bool) → and x true ≡ x
+and-one true = refl
+and-one false = refl
+
+pub and-assoc : (x y z : Bool) → and x (and y z) ≡ and (and x y) z
+and-assoc true y z = refl
+and-assoc false y z = refl
+
 -- ---- either
 
 pub or-first : (x y : Bool) → x ≡ true → or x y ≡ true
@@ -72,6 +83,24 @@ pub or-true : (x y : Bool) → or x y ≡ true → (x ≡ true) ⊎ (y ≡ true)
 or-true true y h = inl refl
 or-true false y h = inr h
 
+pub or-by : {A : Type 0} (x y : Bool) → or x y ≡ true → (x ≡ true → A) → (y ≡ true → A) → A
+or-by true y e f g = f refl
+or-by false y e f g = g e
+
+pub or-nothing : (x : Bool) → or x false ≡ x
+or-nothing true = refl
+or-nothing false = refl
+
+pub or-assoc : (x y z : Bool) → or x (or y z) ≡ or (or x y) z
+or-assoc true y z = refl
+or-assoc false y z = refl
+
 pub or-false : (x y : Bool) → or x y ≡ false → (x ≡ false) × (y ≡ false)
 or-false false y h = (refl, h)
 or-false true y h = let z : _≡_ {A = ℕ} 0 1 = cc in absurd (omega arith)
+
+-- ---- not
+
+pub not-false : (x : Bool) → not x ≡ false → x ≡ true
+not-false true e = refl
+not-false false e = let z : _≡_ {A = ℕ} 0 1 = cc in absurd (omega arith)

@@ -8,22 +8,22 @@ use lib.ListN.{length, getD, drop, length-append}
 use lib.Seq.{drop-drop, sets}
 use Rattle.text.specs.Scans.{Piece, spelled, later, sought}
 use Rattle.text.specs.Splice.{Room, Wrote, spent}
-use Rattle.text.specs.declared.Check.{Check}
-use Rattle.text.specs.declared.Check.the-variants.{Good, Bad}
+use Rattle.text.specs.declared.Scan.{Scan}
+use Rattle.text.specs.declared.Scan.the-variants.{Through, StopsAt}
 use Rattle.text.specs.declared.Look.{Look}
 use Rattle.text.specs.declared.Look.the-variants.{Past, Stop}
 use Rattle.text.proofs.Tests.{at-byte, at-end}
 use Rattle.text.proofs.Splices.{sets-append, wrote-length, spent-append}
 
-pub later-zero : (r : Check) → later 0 r ≡ r
-later-zero Good = refl
-later-zero (Bad n) = ap Bad (zero-add n)
+pub later-zero : (r : Scan) → later 0 r ≡ r
+later-zero Through = refl
+later-zero (StopsAt n) = ap StopsAt (zero-add n)
 
-pub later-later : (a b : ℕ) (r : Check) → later a (later b r) ≡ later (a + b) r
-later-later a b Good = refl
-later-later a b (Bad n) = simp add-assoc
+pub later-later : (a b : ℕ) (r : Scan) → later a (later b r) ≡ later (a + b) r
+later-later a b Through = refl
+later-later a b (StopsAt n) = simp add-assoc
 
-later-suc : (k : ℕ) (r : Check) → later 1 (later k r) ≡ later (suc k) r
+later-suc : (k : ℕ) (r : Scan) → later 1 (later k r) ≡ later (suc k) r
 later-suc k r = later-later 1 k r ∙ ap (λ (n : ℕ). later n r) (omega arith)
 
 module _ (p : List ℕ → Look) where
@@ -38,7 +38,7 @@ module _ (p : List ℕ → Look) where
   unfolding sought
   past-head x xs n h = rw h
 
-  stop-head : (x : ℕ) (xs : List ℕ) → p (x ∷ xs) ≡ Stop → sought p 0 (x ∷ xs) ≡ Bad 0
+  stop-head : (x : ℕ) (xs : List ℕ) → p (x ∷ xs) ≡ Stop → sought p 0 (x ∷ xs) ≡ StopsAt 0
   unfolding sought
   stop-head x xs h = rw h
 
@@ -52,14 +52,14 @@ module _ (p : List ℕ → Look) where
       let l : i + (1 + n) ≡ i + (n + 1) = omega arith in
       ap (later i) (q ∙ later-later 1 n (sought p 0 (drop n (drop (i + 1) s)))) ∙ later-later i (1 + n) (sought p 0 (drop n (drop (i + 1) s))) ∙ rw (drop-drop, k, l)
 
-  pub sought-stop : (s : List ℕ) (i : ℕ) → i < length s → p (drop i s) ≡ Stop → later i (sought p 0 (drop i s)) ≡ Bad i
+  pub sought-stop : (s : List ℕ) (i : ℕ) → i < length s → p (drop i s) ≡ Stop → later i (sought p 0 (drop i s)) ≡ StopsAt i
   sought-stop s i h e =
       let b : drop i s ≡ getD s i 0 ∷ drop (i + 1) s = at-byte s i h in
-      let q : sought p 0 (drop i s) ≡ Bad 0 = rw b (stop-head _ _ (rw b at e)) in
+      let q : sought p 0 (drop i s) ≡ StopsAt 0 = rw b (stop-head _ _ (rw b at e)) in
       let z : i + 0 ≡ i = omega arith in
-      ap (later i) q ∙ ap Bad z
+      ap (later i) q ∙ ap StopsAt z
 
-  pub sought-end : (s : List ℕ) (i : ℕ) → length s ≤ i → later i (sought p 0 (drop i s)) ≡ Good
+  pub sought-end : (s : List ℕ) (i : ℕ) → length s ≤ i → later i (sought p 0 (drop i s)) ≡ Through
   unfolding sought
   sought-end s i h = rw (at-end s i h)
 

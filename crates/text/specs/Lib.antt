@@ -6,3 +6,4 @@ pub mod Utf8
 pub mod Classes
 pub mod Words
 pub mod Digits
+pub mod Limits

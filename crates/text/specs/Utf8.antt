@@ -13,7 +13,7 @@ use Rattle.text.specs.declared.Lead.{Lead}
 use Rattle.text.specs.declared.Lead.the-variants.{Row, Stray}
 use Rattle.text.specs.declared.Sequence.{Sequence}
 use Rattle.text.specs.declared.Sequence.the-variants.{Is, Broken}
-use Rattle.text.specs.declared.Check.{Check}
+use Rattle.text.specs.declared.Scan.{Scan}
 use Rattle.text.specs.declared.Look.{Look}
 use Rattle.text.specs.declared.Look.the-variants.{Past, Stop}
 use Rattle.text.specs.declared.Encoded.{Encoded}
@@ -60,7 +60,7 @@ abbrev pub seqLook : List ℕ → Look
 seqLook xs = lookBy (charOf xs)
 
 -- the start of the first bad sequence
-unfoldable pub firstBad : List ℕ → Check
+unfoldable pub firstBad : List ℕ → Scan
 firstBad s = sought seqLook 0 s
 
 -- the bytes of a scalar value, by section 3's table

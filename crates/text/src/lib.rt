@@ -3,6 +3,7 @@
 // The entry points stand here and ask nothing of their callers. `inner` has what this crate and the
 // crates above it build on.
 pub mod inner;
+pub mod limits;
 
 ghost use mathlib.Core.Path.{_≡_};
 ghost use lib.ListN.{length, drop};
@@ -30,10 +31,10 @@ pub enum Sequence {
     Broken,
 }
 
-// Nothing to refuse, or the place of the first that is.
-pub enum Check {
-    Good,
-    Bad(usize),
+// What came of going over bytes or records in search of one to stop at: there was none, or the first one's place.
+pub enum Scan {
+    Through,
+    StopsAt(usize),
 }
 
 // A piece to go past, by its bytes after the first, or one to stop at.
@@ -88,11 +89,11 @@ pub fn char_at(s: &[u8], at: usize) -> Sequence
 }
 
 // The start of the first bad sequence.
-pub fn first_bad(s: &[u8]) -> Check
+pub fn first_bad(s: &[u8]) -> Scan
     ensures { λ r. ⌜ r ≡ firstBad (now (s .entry)) ⌝ }
 {
     if inner::utf8::is_ascii(s) {
-        return Check::Good;
+        return Scan::Through;
     }
     let mut i = 0;
     while i < s.len() {
@@ -105,12 +106,12 @@ pub fn first_bad(s: &[u8]) -> Check
                     i += n;
                 }
                 Sequence::Broken => {
-                    return Check::Bad(i);
+                    return Scan::StopsAt(i);
                 }
             }
         }
     }
-    Check::Good
+    Scan::Through
 }
 
 // Writes a character's bytes to the front of a buffer.

@@ -1,8 +1,8 @@
 // Runs the entry points of `text` on the vectors of its standard input, and writes each with its answer.
-use text::Check;
 use text::Decimal;
 use text::Encoded;
 use text::Put;
+use text::Scan;
 use text::Sequence;
 use text::Value;
 use text::Word;
@@ -24,8 +24,8 @@ fn run_char(bytes: &[u8], at: usize) {
 fn run_bad(bytes: &[u8]) {
     let check = text::first_bad(bytes);
     match check {
-        Check::Good => vectors::write(b" good"),
-        Check::Bad(i) => {
+        Scan::Through => vectors::write(b" good"),
+        Scan::StopsAt(i) => {
             vectors::write(b" bad");
             vectors::write_number(i);
         }
@@ -120,22 +120,16 @@ fn small(n: u64) -> u32 {
 fn run_line(line: &[u8]) {
     let mut bytes = [0u8; 512];
     let mut out = [170u8; 12];
-    let op = vectors::field(line, 0);
-    let first = vectors::field(line, op.end);
-    let second = vectors::field(line, first.end);
-    let a = first.start;
-    let b = first.end;
-    let c = second.start;
-    let d = second.end;
-    let n = vectors::unhex(&line[a..b], &mut bytes);
-    let size = vectors::number(&line[a..b]) as usize;
-    let value = vectors::number(&line[c..d]);
-    let at = op.start;
+    let op = vectors::word(line, 0);
+    let first = vectors::word(line, 1);
+    let n = vectors::unhex(first, &mut bytes);
+    let size = vectors::number(first) as usize;
+    let value = vectors::number(vectors::word(line, 2));
     vectors::write(line);
-    if line.len() <= at {
+    if op.len() == 0 {
         return;
     }
-    match line[at] {
+    match op[0] {
         b'c' => run_char(&bytes[..n], value as usize),
         b'b' => run_bad(&bytes[..n]),
         b'e' => run_encode(small(value), size, &mut out),

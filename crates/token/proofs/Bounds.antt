@@ -12,8 +12,8 @@ use Rattle.text.specs.Classes.{classOf, ones}
 use Rattle.text.specs.Words.{inWord, startsWord}
 use Rattle.text.specs.Scans.{later, soughtBy, sought}
 use Rattle.text.specs.Utf8.{charOf}
-use Rattle.text.specs.declared.Check.{Check}
-use Rattle.text.specs.declared.Check.the-variants.{Good, Bad}
+use Rattle.text.specs.declared.Scan.{Scan}
+use Rattle.text.specs.declared.Scan.the-variants.{Through, StopsAt}
 use Rattle.text.specs.declared.Look.{Look}
 use Rattle.text.specs.declared.Look.the-variants.{Past, Stop}
 use Rattle.text.specs.declared.Sequence.{Sequence}
@@ -32,15 +32,15 @@ use Rattle.token.proofs.Runs.{run-in, run-some}
 
 -- ---- where a walk stops there is a byte
 
-abbrev Before : ℕ → Check → Type 0
-Before m Good = Unit {0}
-Before m (Bad n) = n < m
+abbrev Before : ℕ → Scan → Type 0
+Before m Through = Unit {0}
+Before m (StopsAt n) = n < m
 
-one-later : (m : ℕ) (r : Check) → Before m r → Before (suc m) (later 1 r)
-one-later m Good h = tt
-one-later m (Bad n) h = omega arith
+one-later : (m : ℕ) (r : Scan) → Before m r → Before (suc m) (later 1 r)
+one-later m Through h = tt
+one-later m (StopsAt n) h = omega arith
 
-by-look : (r : Look) (m : ℕ) (f : ℕ → Check) → ((k : ℕ) → Before m (f k)) → Before (suc m) (soughtBy r f)
+by-look : (r : Look) (m : ℕ) (f : ℕ → Scan) → ((k : ℕ) → Before m (f k)) → Before (suc m) (soughtBy r f)
 by-look Stop m f h = omega arith
 by-look (Past n) m f h = one-later m (f n) (h n)
 
@@ -50,13 +50,13 @@ stops-in p k [] = tt
 stops-in p (suc k) (x ∷ xs) = one-later (length xs) (sought p k xs) (stops-in p k xs)
 stops-in p zero (x ∷ xs) = by-look (p (x ∷ xs)) (length xs) (λ n. sought p n xs) (λ n. stops-in p n xs)
 
-stop-by : (m : ℕ) (r : Check) (at i : ℕ) → Before m r → later at r ≡ Bad i → (n : ℕ) × (r ≡ Bad n) × (i ≡ at + n) × (n < m)
-stop-by m Good at i h e = let z : _≡_ {A = ℕ} 0 1 = cc in absurd (omega arith)
-stop-by m (Bad n) at i h e = (n, refl, cc, h)
+stop-by : (m : ℕ) (r : Scan) (at i : ℕ) → Before m r → later at r ≡ StopsAt i → (n : ℕ) × (r ≡ StopsAt n) × (i ≡ at + n) × (n < m)
+stop-by m Through at i h e = let z : _≡_ {A = ℕ} 0 1 = cc in absurd (omega arith)
+stop-by m (StopsAt n) at i h e = (n, refl, cc, h)
 
 -- a walk that began at a place and stopped at another
-pub stop-at : (p : List ℕ → Look) (s : List ℕ) (at i : ℕ) → later at (sought p 0 (drop at s)) ≡ Bad i
-    → (n : ℕ) × (sought p 0 (drop at s) ≡ Bad n) × (i ≡ at + n) × (n < length (drop at s))
+pub stop-at : (p : List ℕ → Look) (s : List ℕ) (at i : ℕ) → later at (sought p 0 (drop at s)) ≡ StopsAt i
+    → (n : ℕ) × (sought p 0 (drop at s) ≡ StopsAt n) × (i ≡ at + n) × (n < length (drop at s))
 stop-at p s at i e = stop-by (length (drop at s)) (sought p 0 (drop at s)) at i (stops-in p 0 (drop at s)) e
 
 -- ---- tokens
@@ -102,9 +102,9 @@ some-first b (x ∷ xs) e = omega arith
 pub some-next : (b n : ℕ) (xs : List ℕ) → nextIs b (drop n xs) ≡ true → n < length xs
 some-next b n xs e = omega (arith, some-first b (drop n xs) e, length-drop n xs)
 
-string-by : (kind k : ℕ) (xs : List ℕ) (r : Check) → 1 ≤ kind → kind ≤ 27 → 0 < k → least kind ≤ k + 1 → Before (length xs) r → In (k + length xs) (stringBy kind k xs r)
-string-by kind k xs Good l h p f b = omega arith
-string-by kind k xs (Bad n) l h p f b =
+string-by : (kind k : ℕ) (xs : List ℕ) (r : Scan) → 1 ≤ kind → kind ≤ 27 → 0 < k → least kind ≤ k + 1 → Before (length xs) r → In (k + length xs) (stringBy kind k xs r)
+string-by kind k xs Through l h p f b = omega arith
+string-by kind k xs (StopsAt n) l h p f b =
     choose-by (In (k + length xs)) (nextIs 34 (drop n xs)) _ _ (λ e. (l, h, omega arith, omega arith)) (λ e. omega arith)
 
 string-in : (kind k : ℕ) (xs : List ℕ) → 1 ≤ kind → kind ≤ 27 → 0 < k → least kind ≤ k + 1 → In (k + length xs) (stringOf kind k xs)
@@ -214,9 +214,9 @@ first-in (x ∷ xs) =
     (λ e. choose-by (In (length (x ∷ xs))) (eqb (classOf x) 4) _ _ (λ e. (k .0, omega arith, omega (arith, least-low (oneKind x) (k .1)), omega arith))
     (λ e. choose-by (In (length (x ∷ xs))) (eqb (classOf x) 5) _ _ (λ e. wider (1 + length xs) (length (x ∷ xs)) (openerToken x xs) w (opener-in xs x)) (λ e. omega arith))))
 
-past-in : (xs : List ℕ) (r : Check) → Before (length xs) r → In (length xs) (pastBlanks xs r)
-past-in xs Good h = tt
-past-in xs (Bad n) h =
+past-in : (xs : List ℕ) (r : Scan) → Before (length xs) r → In (length xs) (pastBlanks xs r)
+past-in xs Through h = tt
+past-in xs (StopsAt n) h =
     wider (n + length (drop n xs)) (length xs) (moved n (firstToken (drop n xs))) (omega (arith, length-drop n xs)) (in-moved n (length (drop n xs)) (firstToken (drop n xs)) (first-in (drop n xs)))
 
 token-of-in : (xs : List ℕ) → In (length xs) (tokenOf xs)

@@ -14,13 +14,14 @@ use Rattle.text.specs.Classes.{classOf}
 use Rattle.text.specs.Words.{startsWord}
 use Rattle.text.specs.Scans.{later, sought}
 use Rattle.text.specs.Utf8.{charOf, firstBad}
-use Rattle.text.specs.declared.Check.{Check}
-use Rattle.text.specs.declared.Check.the-variants.{Good, Bad}
+use Rattle.text.specs.declared.Scan.{Scan}
+use Rattle.text.specs.declared.Scan.the-variants.{Through, StopsAt}
 use Rattle.text.specs.declared.Sequence.{Sequence}
 use Rattle.text.specs.declared.Sequence.the-variants.{Is, Broken}
 use Rattle.text.proofs.Tests.{lt-or-ge, at-byte}
 use Rattle.text.proofs.Walks.{sought-end}
 use Rattle.text.proofs.Booleans.{choose-by}
+use Rattle.text.specs.Limits.{maxText}
 use Rattle.literal.specs.Escapes.{escapeOf}
 use Rattle.literal.specs.declared.Escape.{Escape}
 use Rattle.literal.specs.declared.Escape.the-variants.{Means, Plain}
@@ -54,7 +55,7 @@ not-at s i b h e q =
 -- ---- the inside of a string
 
 -- where the walk over it stops, from a place on
-abbrev stopFrom : List ℕ → ℕ → Check
+abbrev stopFrom : List ℕ → ℕ → Scan
 stopFrom s i = later i (sought insideLook 0 (drop i s))
 
 meets-in : (s : List ℕ) (i p : ℕ) → Meets s i p → (i ≤ p) × (p < length s)
@@ -63,7 +64,7 @@ meets-in s i p (past-byte q b m) = let r = meets-in s (i + 1) p m in (omega (ari
 meets-in s i p (past-escape {n = n} e m) = let r = meets-in s (i + n) p m in (omega (arith, r .0), r .1)
 
 -- a backslash that is met stops the walk
-meets-stop : (s : List ℕ) (i p : ℕ) → Meets s i p → stopFrom s i ≡ Bad p
+meets-stop : (s : List ℕ) (i p : ℕ) → Meets s i p → stopFrom s i ≡ StopsAt p
 meets-stop s i p (here w) =
     let b : getD s p 0 ≡ 92 = is-at s p 92 (w .backslash) in
     inside-bad s p (some-next 92 p s (w .backslash)) b (λ q. omega arith) (w .plain)
@@ -77,12 +78,12 @@ meets-stop s i p (past-escape {c = c} {n = n} e m) =
     inside-escape s i h c n (not-at s i 34 h (means-opens 34 (drop i s) c n (λ z. omega arith) e)) e ∙ meets-stop s (i + n) p m
 
 -- and what stops the walk is a `"` or is met. next: the same from every later place on
-module _ (s : List ℕ) (i p : ℕ) (h : i < length s) (next : (j : ℕ) → i < j → stopFrom s j ≡ Bad p → Meets s j p)
-    (e : stopFrom s i ≡ Bad p) (f : nextIs 34 (drop p s) ≡ false) where
+module _ (s : List ℕ) (i p : ℕ) (h : i < length s) (next : (j : ℕ) → i < j → stopFrom s j ≡ StopsAt p → Meets s j p)
+    (e : stopFrom s i ≡ StopsAt p) (f : nextIs 34 (drop p s) ≡ false) where
   by-slash : (b : Bool) → nextIs 34 (drop i s) ≡ false → escapeOf (drop i s) ≡ Plain → nextIs 92 (drop i s) ≡ b → Meets s i p
   by-slash true q w b =
       let x : getD s i 0 ≡ 92 = is-at s i 92 b in
-      let y : stopFrom s i ≡ Bad i = inside-bad s i h x (not-at s i 34 h q) w in
+      let y : stopFrom s i ≡ StopsAt i = inside-bad s i h x (not-at s i 34 h q) w in
       let z : p ≡ i = cc in
       rw z (here (record { backslash = b; plain = w }))
   by-slash false q w b = past-byte q b (next (i + 1) (omega arith) (sym (inside-byte s i h (not-at s i 34 h q) (not-at s i 92 h b)) ∙ e))
@@ -93,26 +94,26 @@ module _ (s : List ℕ) (i p : ℕ) (h : i < length s) (next : (j : ℕ) → i <
 
   by-quote : (b : Bool) → nextIs 34 (drop i s) ≡ b → Meets s i p
   by-quote true q =
-      let y : stopFrom s i ≡ Bad i = inside-quote s i h (is-at s i 34 q) in
+      let y : stopFrom s i ≡ StopsAt i = inside-quote s i h (is-at s i 34 q) in
       let x : p ≡ i = cc in
       let w : nextIs 34 (drop p s) ≡ true = rw x q in
       let z : _≡_ {A = ℕ} 0 1 = cc in
       absurd (omega arith)
   by-quote false q = by-escape (escapeOf (drop i s)) q refl
 
-not-ended : (s : List ℕ) (i p : ℕ) → length s ≤ i → stopFrom s i ≡ Bad p → ⊥
+not-ended : (s : List ℕ) (i p : ℕ) → length s ≤ i → stopFrom s i ≡ StopsAt p → ⊥
 not-ended s i p h e =
-    let y : stopFrom s i ≡ Good = sought-end insideLook s i h in
+    let y : stopFrom s i ≡ Through = sought-end insideLook s i h in
     let z : _≡_ {A = ℕ} 0 1 = cc in
     absurd (omega arith)
 
-by-place : (s : List ℕ) (i p : ℕ) → (i < length s) ⊎ (length s ≤ i) → ((j : ℕ) → i < j → stopFrom s j ≡ Bad p → Meets s j p)
-    → stopFrom s i ≡ Bad p → nextIs 34 (drop p s) ≡ false → Meets s i p
+by-place : (s : List ℕ) (i p : ℕ) → (i < length s) ⊎ (length s ≤ i) → ((j : ℕ) → i < j → stopFrom s j ≡ StopsAt p → Meets s j p)
+    → stopFrom s i ≡ StopsAt p → nextIs 34 (drop p s) ≡ false → Meets s i p
 by-place s i p (inl h) next e f = by-quote s i p h next e f (nextIs 34 (drop i s)) refl
 by-place s i p (inr h) next e f = absurd (not-ended s i p h e)
 
 -- k bounds the bytes left
-walk : (s : List ℕ) (k i p : ℕ) → length s ≤ i + k → stopFrom s i ≡ Bad p → nextIs 34 (drop p s) ≡ false → Meets s i p
+walk : (s : List ℕ) (k i p : ℕ) → length s ≤ i + k → stopFrom s i ≡ StopsAt p → nextIs 34 (drop p s) ≡ false → Meets s i p
 walk s zero i p l e f = absurd (not-ended s i p (omega arith) e)
 walk s (suc k) i p l e f = by-place s i p (lt-or-ge i (length s)) (λ j m w. walk s k j p (omega arith) w f) e f
 
@@ -124,9 +125,9 @@ module _ (s : List ℕ) (f : ℕ) where
   Out Token.End = Unit {0}
   Out (Token.NoToken n) = (n ≡ 0) ⊎ BadEscape s f (f + n)
 
-  string-by : (kind k : ℕ) → ((p : ℕ) → Meets s (f + k) p → BadEscape s f p) → (r : Check) → sought insideLook 0 (drop (f + k) s) ≡ r → Out (stringBy kind k (drop (f + k) s) r)
-  string-by kind k make Good e = inl refl
-  string-by kind k make (Bad n) e =
+  string-by : (kind k : ℕ) → ((p : ℕ) → Meets s (f + k) p → BadEscape s f p) → (r : Scan) → sought insideLook 0 (drop (f + k) s) ≡ r → Out (stringBy kind k (drop (f + k) s) r)
+  string-by kind k make Through e = inl refl
+  string-by kind k make (StopsAt n) e =
       let d : drop n (drop (f + k) s) ≡ drop ((f + k) + n) s = drop-drop n (f + k) s in
       let z : (f + k) + n ≡ f + (k + n) = omega arith in
       choose-by Out (nextIs 34 (drop n (drop (f + k) s))) _ _ (λ q. tt)
@@ -248,12 +249,12 @@ module _ (s : List ℕ) (f : ℕ) where
 
 module _ (s : List ℕ) (at : ℕ) where
   -- what begins at f past the blanks, and has a bad escape, is refused there
-  pub escape-told : (f p : ℕ) → later at (sought blankOf 0 (drop at s)) ≡ Bad f → BadEscape s f p → tokenAt s at ≡ Token.NoToken p
+  pub escape-told : (f p : ℕ) → later at (sought blankOf 0 (drop at s)) ≡ StopsAt f → BadEscape s f p → tokenAt s at ≡ Token.NoToken p
   escape-told f p e w = landed-is s at ∙ ap (landed s) e ∙ told-first s f p w
 
-  place-by : (p : ℕ) (r : Check) → later at (sought blankOf 0 (drop at s)) ≡ r → landed s r ≡ Token.NoToken p → FaultFrom s at p
-  place-by p Good e t = let z : _≡_ {A = ℕ} 0 1 = cc in absurd (omega arith)
-  place-by p (Bad f) e t = (f, e, either (out-place s f (firstToken (drop f s)) p (first-out s f h) t))
+  place-by : (p : ℕ) (r : Scan) → later at (sought blankOf 0 (drop at s)) ≡ r → landed s r ≡ Token.NoToken p → FaultFrom s at p
+  place-by p Through e t = let z : _≡_ {A = ℕ} 0 1 = cc in absurd (omega arith)
+  place-by p (StopsAt f) e t = (f, e, either (out-place s f (firstToken (drop f s)) p (first-out s f h) t))
     where
       h : f < length s
       h = let (n, q, z, l) = stop-at blankOf s at f e in omega (arith, length-drop at s)
@@ -271,19 +272,19 @@ module _ (s : List ℕ) (at : ℕ) where
   none-listed n p Token.End e = let z : _≡_ {A = ℕ} 0 1 = cc in absurd (omega arith)
   none-listed n p (Token.NoToken q) e = let z : q ≡ p = cc in rw z
 
-  none-checked : (p : ℕ) (r : Check) → checkedBy r (λ u. listedBy (length s) (tokenAt s at)) ≡ NoToken p → tokenAt s at ≡ Token.NoToken p
-  none-checked p Good e = none-listed (length s) p (tokenAt s at) e
-  none-checked p (Bad q) e = let z : _≡_ {A = ℕ} 0 1 = cc in absurd (omega arith)
+  none-checked : (p : ℕ) (r : Scan) → checkedBy r (λ u. listedBy (length s) (tokenAt s at)) ≡ NoToken p → tokenAt s at ≡ Token.NoToken p
+  none-checked p Through e = none-listed (length s) p (tokenAt s at) e
+  none-checked p (StopsAt q) e = let z : _≡_ {A = ℕ} 0 1 = cc in absurd (omega arith)
 
   -- the same of the lister's 3
   pub lister-place : (p : ℕ) → nextOf s at ≡ NoToken p → FaultFrom s at p
   unfolding nextOf
   lister-place p =
-      choose-by (λ (x : Listed). x ≡ NoToken p → FaultFrom s at p) (ltb 65536 (length s)) (λ u. TooLong) _
+      choose-by (λ (x : Listed). x ≡ NoToken p → FaultFrom s at p) (ltb maxText (length s)) (λ u. TooLong) _
       (λ l e.
       let z : _≡_ {A = ℕ} 0 1 = cc in
       absurd (omega arith)) (λ l e. fault-place p (none-checked p (firstBad s) e))
 
 -- and of the first 3 of a text
-pub text-place : (s : List ℕ) (p : ℕ) → tokensOf s .fault ≡ Bad p → FaultFrom s (pastLast s) p
+pub text-place : (s : List ℕ) (p : ℕ) → tokensOf s .fault ≡ StopsAt p → FaultFrom s (pastLast s) p
 text-place s p e = fault-place s (pastLast s) p (ended s ∙ ap endedBy e)

@@ -8,9 +8,10 @@ use lib.ListN.{length, take, drop, length-append}
 use lib.Seq.{sets, length-sets, take-at, take-all}
 use borrow.Author.Tests.{le-leb, lt-leb}
 use Rattle.text.specs.Splice.{fronted}
-use Rattle.text.specs.declared.Check.{Check}
-use Rattle.text.specs.declared.Check.the-variants.{Good, Bad}
+use Rattle.text.specs.declared.Scan.{Scan}
+use Rattle.text.specs.declared.Scan.the-variants.{Through, StopsAt}
 use Rattle.text.proofs.Tests.{lt-or-ge}
+use Rattle.text.specs.Limits.{maxText}
 use Rattle.token.specs.Tokens.{tokenAt}
 use Rattle.token.specs.Lists.{Tok, tok, Tokens, onto, tokensBy, tokensFrom, tokensOf, filledBy, filledOf}
 use Rattle.token.specs.Table.{tokenSize, rowOf, flat, roomOf, toks}
@@ -30,11 +31,11 @@ pub used : (ts : List Tok) (o o′ : List ℕ) (n : ℕ) → o′ ≡ fronted (f
 unfolding fronted
 used ts o o′ n e q = ap (take (n * tokenSize)) e ∙ take-at (flat ts) (drop (length (flat ts)) o) (n * tokenSize) (omega (arith, flat-length ts))
 
-filled-by : (r : Tokens) (n : ℕ) → filledBy (length (r .list)) (r .fault) ≡ Filled.All n → (n ≡ length (r .list)) × (r .fault ≡ Good)
+filled-by : (r : Tokens) (n : ℕ) → filledBy (length (r .list)) (r .fault) ≡ Filled.All n → (n ≡ length (r .list)) × (r .fault ≡ Through)
 filled-by r n e = by-fault (r .fault) e where
-  by-fault : (f : Check) → filledBy (length (r .list)) f ≡ Filled.All n → (n ≡ length (r .list)) × (f ≡ Good)
-  by-fault Good q = (cc, refl)
-  by-fault (Bad p) q = let z : _≡_ {A = ℕ} 0 1 = cc in absurd (omega arith)
+  by-fault : (f : Scan) → filledBy (length (r .list)) f ≡ Filled.All n → (n ≡ length (r .list)) × (f ≡ Through)
+  by-fault Through q = (cc, refl)
+  by-fault (StopsAt p) q = let z : _≡_ {A = ℕ} 0 1 = cc in absurd (omega arith)
 
 -- what fits and what doesn't
 pub filled-fits : (m : ℕ) (s : List ℕ) → length (tokensOf s .list) ≤ m → filledOf m s ≡ filledBy (length (tokensOf s .list)) (tokensOf s .fault)
@@ -50,27 +51,27 @@ fitted : (m : ℕ) (s : List ℕ) {f : Filled} → filledOf m s ≡ f → (Fille
 fitted m s e d = ⊎-elim (λ h. absurd (d (sym (filled-full m s h) ∙ e))) (λ h. h) (lt-or-ge m (length (tokensOf s .list)))
 
 -- the table was filled: with all tokens, since none is missing
-pub filled-all : (m : ℕ) (s : List ℕ) (n : ℕ) → filledOf m s ≡ Filled.All n → (length (tokensOf s .list) ≤ m) × (n ≡ length (tokensOf s .list)) × (tokensOf s .fault ≡ Good)
+pub filled-all : (m : ℕ) (s : List ℕ) (n : ℕ) → filledOf m s ≡ Filled.All n → (length (tokensOf s .list) ≤ m) × (n ≡ length (tokensOf s .list)) × (tokensOf s .fault ≡ Through)
 filled-all m s n e =
     let h = fitted m s e (λ q. let z : _≡_ {A = ℕ} 0 1 = cc in omega arith) in
     let r = filled-by (tokensOf s) n (sym (filled-fits m s h) ∙ e) in
     (h, r .0, r .1)
 
-stopped-by : (n : ℕ) (f : Check) (p : ℕ) → filledBy n f ≡ Filled.NoToken p → f ≡ Bad p
-stopped-by n Good p e = let z : _≡_ {A = ℕ} 0 1 = cc in absurd (omega arith)
-stopped-by n (Bad q) p e =
+stopped-by : (n : ℕ) (f : Scan) (p : ℕ) → filledBy n f ≡ Filled.NoToken p → f ≡ StopsAt p
+stopped-by n Through p e = let z : _≡_ {A = ℕ} 0 1 = cc in absurd (omega arith)
+stopped-by n (StopsAt q) p e =
     let z : q ≡ p = cc in
-    ap Bad z
+    ap StopsAt z
 
 -- or up to the text's first 3
-pub filled-none : (m : ℕ) (s : List ℕ) (p : ℕ) → filledOf m s ≡ Filled.NoToken p → (length (tokensOf s .list) ≤ m) × (tokensOf s .fault ≡ Bad p)
+pub filled-none : (m : ℕ) (s : List ℕ) (p : ℕ) → filledOf m s ≡ Filled.NoToken p → (length (tokensOf s .list) ≤ m) × (tokensOf s .fault ≡ StopsAt p)
 filled-none m s p e =
     let h = fitted m s e (λ q. let z : _≡_ {A = ℕ} 0 1 = cc in omega arith) in
     (h, stopped-by (length (tokensOf s .list)) (tokensOf s .fault) p (sym (filled-fits m s h) ∙ e))
 
-not-full : (n : ℕ) (f : Check) → filledBy n f ≡ Filled.Full → ⊥
-not-full n Good e = let z : _≡_ {A = ℕ} 0 1 = cc in omega arith
-not-full n (Bad p) e = let z : _≡_ {A = ℕ} 0 1 = cc in omega arith
+not-full : (n : ℕ) (f : Scan) → filledBy n f ≡ Filled.Full → ⊥
+not-full n Through e = let z : _≡_ {A = ℕ} 0 1 = cc in omega arith
+not-full n (StopsAt p) e = let z : _≡_ {A = ℕ} 0 1 = cc in omega arith
 
 -- or there are more
 pub filled-over : (m : ℕ) (s : List ℕ) → filledOf m s ≡ Filled.Full → m < length (tokensOf s .list)
@@ -90,8 +91,8 @@ pub record Filling (s o₀ o : List ℕ) (at n : ℕ) : Type 0 where
 pub record Fits (s o : List ℕ) (at n k a b : ℕ) : Type 0 where
   pub row : n * tokenSize + tokenSize ≤ length o
   pub kind : k ≤ 27
-  pub start : a ≤ 65536
-  pub end : b ≤ 65536
+  pub start : a ≤ maxText
+  pub end : b ≤ maxText
   pub less : length s - b < length s - at
 
 -- what is answered, and what the table holds then
@@ -120,11 +121,11 @@ module _ {s o₀ o : List ℕ} {at n : ℕ} (v : Filling s o₀ o at n) where
     now-is : tokensOf s ≡ onto (v .done) (tokensBy r (tokensFrom s))
     now-is = v .meaning ∙ ap (onto (v .done)) (tokens-law s at ∙ ap (λ (x : Token). tokensBy x (tokensFrom s)) (sym e))
 
-    ends-with : (f : Check) → tokensBy r (tokensFrom s) ≡ record { list = []; fault = f } → tokensOf s ≡ record { list = v .done; fault = f }
+    ends-with : (f : Scan) → tokensBy r (tokensFrom s) ≡ record { list = []; fault = f } → tokensOf s ≡ record { list = v .done; fault = f }
     ends-with f z = now-is ∙ ap (onto (v .done)) z ∙ ap (λ (l : List Tok). record { list = l; fault = f }) (append-nil (v .done))
 
     -- all tokens are done: they fit
-    all-held : (f : Check) → tokensOf s ≡ record { list = v .done; fault = f } → Answered s o₀ o (filledBy n f)
+    all-held : (f : Scan) → tokensOf s ≡ record { list = v .done; fault = f } → Answered s o₀ o (filledBy n f)
     all-held f z =
         let g : toks s ≡ v .done = ap (λ (x : Tokens). x .list) z in
         let l : length (toks s) ≤ roomOf o₀ = omega (arith, ap length g, fits) in (
@@ -133,10 +134,10 @@ module _ {s o₀ o : List ℕ} {at n : ℕ} (v : Filling s o₀ o at n) where
         )
 
     pub fill-end : r ≡ End → Answered s o₀ o (Filled.All n)
-    fill-end q = all-held Good (ends-with Good (ap (λ (x : Token). tokensBy x (tokensFrom s)) q))
+    fill-end q = all-held Through (ends-with Through (ap (λ (x : Token). tokensBy x (tokensFrom s)) q))
 
     pub fill-none : {p : ℕ} → r ≡ NoToken p → Answered s o₀ o (Filled.NoToken p)
-    fill-none {p} q = all-held (Bad p) (ends-with (Bad p) (ap (λ (x : Token). tokensBy x (tokensFrom s)) q))
+    fill-none {p} q = all-held (StopsAt p) (ends-with (StopsAt p) (ap (λ (x : Token). tokensBy x (tokensFrom s)) q))
 
     module _ {k a b : ℕ} (q : r ≡ Found k a b) where
       found-is : tokensOf s ≡ onto (v .done ++ (tok k a b ∷ [])) (tokensFrom s b)
@@ -156,7 +157,7 @@ module _ {s o₀ o : List ℕ} {at n : ℕ} (v : Filling s o₀ o at n) where
 
       -- or it has room for it; and less is left of the text
       module _ (h : n < roomOf o₀) where
-        pub fill-room : length s ≤ 65536 → Fits s o at n k a b
+        pub fill-room : length s ≤ maxText → Fits s o at n k a b
         fill-room w =
             let p = token-in s at k a b (sym e ∙ q) in
             let l = fill-length in

@@ -7,9 +7,10 @@ use lib.Dec.{ltb}
 use lib.ListN.{length}
 use borrow.Author.Tests.{lt-ltb, le-ltb}
 use Rattle.text.specs.Utf8.{firstBad}
-use Rattle.text.specs.declared.Check.{Check}
-use Rattle.text.specs.declared.Check.the-variants.{Good, Bad}
+use Rattle.text.specs.declared.Scan.{Scan}
+use Rattle.text.specs.declared.Scan.the-variants.{Through, StopsAt}
 use Rattle.text.proofs.Booleans.{choose-by}
+use Rattle.text.specs.Limits.{maxText}
 use Rattle.token.specs.Tokens.{tokenAt}
 use Rattle.token.specs.Lister.{listedBy, checkedBy, nextOf, numbersOf, lister}
 use Rattle.token.specs.declared.Token.{Token}
@@ -19,18 +20,18 @@ use Rattle.token.specs.declared.Listed.the-variants.{TooLong, NotUtf8, N
 use Rattle.token.proofs.Bounds.{Inside, token-in}
 
 module _ (s : List ℕ) (at : ℕ) where
-  pub next-long : 65536 < length s → TooLong ≡ nextOf s at
+  pub next-long : maxText < length s → TooLong ≡ nextOf s at
   unfolding nextOf
-  next-long h = rw (lt-ltb 65536 (length s) h)
+  next-long h = rw (lt-ltb maxText (length s) h)
 
-  module _ (h : length s ≤ 65536) where
-    pub next-bad : (p : ℕ) → firstBad s ≡ Bad p → NotUtf8 p ≡ nextOf s at
+  module _ (h : length s ≤ maxText) where
+    pub next-bad : (p : ℕ) → firstBad s ≡ StopsAt p → NotUtf8 p ≡ nextOf s at
     unfolding nextOf
-    next-bad p e = rw (le-ltb 65536 (length s) h, e)
+    next-bad p e = rw (le-ltb maxText (length s) h, e)
 
-    pub next-good : firstBad s ≡ Good → (r : Token) → r ≡ tokenAt s at → listedBy (length s) r ≡ nextOf s at
+    pub next-good : firstBad s ≡ Through → (r : Token) → r ≡ tokenAt s at → listedBy (length s) r ≡ nextOf s at
     unfolding nextOf
-    next-good e r t = rw (le-ltb 65536 (length s) h, e, t)
+    next-good e r t = rw (le-ltb maxText (length s) h, e, t)
 
   -- the answer, and with it its numbers
   pub answered : (r : Listed) → r ≡ nextOf s at → (r ≡ nextOf s at) × (numbersOf at r ≡ lister s at)
@@ -48,14 +49,14 @@ listed-next n (Token.NoToken p) k a b e = let z : _≡_ {A = ℕ} 0 1 = cc in ab
 
 -- a token that the lister gives lies inside the text, at or after the place
 module _ (s : List ℕ) (at k a b : ℕ) where
-  by-check : (r : Check) → checkedBy r (λ u. listedBy (length s) (tokenAt s at)) ≡ Next k a b → Inside s at k a b
-  by-check Good e = token-in s at k a b (listed-next (length s) (tokenAt s at) k a b e)
-  by-check (Bad p) e = let z : _≡_ {A = ℕ} 0 1 = cc in absurd (omega arith)
+  by-check : (r : Scan) → checkedBy r (λ u. listedBy (length s) (tokenAt s at)) ≡ Next k a b → Inside s at k a b
+  by-check Through e = token-in s at k a b (listed-next (length s) (tokenAt s at) k a b e)
+  by-check (StopsAt p) e = let z : _≡_ {A = ℕ} 0 1 = cc in absurd (omega arith)
 
   pub next-in : nextOf s at ≡ Next k a b → Inside s at k a b
   unfolding nextOf
   next-in =
-      choose-by (λ (x : Listed). x ≡ Next k a b → Inside s at k a b) (ltb 65536 (length s)) (λ u. TooLong) _
+      choose-by (λ (x : Listed). x ≡ Next k a b → Inside s at k a b) (ltb maxText (length s)) (λ u. TooLong) _
       (λ l e.
       let z : _≡_ {A = ℕ} 0 1 = cc in
       absurd (omega arith)) (λ l. by-check (firstBad s))

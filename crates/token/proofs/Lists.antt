@@ -4,8 +4,8 @@ use mathlib.Core.Path.{_≡_, refl, ap}
 use mathlib.Core.List.{List, [], _∷_}
 use native.Mathlib.Omega.{arith}
 use lib.ListN.{length, getD}
-use Rattle.text.specs.declared.Check.{Check}
-use Rattle.text.specs.declared.Check.the-variants.{Good, Bad}
+use Rattle.text.specs.declared.Scan.{Scan}
+use Rattle.text.specs.declared.Scan.the-variants.{Through, StopsAt}
 use Rattle.token.specs.Tokens.{tokenAt}
 use Rattle.token.specs.Lists.{Tok, tok, kindOf, startOf, endOf, Tokens, onto, tokensBy, tokensIn, tokensFrom, tokensOf, placeFrom}
 use Rattle.token.specs.declared.Token.{Token}
@@ -79,9 +79,9 @@ pub inside-at : (s : List ℕ) (i : ℕ) (d : Tok) → i < length (tokensOf s .l
     → Inside s (placeFrom 0 (tokensOf s .list) i) (kindOf (getD (tokensOf s .list) i d)) (startOf (getD (tokensOf s .list) i d)) (endOf (getD (tokensOf s .list) i d))
 inside-at s i d l = inside-as s (placeFrom 0 (tokensOf s .list) i) (getD (tokensOf s .list) i d) (at-index s i d l)
 
-abbrev pub endedBy : Check → Token
-endedBy Good = End
-endedBy (Bad p) = NoToken p
+abbrev pub endedBy : Scan → Token
+endedBy Through = End
+endedBy (StopsAt p) = NoToken p
 
 abbrev Ended : List ℕ → ℕ → Tokens → Type 0
 Ended s at r = tokenAt s (placeFrom at (r .list) (length (r .list))) ≡ endedBy (r .fault)

@@ -9,8 +9,8 @@ use lib.Seq.{drop-drop}
 use borrow.Author.Tests.{ne-eqb}
 use Rattle.text.specs.Classes.{classOf}
 use Rattle.text.specs.Scans.{later, sought}
-use Rattle.text.specs.declared.Check.{Check}
-use Rattle.text.specs.declared.Check.the-variants.{Good, Bad}
+use Rattle.text.specs.declared.Scan.{Scan}
+use Rattle.text.specs.declared.Scan.the-variants.{Through, StopsAt}
 use Rattle.text.specs.declared.Look.{Look}
 use Rattle.text.specs.declared.Look.the-variants.{Past, Stop}
 use Rattle.text.proofs.Tests.{at-byte}
@@ -42,13 +42,13 @@ pub none-by : (at n place : ℕ) → place ≡ at + n → NoToken place ≡ move
 none-by at n place e = rw e
 
 -- where the blanks end, with places counted from the text's start
-abbrev pub landed : List ℕ → Check → Token
-landed s Good = End
-landed s (Bad i) = moved i (firstToken (drop i s))
+abbrev pub landed : List ℕ → Scan → Token
+landed s Through = End
+landed s (StopsAt i) = moved i (firstToken (drop i s))
 
-landed-later : (s : List ℕ) (at : ℕ) (r : Check) → moved at (pastBlanks (drop at s) r) ≡ landed s (later at r)
-landed-later s at Good = refl
-landed-later s at (Bad n) =
+landed-later : (s : List ℕ) (at : ℕ) (r : Scan) → moved at (pastBlanks (drop at s) r) ≡ landed s (later at r)
+landed-later s at Through = refl
+landed-later s at (StopsAt n) =
     moved-moved at n (firstToken (drop n (drop at s))) ∙ ap (λ (l : List ℕ). moved (at + n) (firstToken l)) (drop-drop n at s)
 
 pub landed-is : (s : List ℕ) (at : ℕ) → tokenAt s at ≡ landed s (later at (sought blankOf 0 (drop at s)))

@@ -16,7 +16,7 @@ use Rattle.text.specs.Words.{startsWord, inWord, begins, push}
 use Rattle.text.specs.Scans.{sought}
 use Rattle.text.specs.Utf8.{scalar, charOf, encoded, firstBad}
 use Rattle.text.specs.Digits.{decimal}
-use Rattle.text.specs.declared.Check.the-variants.{Good, Bad}
+use Rattle.text.specs.declared.Scan.the-variants.{Through, StopsAt}
 use Rattle.text.specs.declared.Look.the-variants.{Stop}
 use Rattle.text.specs.declared.Sequence.the-variants.{Is}
 use Rattle.text.proofs.Encodes.{encoded-read}
@@ -243,10 +243,10 @@ past-bytes : PastBytes 34 insideLook
 unfolding insideLook
 past-bytes x ys m q = rw (ne-eqb x 34 q, plain-byte x ys m, ne-eqb x 92 m)
 
-module _ (s ys : List ℕ) (h : firstBad s ≡ Good) where
-  walk : sought insideLook 0 (inside 34 s ++ (34 ∷ ys)) ≡ Bad (length (inside 34 s))
+module _ (s ys : List ℕ) (h : firstBad s ≡ Through) where
+  walk : sought insideLook 0 (inside 34 s ++ (34 ∷ ys)) ≡ StopsAt (length (inside 34 s))
   unfolding simpleOf sought insideLook
-  walk = bytes-over-inside 34 refl s h insideLook past-escapes past-bytes (34 ∷ ys) ∙ ap Bad (add-zero (length (inside 34 s)))
+  walk = bytes-over-inside 34 refl s h insideLook past-escapes past-bytes (34 ∷ ys) ∙ ap StopsAt (add-zero (length (inside 34 s)))
 
   closed : (kind k : ℕ) → stringOf kind k (inside 34 s ++ (34 ∷ ys)) ≡ Found kind 0 (k + (length (inside 34 s) + 1))
   unfolding stringOf
@@ -307,7 +307,7 @@ module _ (s : List ℕ) (n : ℕ) where
   list-by r e = tokens-law s n ∙ ap (λ (t : Token). tokensBy t (tokensFrom s)) e
 
   -- the text's end
-  pub end-next : length s ≤ n → tokensFrom s n ≡ record { list = []; fault = Good }
+  pub end-next : length s ≤ n → tokensFrom s n ≡ record { list = []; fault = Through }
   end-next h = list-by End (sym (at-over s n h))
 
   -- a blank of one byte

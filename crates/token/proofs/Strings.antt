@@ -9,8 +9,8 @@ use lib.Seq.{drop-drop}
 use borrow.Author.Tests.{ne-eqb}
 use Rattle.text.specs.Booleans.{nextIs}
 use Rattle.text.specs.Scans.{later, sought}
-use Rattle.text.specs.declared.Check.{Check}
-use Rattle.text.specs.declared.Check.the-variants.{Good, Bad}
+use Rattle.text.specs.declared.Scan.{Scan}
+use Rattle.text.specs.declared.Scan.the-variants.{Through, StopsAt}
 use Rattle.text.proofs.Tests.{at-byte}
 use Rattle.text.proofs.Walks.{sought-past, sought-stop}
 use Rattle.literal.specs.Escapes.{escapeOf}
@@ -23,11 +23,11 @@ use Rattle.token.proofs.Bounds.{stop-at}
 use Rattle.token.proofs.Places.{found, none, none-by}
 
 module _ (s : List ℕ) (i : ℕ) (h : i < length s) where
-  pub inside-quote : getD s i 0 ≡ 34 → later i (sought insideLook 0 (drop i s)) ≡ Bad i
+  pub inside-quote : getD s i 0 ≡ 34 → later i (sought insideLook 0 (drop i s)) ≡ StopsAt i
   unfolding insideLook
   inside-quote e = sought-stop insideLook s i h (rw (next-at s i h 34 e))
 
-  pub inside-bad : getD s i 0 ≡ 92 → (getD s i 0 ≡ 34 → ⊥) → escapeOf (drop i s) ≡ Plain → later i (sought insideLook 0 (drop i s)) ≡ Bad i
+  pub inside-bad : getD s i 0 ≡ 92 → (getD s i 0 ≡ 34 → ⊥) → escapeOf (drop i s) ≡ Plain → later i (sought insideLook 0 (drop i s)) ≡ StopsAt i
   unfolding insideLook
   inside-bad e n p = sought-stop insideLook s i h (rw (next-other s i h 34 n, p, next-at s i h 92 e))
 
@@ -48,7 +48,7 @@ module _ (s : List ℕ) (i : ℕ) (h : i < length s) where
   inside-byte q e = sought-past insideLook s i 0 h (rw (next-other s i h 34 q, no-escape e, next-other s i h 92 e))
 
 -- a string that k bytes open at a place, and whose walk stopped
-module _ (s : List ℕ) (at k i : ℕ) (e : later (at + k) (sought insideLook 0 (drop (at + k) s)) ≡ Bad i) where
+module _ (s : List ℕ) (at k i : ℕ) (e : later (at + k) (sought insideLook 0 (drop (at + k) s)) ≡ StopsAt i) where
   pub string-inside : i < length s
   string-inside =
       let (n, q, z, l) = stop-at insideLook s (at + k) i e in
@@ -71,12 +71,12 @@ module _ (s : List ℕ) (at k i : ℕ) (e : later (at + k) (sought insideLook 0 
       let y : i ≡ at + (k + n) = omega arith in
       rw (q, closes-at n false z (next-other s i string-inside 34 c)) (none-by at (k + n) i y)
 
-good-is : (at : ℕ) (r : Check) → later at r ≡ Good → r ≡ Good
-good-is at Good e = refl
-good-is at (Bad n) e = let z : _≡_ {A = ℕ} 0 1 = cc in absurd (omega arith)
+good-is : (at : ℕ) (r : Scan) → later at r ≡ Through → r ≡ Through
+good-is at Through e = refl
+good-is at (StopsAt n) e = let z : _≡_ {A = ℕ} 0 1 = cc in absurd (omega arith)
 
 -- one that the text's end cuts off
-pub string-open : (s : List ℕ) (at k kind : ℕ) → later (at + k) (sought insideLook 0 (drop (at + k) s)) ≡ Good
+pub string-open : (s : List ℕ) (at k kind : ℕ) → later (at + k) (sought insideLook 0 (drop (at + k) s)) ≡ Through
     → NoToken at ≡ moved at (stringOf kind k (drop (at + k) s))
 unfolding stringOf
 string-open s at k kind e = rw (good-is (at + k) (sought insideLook 0 (drop (at + k) s)) e) (none at)

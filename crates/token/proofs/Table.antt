@@ -10,6 +10,7 @@ use lib.ListN.{length, getD, take, drop, List·getD-eq-default, List·getD-appen
 use lib.Seq.{sets, getD-append-add}
 use Rattle.text.specs.Splice.{fronted}
 use Rattle.text.proofs.Splices.{sets-append, sets-front}
+use Rattle.text.specs.Limits.{maxText}
 use Rattle.token.specs.Lists.{Tok, tok, kindOf, startOf, endOf}
 use Rattle.token.specs.Table.{tokenSize, rowOf, flat, roomOf, toks, Lent, tokOf, kind, start, end, between, word, label}
 use Rattle.token.proofs.Lists.{inside-at, few}
@@ -53,7 +54,7 @@ row-fits o n h = omega (arith, div-mul-le-self (length o) tokenSize)
 -- ---- a token by its index
 
 module _ (s ts : List ℕ) (v : Lent s ts) where
-  pub sizes : (length ts ≡ length (toks s) * tokenSize) × (length (toks s) ≤ 65536)
+  pub sizes : (length ts ≡ length (toks s) * tokenSize) × (length (toks s) ≤ maxText)
   sizes =
       let f = few s in
       let h = v .short in
@@ -63,38 +64,44 @@ module _ (s ts : List ℕ) (v : Lent s ts) where
   pub count-is : length ts / tokenSize ≡ length (toks s)
   count-is = omega (arith, sizes .0, div-add-mod' (length ts) tokenSize)
 
-  module _ (i : ℕ) where
-    row-in : (k : ℕ) → k < tokenSize → i * tokenSize + k < length ts → getD ts (i * tokenSize + k) 0 ≡ getD (rowOf (tokOf s i)) k 0
+  -- a token's row
+  module _ (i : ℕ) (h : i < length ts / tokenSize) where
+    pub row-lies : i * tokenSize + tokenSize ≤ length ts
+    row-lies = row-fits ts i h
+
+    row-in : (k : ℕ) → k < tokenSize → getD ts (i * tokenSize + k) 0 ≡ getD (rowOf (tokOf s i)) k 0
     unfolding tokOf
-    row-in k g h = ap (λ (l : List ℕ). getD l (i * tokenSize + k) 0) (v .table) ∙ flat-at (toks s) i k _ (omega (arith, sizes .0)) g
+    row-in k g = ap (λ (l : List ℕ). getD l (i * tokenSize + k) 0) (v .table) ∙ flat-at (toks s) i k _ (omega (arith, count-is)) g
 
-    row-out : (k : ℕ) → k < tokenSize → length ts ≤ i * tokenSize + k → tok 0 (length s) (length s) ≡ tokOf s i
+    pub kind-in : getD ts (i * tokenSize) 0 ≡ kind s i
+    unfolding kind
+    kind-in = ap (λ (n : ℕ). getD ts n 0) (sym (add-zero (i * tokenSize))) ∙ row-in 0 (omega arith)
+
+    pub start-in : getD ts (i * tokenSize + 1) 0 ≡ start s i
+    unfolding start
+    start-in = row-in 1 (omega arith)
+
+    pub end-in : getD ts (i * tokenSize + 2) 0 ≡ end s i
+    unfolding end
+    end-in = row-in 2 (omega arith)
+
+  -- past the last one
+  module _ (i : ℕ) (h : length ts / tokenSize ≤ i) where
+    no-row : tok 0 (length s) (length s) ≡ tokOf s i
     unfolding tokOf
-    row-out k g h = sym (List·getD-eq-default (toks s) (tok 0 (length s) (length s)) (omega (arith, sizes .0)))
+    no-row = sym (List·getD-eq-default (toks s) (tok 0 (length s) (length s)) (omega (arith, count-is)))
 
-    pub kind-in : i * tokenSize < length ts → getD ts (i * tokenSize) 0 ≡ kind s i
+    pub kind-out : 0 ≡ kind s i
     unfolding kind
-    kind-in h = ap (λ (n : ℕ). getD ts n 0) (sym (add-zero (i * tokenSize))) ∙ row-in 0 (omega arith) (omega arith)
+    kind-out = ap kindOf no-row
 
-    pub kind-out : length ts ≤ i * tokenSize → 0 ≡ kind s i
-    unfolding kind
-    kind-out h = ap kindOf (row-out 0 (omega arith) (omega arith))
-
-    pub start-in : i * tokenSize + 1 < length ts → getD ts (i * tokenSize + 1) 0 ≡ start s i
+    pub start-out : length s ≡ start s i
     unfolding start
-    start-in h = row-in 1 (omega arith) h
+    start-out = ap startOf no-row
 
-    pub start-out : length ts ≤ i * tokenSize + 1 → length s ≡ start s i
-    unfolding start
-    start-out h = ap startOf (row-out 1 (omega arith) h)
-
-    pub end-in : i * tokenSize + 2 < length ts → getD ts (i * tokenSize + 2) 0 ≡ end s i
+    pub end-out : length s ≡ end s i
     unfolding end
-    end-in h = row-in 2 (omega arith) h
-
-    pub end-out : length ts ≤ i * tokenSize + 2 → length s ≡ end s i
-    unfolding end
-    end-out h = ap endOf (row-out 2 (omega arith) h)
+    end-out = ap endOf no-row
 
 -- a token has a byte at least, inside the text
 pub spans : (s : List ℕ) (i : ℕ) → i < length (toks s) → (start s i < end s i) × (end s i ≤ length s)

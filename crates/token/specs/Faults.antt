@@ -7,7 +7,7 @@ use mathlib.Core.Logic.{_⊎_}
 use lib.ListN.{drop}
 use Rattle.text.specs.Booleans.{nextIs}
 use Rattle.text.specs.Scans.{later, sought}
-use Rattle.text.specs.declared.Check.the-variants.{Bad}
+use Rattle.text.specs.declared.Scan.the-variants.{StopsAt}
 use Rattle.literal.specs.Escapes.{escapeOf}
 use Rattle.literal.specs.declared.Escape.the-variants.{Means, Plain}
 use Rattle.token.specs.Blanks.{blankOf}
@@ -35,4 +35,4 @@ FaultAt s f p = BadEscape s f p ⊎ ((p ≡ f) × ((q : ℕ) → BadEscape s f q
 
 -- the place of a 3, for what stands past the blanks from a place on
 abbrev pub FaultFrom : List ℕ → ℕ → ℕ → Type 0
-FaultFrom s at p = (f : ℕ) × (later at (sought blankOf 0 (drop at s)) ≡ Bad f) × FaultAt s f p
+FaultFrom s at p = (f : ℕ) × (later at (sought blankOf 0 (drop at s)) ≡ StopsAt f) × FaultAt s f p

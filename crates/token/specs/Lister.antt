@@ -5,8 +5,9 @@ use lib.Dec.{ltb}
 use lib.ListN.{length}
 use Rattle.text.specs.Booleans.{choose}
 use Rattle.text.specs.Utf8.{firstBad}
-use Rattle.text.specs.declared.Check.{Check}
-use Rattle.text.specs.declared.Check.the-variants.{Good, Bad}
+use Rattle.text.specs.declared.Scan.{Scan}
+use Rattle.text.specs.declared.Scan.the-variants.{Through, StopsAt}
+use Rattle.text.specs.Limits.{maxText}
 use Rattle.token.specs.Tokens.{tokenAt}
 use Rattle.token.specs.declared.Token.{Token}
 use Rattle.token.specs.declared.Token.the-variants as Token
@@ -20,13 +21,13 @@ listedBy n Token.End = End n
 listedBy n (Token.NoToken place) = NoToken place
 
 -- by the start of the first bad sequence, if there is one
-abbrev pub checkedBy : Check → (Unit {0} → Listed) → Listed
-checkedBy (Bad place) f = NotUtf8 place
-checkedBy Good f = f tt
+abbrev pub checkedBy : Scan → (Unit {0} → Listed) → Listed
+checkedBy (StopsAt place) f = NotUtf8 place
+checkedBy Through f = f tt
 
 -- over 65,536 bytes; not UTF-8; else the next token past blanks, or the text's end, or no token
 unfoldable pub nextOf : List ℕ → ℕ → Listed
-nextOf s at = choose (ltb 65536 (length s)) (λ u. TooLong) (λ u. checkedBy (firstBad s) (λ u. listedBy (length s) (tokenAt s at)))
+nextOf s at = choose (ltb maxText (length s)) (λ u. TooLong) (λ u. checkedBy (firstBad s) (λ u. listedBy (length s) (tokenAt s at)))
 
 -- the numbers that a caller sees: a refusal's number (0: none) and place; kind, start and end; and the lister's place after the call
 pub record Numbers : Type 0 where

@@ -4,8 +4,8 @@ use mathlib.Core.List.{List, [], _∷_, _++_}
 use lib.Dec.{leb}
 use lib.ListN.{length}
 use Rattle.text.specs.Booleans.{choose}
-use Rattle.text.specs.declared.Check.{Check}
-use Rattle.text.specs.declared.Check.the-variants.{Good, Bad}
+use Rattle.text.specs.declared.Scan.{Scan}
+use Rattle.text.specs.declared.Scan.the-variants.{Through, StopsAt}
 use Rattle.token.specs.Tokens.{tokenAt}
 use Rattle.token.specs.declared.Token.{Token}
 use Rattle.token.specs.declared.Token.the-variants.{Found, End, NoToken}
@@ -29,7 +29,7 @@ endOf (tok kind start end) = end
 -- tokens in order, and whether they go up to the text's end or to a place where there is none
 pub record Tokens : Type 0 where
   pub list : List Tok
-  pub fault : Check
+  pub fault : Scan
 
 -- with some tokens before
 abbrev pub onto : List Tok → Tokens → Tokens
@@ -37,13 +37,13 @@ onto ts r = record { list = ts ++ r .list; fault = r .fault }
 
 -- by what stands at a place. go: the tokens from this one's end on
 abbrev pub tokensBy : Token → (ℕ → Tokens) → Tokens
-tokensBy End go = record { list = []; fault = Good }
-tokensBy (NoToken place) go = record { list = []; fault = Bad place }
+tokensBy End go = record { list = []; fault = Through }
+tokensBy (NoToken place) go = record { list = []; fault = StopsAt place }
 tokensBy (Found kind start end) go = onto (tok kind start end ∷ []) (go end)
 
 -- the first argument bounds how many: one more than the bytes left are enough, since no token is empty
 unfoldable pub tokensIn : ℕ → List ℕ → ℕ → Tokens
-tokensIn zero s at = record { list = []; fault = Good }
+tokensIn zero s at = record { list = []; fault = Through }
 tokensIn (suc k) s at = tokensBy (tokenAt s at) (λ end. tokensIn k s end)
 
 -- the tokens from a place on, each looked for at the end of the one before it
@@ -65,9 +65,9 @@ abbrev pub pastLast : List ℕ → ℕ
 pastLast s = placeFrom 0 (tokensOf s .list) (length (tokensOf s .list))
 
 -- what filling the lent table answers
-abbrev pub filledBy : ℕ → Check → Filled
-filledBy n Good = Filled.All n
-filledBy n (Bad place) = Filled.NoToken place
+abbrev pub filledBy : ℕ → Scan → Filled
+filledBy n Through = Filled.All n
+filledBy n (StopsAt place) = Filled.NoToken place
 
 -- a table with room for m; all tokens before the first 3 have to fit
 unfoldable pub filledOf : ℕ → List ℕ → Filled

@@ -5,6 +5,7 @@ use mathlib.Core.Bool.{Bool}
 use mathlib.Core.List.{List, [], _∷_, _++_}
 use lib.Dec.{eqb}
 use lib.ListN.{length, getD, take, drop}
+use Rattle.text.specs.Limits.{maxText}
 use Rattle.token.specs.Lists.{Tok, tok, kindOf, startOf, endOf, tokensOf}
 
 -- ---- rows
@@ -34,7 +35,7 @@ toks s = tokensOf s .list
 
 -- a lent table holds the tokens of a text of legal length, and nothing else
 pub record Lent (s ts : List ℕ) : Type 0 where
-  pub short : length s ≤ 65536
+  pub short : length s ≤ maxText
   pub table : ts ≡ flat (toks s)
 
 -- the token with an index; past the last one, no token at the text's end

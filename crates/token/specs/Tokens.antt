@@ -11,8 +11,8 @@ use Rattle.text.specs.Scans.{sought}
 use Rattle.text.specs.Utf8.{charOf}
 use Rattle.text.specs.declared.Look.{Look}
 use Rattle.text.specs.declared.Look.the-variants.{Stop}
-use Rattle.text.specs.declared.Check.{Check}
-use Rattle.text.specs.declared.Check.the-variants.{Good, Bad}
+use Rattle.text.specs.declared.Scan.{Scan}
+use Rattle.text.specs.declared.Scan.the-variants.{Through, StopsAt}
 use Rattle.text.specs.declared.Sequence.{Sequence}
 use Rattle.text.specs.declared.Sequence.the-variants.{Is, Broken}
 use Rattle.literal.specs.Escapes.{escapeOf, strayLook}
@@ -60,11 +60,11 @@ dotsToken xs = choose (nextIs 46 xs) (λ u. Found 22 0 2) (λ u. NoToken 0)
 unfoldable pub insideLook : List ℕ → Look
 insideLook xs = choose (nextIs 34 xs) (λ u. Stop) (λ u. strayLook xs)
 
--- `Good`: the text ends first, and the string's first byte is told; `Bad n`: the inside ends n bytes on, at its `"`, or at that
+-- `Through`: the text ends first, and the string's first byte is told; `StopsAt n`: the inside ends n bytes on, at its `"`, or at that
 -- backslash, which is told
-abbrev pub stringBy : ℕ → ℕ → List ℕ → Check → Token
-stringBy kind k xs Good = NoToken 0
-stringBy kind k xs (Bad n) = choose (nextIs 34 (drop n xs)) (λ u. Found kind 0 (k + (n + 1))) (λ u. NoToken (k + n))
+abbrev pub stringBy : ℕ → ℕ → List ℕ → Scan → Token
+stringBy kind k xs Through = NoToken 0
+stringBy kind k xs (StopsAt n) = choose (nextIs 34 (drop n xs)) (λ u. Found kind 0 (k + (n + 1))) (λ u. NoToken (k + n))
 
 -- after the k bytes that open it: a string up to its `"`
 unfoldable pub stringOf : ℕ → ℕ → List ℕ → Token
@@ -135,10 +135,10 @@ abbrev pub firstToken : List ℕ → Token
 firstToken [] = End
 firstToken (x ∷ xs) = tokenBy (classOf x) x xs
 
--- `Bad n`: n bytes of blanks, then a byte that begins none; `Good`: blanks up to the text's end
-abbrev pub pastBlanks : List ℕ → Check → Token
-pastBlanks xs Good = End
-pastBlanks xs (Bad n) = moved n (firstToken (drop n xs))
+-- `StopsAt n`: n bytes of blanks, then a byte that begins none; `Through`: blanks up to the text's end
+abbrev pub pastBlanks : List ℕ → Scan → Token
+pastBlanks xs Through = End
+pastBlanks xs (StopsAt n) = moved n (firstToken (drop n xs))
 
 -- past all blanks: a token, no token, or the text's end
 unfoldable pub tokenOf : List ℕ → Token

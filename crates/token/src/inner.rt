@@ -1,8 +1,8 @@
 // The token at a place, and all tokens of a text. The table of classes is lent.
 mod blanks;
+pub mod listing;
 pub mod openers;
 mod runs;
-pub mod table;
 
 use crate::Filled;
 use crate::Token;
@@ -12,6 +12,7 @@ ghost use Prim.Native.Nat.{_≤_};
 ghost use lib.ListN.{length, take};
 ghost use Rattle.text.specs.Classes.{classes};
 ghost use Rattle.text.specs.Splice.{fronted};
+ghost use Rattle.text.specs.Limits.{maxText};
 ghost use Rattle.token.specs.Tokens.{tokenAt};
 ghost use Rattle.token.specs.Lists.{filledOf};
 ghost use Rattle.token.specs.Table.{flat, roomOf, toks};
@@ -70,11 +71,11 @@ pub fn token_at(t: &[u8; 256], s: &[u8], at: usize) -> Token
 // Puts the tokens of a text into a lent table, as many as it has room for.
 pub fn fill(t: &[u8; 256], s: &[u8], tokens: &mut [u32]) -> Filled
     requires { ⌜ now t ≡ classes ⌝ }
-    requires { ⌜ length (now s) ≤ 65536 ⌝ }
+    requires { ⌜ length (now s) ≤ maxText ⌝ }
     ensures answer { λ r. ⌜ r ≡ filledOf (roomOf (now (tokens .entry))) (now (s .entry)) ⌝ }
     ensures held { λ _. ⌜ now (tokens .exit) ≡ fronted (flat (take (roomOf (now (tokens .entry))) (toks (now (s .entry))))) (now (tokens .entry)) ⌝ }
 {
-    let room = tokens.len() / table::TOKEN_SIZE;
+    let room = tokens.len() / listing::TOKEN_SIZE;
     let mut at = 0;
     let mut n = 0;
     loop {
@@ -90,7 +91,7 @@ pub fn fill(t: &[u8; 256], s: &[u8], tokens: &mut [u32]) -> Filled
                 if room <= n {
                     return Filled::Full;
                 }
-                table::put_token(tokens, n, kind as u32, start as u32, end as u32);
+                listing::put_token(tokens, n, kind as u32, start as u32, end as u32);
                 n += 1;
                 at = end;
             }

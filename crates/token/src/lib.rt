@@ -5,7 +5,8 @@
 pub mod inner;
 pub mod kind;
 
-use text::Check;
+use text::Scan;
+use text::limits;
 ghost use mathlib.Core.Path.{_≡_};
 ghost use Rattle.token.specs.Lister.{nextOf, numbersOf, lister};
 
@@ -52,11 +53,11 @@ pub fn next_token(s: &[u8], at: usize) -> Listed
     ensures answer { λ r. ⌜ r ≡ nextOf (now (s .entry)) at ⌝ }
     ensures numbers { λ r. ⌜ numbersOf at r ≡ lister (now (s .entry)) at ⌝ }
 {
-    if 65536 < s.len() {
+    if limits::TEXT < s.len() {
         return Listed::TooLong;
     }
     let utf8 = text::first_bad(s);
-    if let Check::Bad(place) = utf8 {
+    if let Scan::StopsAt(place) = utf8 {
         return Listed::NotUtf8(place);
     }
     let classes = text::inner::classes::classes();

@@ -5,7 +5,7 @@
 // it stands, behind a capital they are in hex.
 use token::Filled;
 use token::Listed;
-use token::inner::table::TOKEN_SIZE;
+use token::inner::listing::TOKEN_SIZE;
 
 fn write_token(kind: u8, start: usize, end: usize) {
     vectors::write_number(kind as usize);

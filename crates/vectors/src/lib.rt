@@ -44,6 +44,21 @@ pub fn field(s: &[u8], at: usize) -> Part
     Part { start, end }
 }
 
+// The field of a line that k others stand before.
+pub fn word(s: &[u8], k: usize) -> &[u8] {
+    let mut at = 0;
+    let mut i = 0;
+    while i < k {
+        let part = field(s, at);
+        at = part.end;
+        i += 1;
+    }
+    let part = field(s, at);
+    let a = part.start;
+    let e = part.end;
+    &s[a..e]
+}
+
 fn hex_value(b: u8) -> u8
     ensures { λ r. ⌜ r ≤ 15 ⌝ }
 {
@@ -173,24 +188,18 @@ pub fn repeat(piece: &[u8], times: usize, out: &mut [u8], from: usize) -> usize
     k
 }
 
-// A text in pieces, at most nine: how many times, and what in hex, from a place of the line on.
-pub fn pieces(line: &[u8], from: usize, out: &mut [u8]) -> usize
+// A text in pieces, at most nine: how many times, and what in hex, from behind the line's first fields on.
+pub fn pieces(line: &[u8], fields: u8, out: &mut [u8]) -> usize
     ensures { λ r. ⌜ Counts r (now (out .exit)) ⌝ }
 {
     let mut piece = [0u8; 4096];
-    let mut at = from;
     let mut k = 0;
     let mut turns: usize = 0;
     while turns < 9 {
-        let times = field(line, at);
-        let hex = field(line, times.end);
-        let a = times.start;
-        let b = times.end;
-        let c = hex.start;
-        let d = hex.end;
-        let n = unhex(&line[c..d], &mut piece);
-        k = repeat(&piece[..n], number(&line[a..b]) as usize, out, k);
-        at = d;
+        let at = fields as usize + 2 * turns;
+        let times = number(word(line, at)) as usize;
+        let n = unhex(word(line, at + 1), &mut piece);
+        k = repeat(&piece[..n], times, out, k);
         turns += 1;
     }
     k

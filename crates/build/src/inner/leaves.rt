@@ -10,15 +10,15 @@ use records::inner::nodes::put_text;
 use structure::inner::tokens::spelled;
 use table::End;
 use table::Sort;
-use token::inner::table::end_at;
-use token::inner::table::kind_at;
-use token::inner::table::start_at;
+use token::inner::listing::end_at;
+use token::inner::listing::kind_at;
+use token::inner::listing::start_at;
 use token::kind;
 ghost use mathlib.Core.Path.{_≡_};
 ghost use mathlib.Core.Bool.{true};
 ghost use Prim.Native.Nat.{_+_, _<_};
 ghost use lib.ListN.{length};
-ghost use Rattle.text.specs.declared.Check.the-variants as Check;
+ghost use Rattle.text.specs.declared.Scan.the-variants as Scan;
 ghost use Rattle.literal.specs.Escapes.{badEscape};
 ghost use Rattle.token.specs.Table.{toks, start, end, is, Lent};
 ghost use Rattle.structure.specs.Values.{opening, literalBytes};
@@ -66,7 +66,7 @@ fn put_literal(
 ) -> Placed
     requires { ⌜ Lent (now text) (now tokens) ⌝ }
     requires { ⌜ start (now text) at + opening (now text) at < end (now text) at ⌝ }
-    requires { ⌜ badEscape (literalBytes (now text) at) ≡ Check.Good ⌝ }
+    requires { ⌜ badEscape (literalBytes (now text) at) ≡ Scan.Through ⌝ }
     requires { ⌜ TreeRoom (stringLeaf sort (now text) at next) (now nodes) (now store) used free ⌝ }
     ensures { λ r. ⌜ Built (stringLeaf sort (now (text .entry)) at next) (now (nodes .entry)) (now (store .entry)) used free r (now (nodes .exit)) (now (store .exit)) ⌝ }
 {

@@ -1,5 +1,5 @@
 // Rules: a name, a mark, a tree and a record each.
-use super::build::consume_expr;
+use super::descent::consume_expr;
 use super::store::put_bytes;
 use crate::RuleEnd;
 use records::inner::rules::put_rule;
@@ -8,10 +8,10 @@ use structure::inner::rules::docs_end;
 use structure::inner::rules::mark_at;
 use structure::inner::rules::past_bar;
 use structure::inner::rules::past_mark;
-use token::inner::table::end_at;
-use token::inner::table::kind_at;
-use token::inner::table::start_at;
-use token::inner::table::token_count;
+use token::inner::listing::end_at;
+use token::inner::listing::kind_at;
+use token::inner::listing::start_at;
+use token::inner::listing::token_count;
 use token::kind;
 ghost use Rattle.token.specs.Table.{Lent};
 ghost use Rattle.structure.specs.Structure.{ruleFrom, grammar};

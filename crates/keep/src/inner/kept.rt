@@ -8,7 +8,7 @@ use states::State;
 use states::Status;
 use states::Tail;
 use states::Utf;
-use text::Check;
+use text::Scan;
 ghost use mathlib.Core.Path.{_≡_};
 ghost use Rattle.states.specs.Keep as Keep;
 ghost use Rattle.states.specs.Steps.{refusedAt};
@@ -88,15 +88,15 @@ pub fn packed(q: State) -> Packed
 }
 
 // The tokens' machine refused.
-pub fn refused(c: Conf) -> Check
+pub fn refused(c: Conf) -> Scan
     ensures { λ r. ⌜ r ≡ refusedAt c ⌝ }
 {
     let q = c.state;
     let p = packed(q);
     if p.code == 29 {
-        return Check::Bad(c.start);
+        return Scan::StopsAt(c.start);
     }
-    Check::Good
+    Scan::Through
 }
 
 // Bytes that were seen and are not yet counted.

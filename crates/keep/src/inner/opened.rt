@@ -7,6 +7,7 @@ use states::State;
 use states::Status;
 use states::Tail;
 use states::Utf;
+use text::limits;
 ghost use mathlib.Core.Path.{_≡_};
 ghost use Prim.Native.Nat.{_-_};
 ghost use lib.ListN.{getD};
@@ -228,7 +229,7 @@ fn fits(c: Stand) -> bool
 {
     let conf = c.conf;
     let u = c.utf;
-    if 65536 < c.seen {
+    if limits::TEXT < c.seen {
         return false;
     }
     if c.seen < conf.start {

@@ -8,9 +8,11 @@ use table::Node;
 use table::Op;
 use table::Sort;
 use table::Unary;
+use text::limits;
 ghost use mathlib.Core.Path.{_≡_};
 ghost use Prim.Native.Nat.{_<_};
 ghost use Rattle.table.specs.declared.Node.the-variants.{Tip};
+ghost use Rattle.text.specs.Limits.{maxNodes};
 ghost use Rattle.table.specs.Record.{nodesIn};
 ghost use Rattle.links.specs.Program.{linked, unaryAct, actOf, linkedAt, mentionOf, isFit};
 
@@ -78,12 +80,12 @@ pub fn act_of(node: Node, link: u16) -> Act
 }
 
 // The node at an index, its name by its link.
-pub fn linked_at(nodes: &[u32], links: &[u16; 4096], i: usize) -> Act
+pub fn linked_at(nodes: &[u32], links: &[u16; limits::NODES], i: usize) -> Act
     requires { ⌜ i < nodesIn (now nodes) ⌝ }
-    requires { ⌜ i < 4096 ⌝ }
+    requires { ⌜ i < maxNodes ⌝ }
     ensures { λ r. ⌜ r ≡ linkedAt (now (nodes .entry)) (now (links .entry)) i ⌝ }
 {
-    act_of(table::inner::records::node_at(nodes, i), links[i])
+    act_of(table::inner::layout::node_at(nodes, i), links[i])
 }
 
 pub fn mention_of(node: Node) -> Mention

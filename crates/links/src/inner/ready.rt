@@ -7,15 +7,17 @@ use crate::Ready;
 use table::Fault;
 use table::Named;
 use table::TableCheck;
-use table::inner::records::NODE_SIZE;
-use table::inner::records::RULE_SIZE;
+use table::inner::layout::NODE_SIZE;
+use table::inner::layout::RULE_SIZE;
+use text::limits;
 ghost use mathlib.Core.Path.{_≡_};
 ghost use mathlib.Core.Bool.{true};
 ghost use Prim.Native.Nat.{_<_};
 ghost use lib.ListN.{length};
+ghost use Rattle.text.specs.Limits.{maxNodes};
 ghost use Rattle.table.specs.Characters.{faultOf};
 ghost use Rattle.table.specs.Record.{nodesIn, rulesIn, rootAt};
-ghost use Rattle.table.specs.Check.{maxNodes, isGood, lowest, Valid};
+ghost use Rattle.table.specs.Check.{isThrough, lowest, Valid};
 ghost use Rattle.table.specs.Names.{sameText, NamesInside};
 ghost use Rattle.links.specs.declared.Ready.the-variants.{Yes};
 ghost use Rattle.links.specs.Program.{anyName, fitAt, ownAt, linkFor, mentionLink, knownAt, Linked, Rooted, Inside};
@@ -28,7 +30,7 @@ fn first_unfit(nodes: &[u32]) -> Fault
     let n = nodes.len() / NODE_SIZE;
     let mut i = 0;
     while i < n {
-        let node = table::inner::records::node_at(nodes, i);
+        let node = table::inner::layout::node_at(nodes, i);
         if !is_fit(node) {
             return Fault::At(i);
         }
@@ -48,7 +50,7 @@ fn own_name(rules: &[u32], store: &[u8], k: usize) -> bool
     requires { ⌜ k < rulesIn (now rules) ⌝ }
     ensures { λ r. ⌜ r ≡ ownAt (now (rules .entry)) (now (store .entry)) k ⌝ }
 {
-    let head = table::inner::records::head_at(rules, k);
+    let head = table::inner::layout::head_at(rules, k);
     let p = head.offset;
     let e = p + head.length;
     let name = &store[p..e];
@@ -65,7 +67,7 @@ fn own_name(rules: &[u32], store: &[u8], k: usize) -> bool
 // No rule is called ANY, and no two have one name.
 fn own_names(rules: &[u32], store: &[u8]) -> bool
     requires { ⌜ NamesInside (now rules) (now store) ⌝ }
-    ensures { λ r. ⌜ r ≡ isGood (lowest (ownAt (now (rules .entry)) (now (store .entry))) (rulesIn (now (rules .entry)))) ⌝ }
+    ensures { λ r. ⌜ r ≡ isThrough (lowest (ownAt (now (rules .entry)) (now (store .entry))) (rulesIn (now (rules .entry)))) ⌝ }
 {
     let m = rules.len() / RULE_SIZE;
     let mut k = 0;
@@ -98,7 +100,7 @@ pub fn root_of(rules: &[u32], k: usize) -> usize
     requires { ⌜ k < rulesIn (now rules) ⌝ }
     ensures { λ r. ⌜ r ≡ rootAt (now (rules .entry)) k ⌝ }
 {
-    let head = table::inner::records::head_at(rules, k);
+    let head = table::inner::layout::head_at(rules, k);
     head.root
 }
 
@@ -118,16 +120,16 @@ fn mention_link(rules: &[u32], store: &[u8], mention: Mention) -> Link
 }
 
 // Writes the link of each node. Whether all names are known.
-fn link_names(nodes: &[u32], rules: &[u32], store: &[u8], links: &mut [u16; 4096]) -> bool
+fn link_names(nodes: &[u32], rules: &[u32], store: &[u8], links: &mut [u16; limits::NODES]) -> bool
     requires { ⌜ Valid (now nodes) (now rules) (now store) ⌝ }
     requires { ⌜ length (now links) ≡ maxNodes ⌝ }
-    ensures { λ r. ⌜ r ≡ isGood (lowest (knownAt (now (nodes .entry)) (now (rules .entry)) (now (store .entry))) (nodesIn (now (nodes .entry)))) ⌝ }
+    ensures { λ r. ⌜ r ≡ isThrough (lowest (knownAt (now (nodes .entry)) (now (rules .entry)) (now (store .entry))) (nodesIn (now (nodes .entry)))) ⌝ }
     ensures { λ r. ⌜ (r ≡ true → Linked (now (nodes .entry)) (now (rules .entry)) (now (store .entry)) (now (links .exit))) ⌝ }
 {
     let n = nodes.len() / NODE_SIZE;
     let mut i = 0;
     while i < n {
-        let node = table::inner::records::node_at(nodes, i);
+        let node = table::inner::layout::node_at(nodes, i);
         let mention = mention_of(node);
         let link = mention_link(rules, store, mention);
         let Link::To(l) = link else {
@@ -145,7 +147,7 @@ pub fn prepare(
     rules: &[u32],
     store: &[u8],
     start: usize,
-    links: &mut [u16; 4096],
+    links: &mut [u16; limits::NODES],
 ) -> Ready
     requires { ⌜ length (now links) ≡ maxNodes ⌝ }
     ensures { λ r. ⌜ r ≡ readyOf (now (nodes .entry)) (now (rules .entry)) (now (store .entry)) start ⌝ }

@@ -1,12 +1,12 @@
 // What an escape is, and the string that the inside of a literal means.
 use crate::Digits;
 use crate::Escape;
-use text::Check;
+use text::Scan;
 use text::Value;
 ghost use mathlib.Core.Path.{_≡_};
 ghost use Prim.Native.Nat.{_≤_, _<_};
 ghost use lib.ListN.{length, drop};
-ghost use Rattle.text.specs.declared.Check as Check;
+ghost use Rattle.text.specs.declared.Scan as Scan;
 ghost use Rattle.text.specs.Splice.{Room, Wrote, spent};
 ghost use Rattle.literal.specs.Escapes.{digitsOf, simpleOf, pairOf, bracedOf, afterOf, escapeOf, noEscape, badEscape, unescaped};
 
@@ -122,7 +122,7 @@ fn escape_in(s: &[u8], at: usize) -> Escape
 }
 
 // The first backslash that begins no escape.
-pub fn no_escape(s: &[u8]) -> Check
+pub fn no_escape(s: &[u8]) -> Scan
     ensures { λ r. ⌜ r ≡ noEscape (now (s .entry)) ⌝ }
 {
     let mut i = 0;
@@ -131,7 +131,7 @@ pub fn no_escape(s: &[u8]) -> Check
         match escape {
             Escape::Plain => {
                 if s[i] == 92 {
-                    return Check::Bad(i);
+                    return Scan::StopsAt(i);
                 }
                 i += 1;
             }
@@ -140,11 +140,11 @@ pub fn no_escape(s: &[u8]) -> Check
             }
         }
     }
-    Check::Good
+    Scan::Through
 }
 
 // The backslash of the first escape that is no character.
-pub fn bad_escape(s: &[u8]) -> Check
+pub fn bad_escape(s: &[u8]) -> Scan
     ensures { λ r. ⌜ r ≡ badEscape (now (s .entry)) ⌝ }
 {
     let mut i = 0;
@@ -156,13 +156,13 @@ pub fn bad_escape(s: &[u8]) -> Check
             }
             Escape::Means(c, n) => {
                 if !text::inner::utf8::is_scalar(c) {
-                    return Check::Bad(i);
+                    return Scan::StopsAt(i);
                 }
                 i += n;
             }
         }
     }
-    Check::Good
+    Scan::Through
 }
 
 // What is left after the string that the inside of a literal means.
@@ -189,7 +189,7 @@ pub fn spend_unescaped(s: &[u8], room: usize) -> usize
 
 // Writes the string that the inside of a literal means.
 pub fn put_unescaped(s: &[u8], out: &mut [u8], at: usize) -> usize
-    requires { ⌜ badEscape (now s) ≡ Check.Good ⌝ }
+    requires { ⌜ badEscape (now s) ≡ Scan.Through ⌝ }
     requires { ⌜ Room (now out) at (unescaped (now s)) ⌝ }
     ensures { λ r. ⌜ Wrote (now (out .entry)) at (unescaped (now (s .entry))) (now (out .exit)) r ⌝ }
 {

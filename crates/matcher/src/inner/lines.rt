@@ -4,6 +4,7 @@ use crate::Line;
 use replies::Lines;
 use replies::Row;
 use replies::row_of;
+use text::limits;
 ghost use mathlib.Core.Path.{_≡_};
 ghost use Prim.Native.Nat.{_+_, _≤_, _<_};
 ghost use lib.ListN.{length, drop};
@@ -57,7 +58,7 @@ fn line_at(text: &[u8], at: usize) -> Line
 // Runs each line from a root, as far as there is room for records.
 pub(crate) fn run_lines(
     nodes: &[u32],
-    links: &[u16; 4096],
+    links: &[u16; limits::NODES],
     store: &[u8],
     root: usize,
     allowance: u64,

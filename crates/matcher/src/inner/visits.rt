@@ -9,6 +9,7 @@ use links::Most;
 use links::inner::nodes::linked_at;
 use replies::Answer;
 use table::Fault;
+use text::limits;
 ghost use mathlib.Core.Path.{_≡_};
 ghost use Prim.Native.Nat.{_<_};
 ghost use Rattle.table.specs.Record.{nodesIn};
@@ -16,11 +17,14 @@ ghost use Rattle.links.specs.Program.{linkedAt, Runnable};
 ghost use Rattle.matcher.specs.Match.{repeat, visit};
 ghost use Rattle.matcher.specs.Answers.{lineOf};
 
+// The nested visits that are allowed.
+const VISITS: usize = 1024;
+
 // Visits node `start` at a place. The visit that comes last of a name, a sequence or a choice is a turn of
 // the loop, and no call.
 fn visit(
     nodes: &[u32],
-    links: &[u16; 4096],
+    links: &[u16; limits::NODES],
     store: &[u8],
     line: &[u8],
     start: usize,
@@ -135,7 +139,7 @@ fn visit(
 // Visits node c at a place and on from there, as often as it matches and is due.
 fn repeat(
     nodes: &[u32],
-    links: &[u16; 4096],
+    links: &[u16; limits::NODES],
     store: &[u8],
     line: &[u8],
     c: usize,
@@ -179,7 +183,7 @@ fn repeat(
 // Runs a line from a root.
 pub(crate) fn run_line(
     nodes: &[u32],
-    links: &[u16; 4096],
+    links: &[u16; limits::NODES],
     store: &[u8],
     root: usize,
     allowance: u64,
@@ -193,7 +197,7 @@ pub(crate) fn run_line(
     if let Fault::At(i) = bad {
         return Answer::NotUtf8(i);
     }
-    let x = visit(nodes, links, store, line, root, 0, 1024, allowance);
+    let x = visit(nodes, links, store, line, root, 0, VISITS, allowance);
     match x {
         Outcome::Matched(e, l) => Answer::Matched(e, allowance - l),
         Outcome::Missed(l) => Answer::NoMatch(allowance - l),

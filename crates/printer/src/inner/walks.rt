@@ -10,9 +10,9 @@ use forms::inner::unary;
 use table::Node;
 use table::Op;
 use table::Unary;
-use table::inner::records::RULE_SIZE;
-use table::inner::records::head_at;
-use table::inner::records::node_at;
+use table::inner::layout::RULE_SIZE;
+use table::inner::layout::head_at;
+use table::inner::layout::node_at;
 use text::inner::splice::put;
 use text::inner::splice::put_byte;
 use text::inner::splice::spend;
@@ -21,7 +21,7 @@ ghost use Prim.Native.Nat.{_+_, _<_};
 ghost use lib.ListN.{length};
 ghost use Rattle.text.specs.Splice.{Room, Wrote, spent};
 ghost use Rattle.table.specs.Record.{rulesIn, treeAt, ruleAt};
-ghost use Rattle.table.specs.Check.{Sound, Valid};
+ghost use Rattle.table.specs.Check.{SoundUpTo, Valid};
 ghost use Rattle.forms.specs.Printing.{printed, markText, printedRule};
 ghost use Rattle.printer.specs.Answers.{tableText, roomOf, printIn};
 
@@ -34,7 +34,7 @@ pub fn measure(
     left: usize,
     style: Style,
 ) -> usize
-    requires { ⌜ Sound (now nodes) (now store) (i + 1) ⌝ }
+    requires { ⌜ SoundUpTo (now nodes) (now store) (i + 1) ⌝ }
     ensures { λ r. ⌜ r ≡ spent left (printed style place (treeAt (now (nodes .entry)) (now (store .entry)) i)) ⌝ }
 {
     if left == 0 {
@@ -74,7 +74,7 @@ pub fn write(
     at: usize,
     style: Style,
 ) -> usize
-    requires { ⌜ Sound (now nodes) (now store) (i + 1) ⌝ }
+    requires { ⌜ SoundUpTo (now nodes) (now store) (i + 1) ⌝ }
     requires { ⌜ Room (now out) at (printed style place (treeAt (now nodes) (now store) i)) ⌝ }
     ensures { λ r. ⌜ Wrote (now (out .entry)) at (printed style place (treeAt (now (nodes .entry)) (now (store .entry)) i)) (now (out .exit)) r ⌝ }
 {

@@ -1,41 +1,19 @@
--- `field` promises parts of the line, from which the three numbers are read.
--- The store has 65,537 bytes: 65,536 of them are lent, or n, which is compared first.
-use lib.Seq.{length-take-le}
+-- The part of the store that is lent lies inside it.
 use mathlib.Core.Path.{sym}
 use native.Mathlib.Omega.{arith}
+use lib.Seq.{length-take-le}
 use borrow.Author.Needs.{needs}
 use Rattle.printer_run.proofs.run_made.Statement.{statement}
 use Rattle.printer_run.proofs.run_made.Tie as tie
 
-field-requires : tie.Need-field-requires
-field-requires c κs = search needs
-
-field-requires-2 : tie.Need-field-requires-2
-field-requires-2 c κs = search needs
-
-field-requires-3 : tie.Need-field-requires-3
-field-requires-3 c κs = search needs
-
-sub-number : tie.Need-sub-number
-sub-number c = search needs
-
-part-number-start : tie.Need-part-number-start
-part-number-start c = search needs
-
-part-number-end : tie.Need-part-number-end
-part-number-end c = search needs
+word-requires : tie.Need-word-requires
+word-requires c κs = search needs
 
 number-requires : tie.Need-number-requires
 number-requires c κs = search needs
 
-sub-number-2 : tie.Need-sub-number-2
-sub-number-2 c = search needs
-
-part-number-start-2 : tie.Need-part-number-start-2
-part-number-start-2 c = search needs
-
-part-number-end-2 : tie.Need-part-number-end-2
-part-number-end-2 c = search needs
+word-requires-2 : tie.Need-word-requires-2
+word-requires-2 c κs = search needs
 
 number-requires-2 : tie.Need-number-requires-2
 number-requires-2 c κs = search needs
@@ -43,14 +21,8 @@ number-requires-2 c κs = search needs
 small-requires : tie.Need-small-requires
 small-requires c κs = search needs
 
-sub-number-3 : tie.Need-sub-number-3
-sub-number-3 c = search needs
-
-part-number-start-3 : tie.Need-part-number-start-3
-part-number-start-3 c = search needs
-
-part-number-end-3 : tie.Need-part-number-end-3
-part-number-end-3 c = search needs
+word-requires-3 : tie.Need-word-requires-3
+word-requires-3 c κs = search needs
 
 number-requires-3 : tie.Need-number-requires-3
 number-requires-3 c κs = search needs
@@ -134,21 +106,12 @@ pub run-made-spec : {M : Type 1} → statement M
 run-made-spec =
     tie.close
     (tie.spec
-    field-requires
-    field-requires-2
-    field-requires-3
-    sub-number
-    part-number-start
-    part-number-end
+    word-requires
     number-requires
-    sub-number-2
-    part-number-start-2
-    part-number-end-2
+    word-requires-2
     number-requires-2
     small-requires
-    sub-number-3
-    part-number-start-3
-    part-number-end-3
+    word-requires-3
     number-requires-3
     small-requires-2
     array-share-prefix-store

@@ -7,10 +7,13 @@ use crate::Attempt;
 use crate::Reading;
 use structure::Level;
 use structure::Why;
+use text::limits;
+use token::inner::listing::TOKEN_SIZE;
 ghost use mathlib.Core.Path.{_≡_};
 ghost use Prim.Native.Nat.{_≤_};
 ghost use lib.ListN.{length};
 ghost use Rattle.text.specs.Classes.{classes};
+ghost use Rattle.text.specs.Limits.{maxText};
 ghost use Rattle.reader.specs.Read.{roomForNodes, roomForRules, attemptOf, listedOf, Leaves, AttemptLeaves};
 
 fn try_small(
@@ -22,11 +25,11 @@ fn try_small(
     store: &mut [u8],
 ) -> Attempt
     requires { ⌜ now t ≡ classes ⌝ }
-    requires { ⌜ length (now text) ≤ 65536 ⌝ }
+    requires { ⌜ length (now text) ≤ maxText ⌝ }
     ensures answer { λ r. ⌜ r ≡ attemptOf 1536 level (now (text .entry)) (roomForNodes (now (nodes .entry))) (roomForRules (now (rules .entry))) (length (now (store .entry))) ⌝ }
     ensures left { λ r. ⌜ AttemptLeaves level (now (text .entry)) r (now (nodes .entry)) (now (rules .entry)) (now (store .entry)) (now (nodes .exit)) (now (rules .exit)) (now (store .exit)) ⌝ }
 {
-    let mut tokens = [0u32; 4608];
+    let mut tokens = [0u32; TOKEN_SIZE * 1536];
     list_and_read(t, text, &mut tokens, level, nodes, rules, store)
 }
 
@@ -39,11 +42,11 @@ fn try_middle(
     store: &mut [u8],
 ) -> Attempt
     requires { ⌜ now t ≡ classes ⌝ }
-    requires { ⌜ length (now text) ≤ 65536 ⌝ }
+    requires { ⌜ length (now text) ≤ maxText ⌝ }
     ensures answer { λ r. ⌜ r ≡ attemptOf 12288 level (now (text .entry)) (roomForNodes (now (nodes .entry))) (roomForRules (now (rules .entry))) (length (now (store .entry))) ⌝ }
     ensures left { λ r. ⌜ AttemptLeaves level (now (text .entry)) r (now (nodes .entry)) (now (rules .entry)) (now (store .entry)) (now (nodes .exit)) (now (rules .exit)) (now (store .exit)) ⌝ }
 {
-    let mut tokens = [0u32; 36864];
+    let mut tokens = [0u32; TOKEN_SIZE * 12288];
     list_and_read(t, text, &mut tokens, level, nodes, rules, store)
 }
 
@@ -56,11 +59,11 @@ fn try_large(
     store: &mut [u8],
 ) -> Attempt
     requires { ⌜ now t ≡ classes ⌝ }
-    requires { ⌜ length (now text) ≤ 65536 ⌝ }
-    ensures answer { λ r. ⌜ r ≡ attemptOf 65536 level (now (text .entry)) (roomForNodes (now (nodes .entry))) (roomForRules (now (rules .entry))) (length (now (store .entry))) ⌝ }
+    requires { ⌜ length (now text) ≤ maxText ⌝ }
+    ensures answer { λ r. ⌜ r ≡ attemptOf maxText level (now (text .entry)) (roomForNodes (now (nodes .entry))) (roomForRules (now (rules .entry))) (length (now (store .entry))) ⌝ }
     ensures left { λ r. ⌜ AttemptLeaves level (now (text .entry)) r (now (nodes .entry)) (now (rules .entry)) (now (store .entry)) (now (nodes .exit)) (now (rules .exit)) (now (store .exit)) ⌝ }
 {
-    let mut tokens = [0u32; 196608];
+    let mut tokens = [0u32; TOKEN_SIZE * limits::TEXT];
     list_and_read(t, text, &mut tokens, level, nodes, rules, store)
 }
 
@@ -76,7 +79,7 @@ pub fn read_listed(
     room: usize,
 ) -> Reading
     requires { ⌜ now t ≡ classes ⌝ }
-    requires { ⌜ length (now text) ≤ 65536 ⌝ }
+    requires { ⌜ length (now text) ≤ maxText ⌝ }
     ensures answer { λ r. ⌜ r ≡ listedOf level (now (text .entry)) (roomForNodes (now (nodes .entry))) (roomForRules (now (rules .entry))) (length (now (store .entry))) ⌝ }
     ensures left { λ r. ⌜ Leaves level (now (text .entry)) r (now (nodes .entry)) (now (rules .entry)) (now (store .entry)) (now (nodes .exit)) (now (rules .exit)) (now (store .exit)) ⌝ }
 {
@@ -98,7 +101,7 @@ pub fn read_listed(
                 return reading;
             }
             Attempt::Full => {
-                return read_listed(t, text, level, nodes, rules, store, 65536);
+                return read_listed(t, text, level, nodes, rules, store, limits::TEXT);
             }
         }
     }

@@ -9,15 +9,17 @@ use structure::Refusal;
 use structure::Why;
 use structure::inner::rules::check_grammar;
 use structure::inner::values::faults;
-use table::inner::records::NODE_SIZE;
-use table::inner::records::RULE_SIZE;
+use table::inner::layout::NODE_SIZE;
+use table::inner::layout::RULE_SIZE;
+use text::limits;
 use token::Filled;
 use token::inner::fill;
-use token::inner::table::TOKEN_SIZE;
+use token::inner::listing::TOKEN_SIZE;
 ghost use mathlib.Core.Path.{_≡_};
 ghost use Prim.Native.Nat.{_/_, _≤_, _<_, min};
 ghost use lib.ListN.{length};
 ghost use Rattle.text.specs.Classes.{classes};
+ghost use Rattle.text.specs.Limits.{maxText};
 ghost use Rattle.token.specs.Table.{roomOf, Lent};
 ghost use Rattle.reader.specs.Read.{refusedBy, roomForNodes, roomForRules, roomBy, judgedOf, attemptOf, Leaves, AttemptLeaves};
 
@@ -88,8 +90,8 @@ fn judge_and_build(
     ensures answer { λ r. ⌜ r ≡ judgedOf level (now (text .entry)) (roomForNodes (now (nodes .entry))) (roomForRules (now (rules .entry))) (length (now (store .entry))) ⌝ }
     ensures left { λ r. ⌜ Leaves level (now (text .entry)) r (now (nodes .entry)) (now (rules .entry)) (now (store .entry)) (now (nodes .exit)) (now (rules .exit)) (now (store .exit)) ⌝ }
 {
-    let n = room_of(nodes.len(), NODE_SIZE, 4096);
-    let r = room_of(rules.len(), RULE_SIZE, 1024);
+    let n = room_of(nodes.len(), NODE_SIZE, limits::NODES);
+    let r = room_of(rules.len(), RULE_SIZE, limits::RULES);
     let answer = judge(text, tokens, level, n, r, store.len());
     if let Reading::Read(_, _, _) = answer {
         consume_rules_with_spans(text, tokens, nodes, rules, store, level);
@@ -108,7 +110,7 @@ pub fn list_and_read(
     store: &mut [u8],
 ) -> Attempt
     requires { ⌜ now t ≡ classes ⌝ }
-    requires { ⌜ length (now text) ≤ 65536 ⌝ }
+    requires { ⌜ length (now text) ≤ maxText ⌝ }
     ensures answer { λ r. ⌜ r ≡ attemptOf (roomOf (now (tokens .entry))) level (now (text .entry)) (roomForNodes (now (nodes .entry))) (roomForRules (now (rules .entry))) (length (now (store .entry))) ⌝ }
     ensures left { λ r. ⌜ AttemptLeaves level (now (text .entry)) r (now (nodes .entry)) (now (rules .entry)) (now (store .entry)) (now (nodes .exit)) (now (rules .exit)) (now (store .exit)) ⌝ }
 {

@@ -3,7 +3,8 @@ use table::End;
 use table::Join;
 use table::Sort;
 use table::Unary;
-use table::inner::records::NODE_SIZE;
+use table::inner::layout::NODE_SIZE;
+use table::kind;
 ghost use mathlib.Core.Path.{_≡_};
 ghost use mathlib.Core.List.{[], _∷_};
 ghost use Prim.Native.Nat.{_-_, _*_, _≤_, _<_};
@@ -61,16 +62,25 @@ pub fn put_unary(nodes: &mut [u32], used: usize, a: usize, z: usize, op: Unary)
 {
     let c = used - 1;
     match op {
-        Unary::PosPred => put_node(nodes, used, 6, a, z, c, 0, 0),
-        Unary::NegPred => put_node(nodes, used, 7, a, z, c, 0, 0),
-        Unary::Opt => put_node(nodes, used, 10, a, z, c, 0, 0),
-        Unary::Rep => put_node(nodes, used, 11, a, z, c, 0, 0),
-        Unary::RepOnce => put_node(nodes, used, 12, a, z, c, 0, 0),
-        Unary::RepExact(n) => put_node(nodes, used, 13, a, z, c, n as usize, 0),
-        Unary::RepMin(n) => put_node(nodes, used, 14, a, z, c, n as usize, 0),
-        Unary::RepMax(n) => put_node(nodes, used, 15, a, z, c, n as usize, 0),
-        Unary::RepMinMax(n, m) => put_node(nodes, used, 16, a, z, c, n as usize, m as usize),
-        Unary::Push => put_node(nodes, used, 17, a, z, c, 0, 0),
+        Unary::PosPred => put_node(nodes, used, kind::POS_PRED, a, z, c, 0, 0),
+        Unary::NegPred => put_node(nodes, used, kind::NEG_PRED, a, z, c, 0, 0),
+        Unary::Opt => put_node(nodes, used, kind::OPT, a, z, c, 0, 0),
+        Unary::Rep => put_node(nodes, used, kind::REP, a, z, c, 0, 0),
+        Unary::RepOnce => put_node(nodes, used, kind::REP_ONCE, a, z, c, 0, 0),
+        Unary::RepExact(n) => put_node(nodes, used, kind::REP_EXACT, a, z, c, n as usize, 0),
+        Unary::RepMin(n) => put_node(nodes, used, kind::REP_MIN, a, z, c, n as usize, 0),
+        Unary::RepMax(n) => put_node(nodes, used, kind::REP_MAX, a, z, c, n as usize, 0),
+        Unary::RepMinMax(n, m) => put_node(
+            nodes,
+            used,
+            kind::REP_MIN_MAX,
+            a,
+            z,
+            c,
+            n as usize,
+            m as usize,
+        ),
+        Unary::Push => put_node(nodes, used, kind::PUSH, a, z, c, 0, 0),
     }
 }
 
@@ -81,8 +91,8 @@ pub fn put_join(nodes: &mut [u32], used: usize, a: usize, z: usize, join: Join, 
     ensures { λ _. ⌜ now (nodes .exit) ≡ written (now (nodes .entry)) used (recordOf (record { start = a; stop = z }) (Node.Two join left (used - 1))) ⌝ }
 {
     match join {
-        Join::Seq => put_node(nodes, used, 8, a, z, left, used - 1, 0),
-        Join::Choice => put_node(nodes, used, 9, a, z, left, used - 1, 0),
+        Join::Seq => put_node(nodes, used, kind::SEQ, a, z, left, used - 1, 0),
+        Join::Choice => put_node(nodes, used, kind::CHOICE, a, z, left, used - 1, 0),
     }
 }
 
@@ -100,10 +110,10 @@ pub fn put_text(
     ensures { λ _. ⌜ now (nodes .exit) ≡ written (now (nodes .entry)) used (recordOf (record { start = a; stop = z }) (Node.Tip (Leaf.Text sort offset length))) ⌝ }
 {
     match sort {
-        Sort::Str => put_node(nodes, used, 1, a, z, offset, length, 0),
-        Sort::Insens => put_node(nodes, used, 2, a, z, offset, length, 0),
-        Sort::Ident => put_node(nodes, used, 4, a, z, offset, length, 0),
-        Sort::PushLiteral => put_node(nodes, used, 18, a, z, offset, length, 0),
+        Sort::Str => put_node(nodes, used, kind::STR, a, z, offset, length, 0),
+        Sort::Insens => put_node(nodes, used, kind::INSENS, a, z, offset, length, 0),
+        Sort::Ident => put_node(nodes, used, kind::IDENT, a, z, offset, length, 0),
+        Sort::PushLiteral => put_node(nodes, used, kind::PUSH_LITERAL, a, z, offset, length, 0),
     }
 }
 
@@ -112,7 +122,7 @@ pub fn put_range(nodes: &mut [u32], used: usize, a: usize, z: usize, x: u32, y: 
     requires { ⌜ Fits (now nodes) used a z x y 0 ⌝ }
     ensures { λ _. ⌜ now (nodes .exit) ≡ written (now (nodes .entry)) used (recordOf (record { start = a; stop = z }) (Node.Tip (Leaf.Range x y))) ⌝ }
 {
-    put_node(nodes, used, 3, a, z, x as usize, y as usize, 0)
+    put_node(nodes, used, kind::RANGE, a, z, x as usize, y as usize, 0)
 }
 
 // Writes the record of a slice of the stack.
@@ -121,8 +131,17 @@ pub fn put_slice(nodes: &mut [u32], used: usize, a: usize, z: usize, from: u32, 
     ensures { λ _. ⌜ now (nodes .exit) ≡ written (now (nodes .entry)) used (recordOf (record { start = a; stop = z }) (Node.Tip (Leaf.PeekSlice from end))) ⌝ }
 {
     match end {
-        End::Open => put_node(nodes, used, 5, a, z, from as usize, 0, 0),
-        End::At(to) => put_node(nodes, used, 5, a, z, from as usize, 1, to as usize),
+        End::Open => put_node(nodes, used, kind::PEEK_SLICE, a, z, from as usize, 0, 0),
+        End::At(to) => put_node(
+            nodes,
+            used,
+            kind::PEEK_SLICE,
+            a,
+            z,
+            from as usize,
+            1,
+            to as usize,
+        ),
     }
 }
 
@@ -132,5 +151,5 @@ pub fn put_tag(nodes: &mut [u32], used: usize, a: usize, z: usize, offset: usize
     requires { ⌜ (offset ≤ most) × (length ≤ most) ⌝ }
     ensures { λ _. ⌜ now (nodes .exit) ≡ written (now (nodes .entry)) used (recordOf (record { start = a; stop = z }) (Node.One (Op.NodeTag offset length) (used - 1))) ⌝ }
 {
-    put_node(nodes, used, 19, a, z, used - 1, offset, length)
+    put_node(nodes, used, kind::NODE_TAG, a, z, used - 1, offset, length)
 }

@@ -1,5 +1,5 @@
 // Rule records.
-use table::inner::records::RULE_SIZE;
+use table::inner::layout::RULE_SIZE;
 ghost use mathlib.Core.Path.{_≡_};
 ghost use mathlib.Core.List.{[], _∷_};
 ghost use Rattle.records.specs.Records.{ruleWritten, RuleFits};

@@ -3,12 +3,13 @@ use crate::Finish;
 use crate::Given;
 use states::Conf;
 use states::State;
-use text::Check;
+use text::Scan;
 ghost use mathlib.Core.Path.{_≡_};
 ghost use mathlib.Core.Bool.{true};
 ghost use Prim.Native.Nat.{_+_, _≤_};
 ghost use lib.Dec.{ltb, eqb};
 ghost use Rattle.text.specs.Booleans.{or};
+ghost use Rattle.text.specs.Limits.{maxText};
 ghost use Rattle.states.specs.Keep.{stateFits};
 ghost use Rattle.states.specs.Machine as Machine;
 ghost use Rattle.steps.specs.Shapes.{finishBy};
@@ -18,7 +19,7 @@ fn none() -> Finish
 {
     Finish {
         token: Given::No,
-        fault: Check::Good,
+        fault: Scan::Through,
     }
 }
 
@@ -27,20 +28,20 @@ fn fault(place: usize) -> Finish
 {
     Finish {
         token: Given::No,
-        fault: Check::Bad(place),
+        fault: Scan::StopsAt(place),
     }
 }
 
 // A token of n bytes.
 fn whole(kind: usize, a: usize, n: usize) -> Finish
     requires { ⌜ kind ≤ 255 ⌝ }
-    requires { ⌜ a + n ≤ 65537 ⌝ }
+    requires { ⌜ a + n ≤ maxText + 1 ⌝ }
     ensures { λ r. ⌜ finishBy r ≡ Machine.last kind a (a + n) ⌝ }
 {
-    let token = crate::inner::table::moves::token(kind, a, a + n);
+    let token = crate::inner::transitions::moves::token(kind, a, a + n);
     Finish {
         token,
-        fault: Check::Good,
+        fault: Scan::Through,
     }
 }
 
@@ -55,7 +56,7 @@ fn push_ends(n: usize) -> bool
 }
 
 fn push(a: usize, n: usize) -> Finish
-    requires { ⌜ a + n ≤ 65536 ⌝ }
+    requires { ⌜ a + n ≤ maxText ⌝ }
     ensures { λ r. ⌜ finishBy r ≡ Machine.endRow State.Push a n ⌝ }
 {
     if push_ends(n) {
@@ -66,7 +67,7 @@ fn push(a: usize, n: usize) -> Finish
 
 // By the state.
 pub fn finish(c: Conf) -> Finish
-    requires { ⌜ c .start + c .size ≤ 65536 ⌝ }
+    requires { ⌜ c .start + c .size ≤ maxText ⌝ }
     requires { ⌜ stateFits (c .state) (c .size) ≡ true ⌝ }
     ensures { λ r. ⌜ finishBy r ≡ Machine.finish c ⌝ }
 {

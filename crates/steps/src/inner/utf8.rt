@@ -1,7 +1,7 @@
 // UTF-8 as it arrives.
 use states::Tail;
 use states::Utf;
-use text::Check;
+use text::Scan;
 ghost use mathlib.Core.Path.{_≡_};
 ghost use Rattle.text.specs.Booleans as Choice;
 ghost use Rattle.states.specs.Machine.{tailOk};
@@ -96,23 +96,23 @@ pub fn step(u: Utf, at: usize, x: u8) -> Utf
 }
 
 // A sequence that is broken.
-pub fn broken(u: Utf) -> Check
+pub fn broken(u: Utf) -> Scan
     ensures { λ r. ⌜ r ≡ brokenAt u ⌝ }
 {
     match u {
-        Utf::Whole => Check::Good,
-        Utf::Mid(_, _) => Check::Good,
-        Utf::Broke(place) => Check::Bad(place),
+        Utf::Whole => Scan::Through,
+        Utf::Mid(_, _) => Scan::Through,
+        Utf::Broke(place) => Scan::StopsAt(place),
     }
 }
 
 // One that is broken, or cut by the text's end.
-pub fn ended(u: Utf) -> Check
+pub fn ended(u: Utf) -> Scan
     ensures { λ r. ⌜ r ≡ utfEnd u ⌝ }
 {
     match u {
-        Utf::Whole => Check::Good,
-        Utf::Mid(_, start) => Check::Bad(start),
-        Utf::Broke(place) => Check::Bad(place),
+        Utf::Whole => Scan::Through,
+        Utf::Mid(_, start) => Scan::StopsAt(start),
+        Utf::Broke(place) => Scan::StopsAt(place),
     }
 }

@@ -9,7 +9,8 @@ use states::Conf;
 use states::Stand;
 use states::State;
 use states::Utf;
-use text::Check;
+use text::Scan;
+use text::limits;
 use token::Token;
 ghost use mathlib.Core.Path.{_≡_};
 ghost use mathlib.Core.Bool.{true};
@@ -125,13 +126,13 @@ fn may_leap(c: Stand, rest: &[u8]) -> bool
     requires { ⌜ Coherent c ⌝ }
     ensures { λ r. ⌜ (r ≡ true → Free c (now (rest .entry))) ⌝ }
 {
-    if 65536 - c.seen < rest.len() {
+    if limits::TEXT - c.seen < rest.len() {
         return false;
     }
     let bad = text::first_bad(rest);
     match bad {
-        Check::Good => between(c),
-        Check::Bad(_) => false,
+        Scan::Through => between(c),
+        Scan::StopsAt(_) => false,
     }
 }
 
@@ -176,7 +177,7 @@ fn leap(
                 };
             }
             Ahead::Token(kind, start, end) => {
-                let token = steps::inner::table::moves::token(
+                let token = steps::inner::transitions::moves::token(
                     kind,
                     seen + (start - at),
                     seen + (end - at),

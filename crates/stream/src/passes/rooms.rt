@@ -1,6 +1,6 @@
 // Room in the list, and records into it.
 use steps::Given;
-use text::Check;
+use text::Scan;
 ghost use mathlib.Core.Path.{_≡_};
 ghost use mathlib.Core.List.{_++_};
 ghost use Prim.Native.Nat.{_*_, _≤_};
@@ -20,22 +20,22 @@ pub(crate) fn many(g: Given) -> usize
 }
 
 // A token for which there is no room behind n records.
-pub(crate) fn over(room: usize, n: usize, g: Given) -> Check
+pub(crate) fn over(room: usize, n: usize, g: Given) -> Scan
     ensures { λ r. ⌜ r ≡ overAt room n (listOf g) ⌝ }
 {
     match g {
-        Given::No => Check::Good,
+        Given::No => Scan::Through,
         Given::Yes(_, start, _) => {
             if n < room {
-                return Check::Good;
+                return Scan::Through;
             }
-            Check::Bad(start as usize)
+            Scan::StopsAt(start as usize)
         }
     }
 }
 
 // The first of two.
-pub(crate) fn over_two(room: usize, n: usize, before: Given, here: Given) -> Check
+pub(crate) fn over_two(room: usize, n: usize, before: Given, here: Given) -> Scan
     requires { ⌜ n ≤ 70000 ⌝ }
     ensures { λ r. ⌜ r ≡ overAt room n (listOf before ++ listOf here) ⌝ }
 {
@@ -45,27 +45,27 @@ pub(crate) fn over_two(room: usize, n: usize, before: Given, here: Given) -> Che
             if n < room {
                 return over(room, n + 1, here);
             }
-            Check::Bad(start as usize)
+            Scan::StopsAt(start as usize)
         }
     }
 }
 
 // A record behind n others.
 pub(crate) fn put(list: &mut [u32], n: usize, g: Given)
-    requires { ⌜ overAt (roomOf (now list)) n (listOf g) ≡ Check.Good ⌝ }
+    requires { ⌜ overAt (roomOf (now list)) n (listOf g) ≡ Scan.Through ⌝ }
     ensures { λ _. ⌜ now (list .exit) ≡ sets (now (list .entry)) (n * 3) (flat (listOf g)) ⌝ }
 {
     match g {
         Given::No => {}
         Given::Yes(kind, start, end) => {
-            token::inner::table::put_token(list, n, kind, start, end);
+            token::inner::listing::put_token(list, n, kind, start, end);
         }
     }
 }
 
 pub(crate) fn put_two(list: &mut [u32], n: usize, before: Given, here: Given)
     requires { ⌜ n ≤ 70000 ⌝ }
-    requires { ⌜ overAt (roomOf (now list)) n (listOf before ++ listOf here) ≡ Check.Good ⌝ }
+    requires { ⌜ overAt (roomOf (now list)) n (listOf before ++ listOf here) ≡ Scan.Through ⌝ }
     ensures { λ _. ⌜ now (list .exit) ≡ sets (now (list .entry)) (n * 3) (flat (listOf before ++ listOf here)) ⌝ }
 {
     put(list, n, before);

@@ -10,12 +10,14 @@ use crate::PostfixEnd;
 use crate::PostfixEnds;
 use crate::Wanted;
 use crate::Why;
-use token::inner::table::end_at;
-use token::inner::table::kind_at;
-use token::inner::table::start_at;
+use text::limits;
+use token::inner::listing::end_at;
+use token::inner::listing::kind_at;
+use token::inner::listing::start_at;
 use token::kind;
 ghost use mathlib.Core.Path.{_≡_};
 ghost use Prim.Native.Nat.{_+_, _≤_, _<_};
+ghost use Rattle.text.specs.Limits.{maxOpen};
 ghost use Rattle.token.specs.Table.{Lent};
 ghost use Rattle.structure.specs.Structure.{Run, expr, term, node};
 ghost use Rattle.structure.specs.Answers.{summary, openingOf, Signed, bracketOf, Posted};
@@ -119,7 +121,7 @@ pub fn bracket_of(text: &[u8], tokens: &[u32], at: usize) -> Bracket
 // Terms joined by `~` or `|`.
 pub fn check_expr(text: &[u8], tokens: &[u32], level: Level, at: usize, deep: usize) -> Checked
     requires { ⌜ Lent (now text) (now tokens) ⌝ }
-    requires { ⌜ deep ≤ 1024 ⌝ }
+    requires { ⌜ deep ≤ maxOpen ⌝ }
     ensures { λ r. ⌜ r ≡ summary (Run level (now (text .entry)) (expr deep at)) ⌝ }
 {
     match check_term(text, tokens, level, at, deep) {
@@ -157,7 +159,7 @@ pub fn check_expr(text: &[u8], tokens: &[u32], level: Level, at: usize, deep: us
 // At most one (tag, `=`), any `&` and `!`, a node, any postfixes.
 fn check_term(text: &[u8], tokens: &[u32], level: Level, at: usize, deep: usize) -> Checked
     requires { ⌜ Lent (now text) (now tokens) ⌝ }
-    requires { ⌜ deep ≤ 1024 ⌝ }
+    requires { ⌜ deep ≤ maxOpen ⌝ }
     ensures { λ r. ⌜ r ≡ summary (Run level (now (text .entry)) (term deep at)) ⌝ }
 {
     let opening = tag_of(text, tokens, level, at);
@@ -192,7 +194,7 @@ fn check_term(text: &[u8], tokens: &[u32], level: Level, at: usize, deep: usize)
 // An expression in brackets, after PUSH or not; or a leaf.
 fn check_node(text: &[u8], tokens: &[u32], level: Level, at: usize, deep: usize) -> Checked
     requires { ⌜ Lent (now text) (now tokens) ⌝ }
-    requires { ⌜ deep ≤ 1024 ⌝ }
+    requires { ⌜ deep ≤ maxOpen ⌝ }
     ensures { λ r. ⌜ r ≡ summary (Run level (now (text .entry)) (node deep at)) ⌝ }
 {
     let bracket = bracket_of(text, tokens, at);
@@ -203,7 +205,7 @@ fn check_node(text: &[u8], tokens: &[u32], level: Level, at: usize, deep: usize)
             at: open,
             nodes: around,
         } => {
-            if 1024 <= deep {
+            if limits::OPEN <= deep {
                 return Checked::Refused(refused_at(Why::TooDeep, text, tokens, open));
             }
             match check_expr(text, tokens, level, open + 1, deep + 1) {

@@ -5,14 +5,32 @@ use crate::Checked;
 use crate::PostfixEnd;
 use crate::Wanted;
 use crate::Why;
-use token::inner::table::kind_at;
+use text::limits;
+use token::inner::listing::kind_at;
 use token::kind;
 ghost use mathlib.Core.Path.{_≡_};
-ghost use Prim.Native.Nat.{_+_, _<_};
+ghost use Prim.Native.Nat.{ℕ, _+_, _<_};
 ghost use lib.ListN.{length};
+ghost use Rattle.table.specs.declared.Unary.{Unary};
 ghost use Rattle.token.specs.Table.{toks, kind, Lent};
-ghost use Rattle.structure.specs.Structure.{postfixAt, fromNumber, fromComma, slice, pushed, ranged, leafAt};
+ghost use Rattle.structure.specs.Structure.{postfixAt, toMost, fromNumber, fromComma, slice, pushed, ranged, leafAt};
 ghost use Rattle.structure.specs.Answers.{summary, pastInteger, tailOf};
+
+// A maximum and `}`, from the maximum on.
+fn most_end(text: &[u8], tokens: &[u32], at: usize) -> PostfixEnd
+    requires { ⌜ Lent (now text) (now tokens) ⌝ }
+    ensures { λ r. ⌜ ((v : ℕ → Unary) → r ≡ tailOf (toMost (now (text .entry)) at v)) ⌝ }
+{
+    let most = super::tokens::expect(text, tokens, at, kind::NUMBER);
+    let Wanted::Here(k) = most else {
+        return PostfixEnd::Bad(not_allowed(text, tokens, at));
+    };
+    let close = super::tokens::expect(text, tokens, k, kind::CLOSING_BRACE);
+    let Wanted::Here(n) = close else {
+        return PostfixEnd::Bad(not_allowed(text, tokens, k));
+    };
+    PostfixEnd::Past(n)
+}
 
 // `{n}`, `{n,}`, `{n, m}`, from the n on.
 fn number_end(text: &[u8], tokens: &[u32], at: usize) -> PostfixEnd
@@ -31,15 +49,7 @@ fn number_end(text: &[u8], tokens: &[u32], at: usize) -> PostfixEnd
     if kind_at(text, tokens, j) == kind::CLOSING_BRACE {
         return PostfixEnd::Past(j + 1);
     }
-    let most = super::tokens::expect(text, tokens, j, kind::NUMBER);
-    let Wanted::Here(k) = most else {
-        return PostfixEnd::Bad(not_allowed(text, tokens, j));
-    };
-    let close = super::tokens::expect(text, tokens, k, kind::CLOSING_BRACE);
-    let Wanted::Here(n) = close else {
-        return PostfixEnd::Bad(not_allowed(text, tokens, k));
-    };
-    PostfixEnd::Past(n)
+    most_end(text, tokens, j)
 }
 
 // `{,n}`, from the comma on.
@@ -51,15 +61,7 @@ fn comma_end(text: &[u8], tokens: &[u32], at: usize) -> PostfixEnd
     let Wanted::Here(j) = comma else {
         return PostfixEnd::Bad(not_allowed(text, tokens, at));
     };
-    let most = super::tokens::expect(text, tokens, j, kind::NUMBER);
-    let Wanted::Here(k) = most else {
-        return PostfixEnd::Bad(not_allowed(text, tokens, j));
-    };
-    let close = super::tokens::expect(text, tokens, k, kind::CLOSING_BRACE);
-    let Wanted::Here(n) = close else {
-        return PostfixEnd::Bad(not_allowed(text, tokens, k));
-    };
-    PostfixEnd::Past(n)
+    most_end(text, tokens, j)
 }
 
 // Where the postfix ends that stands at an index.
@@ -69,9 +71,7 @@ pub fn postfix_end(text: &[u8], tokens: &[u32], at: usize) -> PostfixEnd
 {
     let k = kind_at(text, tokens, at);
     match k {
-        kind::QUESTION => PostfixEnd::Past(at + 1),
-        kind::STAR => PostfixEnd::Past(at + 1),
-        kind::PLUS => PostfixEnd::Past(at + 1),
+        kind::QUESTION | kind::STAR | kind::PLUS => PostfixEnd::Past(at + 1),
         kind::OPENING_BRACE => {
             if kind_at(text, tokens, at + 1) == kind::NUMBER {
                 return number_end(text, tokens, at + 1);
@@ -88,10 +88,7 @@ fn past_integer(text: &[u8], tokens: &[u32], at: usize) -> usize
     ensures { λ r. ⌜ r ≡ pastInteger (now (text .entry)) at ⌝ }
 {
     let k = kind_at(text, tokens, at);
-    if k == kind::NUMBER {
-        return at + 1;
-    }
-    if k == kind::NEGATIVE_NUMBER {
+    if k == kind::NUMBER || k == kind::NEGATIVE_NUMBER {
         return at + 1;
     }
     at
@@ -129,7 +126,7 @@ fn check_push_literal(text: &[u8], tokens: &[u32], at: usize, deep: usize) -> Ch
     let Wanted::Here(i) = bracket else {
         return Checked::Refused(not_allowed(text, tokens, at + 1));
     };
-    if 1024 <= deep {
+    if limits::OPEN <= deep {
         return Checked::Refused(refused_at(Why::TooDeep, text, tokens, at + 1));
     }
     let string = super::tokens::expect(text, tokens, i, kind::STRING);
@@ -199,15 +196,7 @@ pub fn check_leaf(text: &[u8], tokens: &[u32], at: usize, deep: usize) -> Checke
     let k = kind_at(text, tokens, at);
     match k {
         kind::WORD => check_word(text, tokens, at, deep),
-        kind::STRING => {
-            let bytes = super::tokens::string_bytes(text, tokens, at);
-            Checked::Good {
-                next: at + 1,
-                nodes: 1,
-                bytes,
-            }
-        }
-        kind::INSENSITIVE_STRING => {
+        kind::STRING | kind::INSENSITIVE_STRING => {
             let bytes = super::tokens::string_bytes(text, tokens, at);
             Checked::Good {
                 next: at + 1,

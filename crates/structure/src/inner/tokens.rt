@@ -2,13 +2,14 @@
 use crate::Refusal;
 use crate::Wanted;
 use crate::Why;
-use token::inner::table::end_at;
-use token::inner::table::kind_at;
-use token::inner::table::start_at;
+use token::inner::listing::end_at;
+use token::inner::listing::kind_at;
+use token::inner::listing::start_at;
 use token::kind;
 ghost use mathlib.Core.Path.{_≡_};
 ghost use Prim.Native.Nat.{_≤_, _<_};
 ghost use lib.ListN.{length};
+ghost use Rattle.text.specs.Limits.{maxText};
 ghost use Rattle.literal.specs.Escapes.{unescaped};
 ghost use Rattle.token.specs.Table.{start, between, word, Lent};
 ghost use Rattle.structure.specs.declared.Why.the-variants.{NotAllowed};
@@ -79,7 +80,7 @@ pub fn word_bytes(text: &[u8], tokens: &[u32], at: usize) -> usize
 
 // How many bytes the string has that the inside of a literal means.
 fn unescaped_bytes(text: &[u8], a: usize, z: usize) -> usize
-    requires { ⌜ length (now text) ≤ 65536 ⌝ }
+    requires { ⌜ length (now text) ≤ maxText ⌝ }
     requires { ⌜ z ≤ length (now text) ⌝ }
     ensures { λ r. ⌜ r ≡ length (unescaped (between (now (text .entry)) a z)) ⌝ }
 {

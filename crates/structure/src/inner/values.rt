@@ -4,12 +4,12 @@ use crate::Fault;
 use crate::Level;
 use crate::Refusal;
 use crate::Why;
-use text::Check;
 use text::Decimal;
-use token::inner::table::end_at;
-use token::inner::table::kind_at;
-use token::inner::table::start_at;
-use token::inner::table::token_count;
+use text::Scan;
+use token::inner::listing::end_at;
+use token::inner::listing::kind_at;
+use token::inner::listing::start_at;
+use token::inner::listing::token_count;
 use token::kind;
 ghost use mathlib.Core.Path.{_≡_};
 ghost use Prim.Native.Nat.{_+_, _≤_, _<_};
@@ -104,19 +104,18 @@ fn number_fault(text: &[u8], tokens: &[u32], before: u8, at: usize) -> Fault
     ensures { λ r. ⌜ r ≡ numberFault (now (text .entry)) before at ⌝ }
 {
     match before {
-        kind::OPENING_BRACK => peek_fault(text, tokens, at),
-        kind::DOTS => peek_fault(text, tokens, at),
+        kind::OPENING_BRACK | kind::DOTS => peek_fault(text, tokens, at),
         _ => repeat_fault(text, tokens, at),
     }
 }
 
 // The first bad escape in the part of a text from a to z.
-fn bad_escape_in(text: &[u8], a: usize, z: usize) -> Check
+fn bad_escape_in(text: &[u8], a: usize, z: usize) -> Scan
     requires { ⌜ z ≤ length (now text) ⌝ }
     ensures { λ r. ⌜ r ≡ badEscape (between (now (text .entry)) a z) ⌝ }
 {
     if z <= a {
-        return Check::Good;
+        return Scan::Through;
     }
     literal::inner::escapes::bad_escape(&text[a..z])
 }
@@ -132,8 +131,8 @@ fn literal_fault(text: &[u8], tokens: &[u32], at: usize, skip: usize) -> Fault
     let z = end_at(text, tokens, at);
     let bad = bad_escape_in(text, a, z - 1);
     match bad {
-        Check::Good => Fault::Sound,
-        Check::Bad(k) => Fault::At(Refusal {
+        Scan::Through => Fault::Sound,
+        Scan::StopsAt(k) => Fault::At(Refusal {
             why: Why::NotScalar,
             place: a + k,
         }),
@@ -151,9 +150,8 @@ fn fault_at(text: &[u8], tokens: &[u32], level: Level, before: u8, at: usize) ->
         kind::WORD => word_fault(text, tokens, level, at),
         kind::NUMBER => number_fault(text, tokens, before, at),
         kind::NEGATIVE_NUMBER => peek_fault(text, tokens, at),
-        kind::STRING => literal_fault(text, tokens, at, 1),
+        kind::STRING | kind::CHARACTER => literal_fault(text, tokens, at, 1),
         kind::INSENSITIVE_STRING => literal_fault(text, tokens, at, 2),
-        kind::CHARACTER => literal_fault(text, tokens, at, 1),
         _ => Fault::Sound,
     }
 }

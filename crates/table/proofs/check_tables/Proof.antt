@@ -1,11 +1,11 @@
 -- A law of Tables for each return: the shape, the lowest false node, the lowest false rule, good, or nodes left over.
 -- A good shape bounds the number of nodes; where no node is false, `firsts` has all first nodes, as the check of the rules asks.
-use Rattle.table.specs.Check.{maxNodes}
 use Prim.Native.Nat.{ℕ}
 use lib.ListN.{length-replicate}
 use mathlib.Core.Path.{sym, _∙_}
 use denote.Ref.{now}
 use borrow.Author.Tests.{not-true, not-false}
+use Rattle.text.specs.Limits.{maxNodes}
 use Rattle.table.proofs.Tables.{shaped-few, tables-shape, tables-node, tables-rule, tables-left, tables-good}
 use borrow.Author.Needs.{needs}
 use Rattle.table.proofs.check_tables.Statement.{statement}

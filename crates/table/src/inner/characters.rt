@@ -1,7 +1,7 @@
 // Characters, for crates that see the tables alone.
 use crate::Character;
 use crate::Fault;
-use text::Check;
+use text::Scan;
 use text::Sequence;
 ghost use mathlib.Core.Path.{_≡_};
 ghost use lib.ListN.{drop};
@@ -13,8 +13,8 @@ pub fn first_bad(line: &[u8]) -> Fault
 {
     let bad = text::first_bad(line);
     match bad {
-        Check::Good => Fault::None,
-        Check::Bad(i) => Fault::At(i),
+        Scan::Through => Fault::None,
+        Scan::StopsAt(i) => Fault::At(i),
     }
 }
 

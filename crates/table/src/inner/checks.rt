@@ -1,26 +1,29 @@
 // The parts of the check of whole tables.
-use super::records::NODE_SIZE;
-use super::records::RULE_SIZE;
+use super::layout::NODE_SIZE;
+use super::layout::RULE_SIZE;
 use crate::First;
 use crate::Leaf;
 use crate::Node;
 use crate::Op;
 use crate::Sort;
-use text::Check;
+use crate::kind;
+use text::Scan;
 use text::Word;
+use text::limits;
 ghost use mathlib.Core.Path.{_≡_};
 ghost use Prim.Native.Nat.{ℕ, _+_, _*_, _≤_, _<_};
 ghost use mathlib.Core.Bool.{true, false};
 ghost use lib.ListN.{length, getD};
 ghost use Rattle.text.specs.Booleans.{choose};
 ghost use Rattle.text.specs.Classes.{classes};
-ghost use Rattle.text.specs.declared.Check.the-variants.{Good};
+ghost use Rattle.text.specs.declared.Scan.the-variants.{Through};
+ghost use Rattle.text.specs.Limits.{maxNodes};
 ghost use Rattle.table.specs.declared.Leaf.the-variants.{Text, Range};
 ghost use Rattle.table.specs.declared.Op.the-variants.{NodeTag};
 ghost use Rattle.table.specs.Record.{nodeSize, ruleSize, nodesIn, rulesIn};
 ghost use Rattle.table.specs.Children as Kids;
 ghost use Rattle.table.specs.Children.{Told, Limits};
-ghost use Rattle.table.specs.Check.{maxNodes, shaped, inStore, isUtf8, isName, isLabel, fineText, goodLeaf, goodOp, goodAt, beginAt, goodRoot, goodRule, lowest, verdict, Firsts};
+ghost use Rattle.table.specs.Check.{shaped, inStore, isUtf8, isName, isLabel, fineText, goodLeaf, goodOp, goodAt, beginAt, goodRoot, goodRule, lowest, verdict, Firsts};
 
 // Whole records, no more than the limits.
 pub(crate) fn is_shaped(nodes: &[u32], rules: &[u32], store: &[u8]) -> bool
@@ -32,13 +35,13 @@ pub(crate) fn is_shaped(nodes: &[u32], rules: &[u32], store: &[u8]) -> bool
     if rules.len() % RULE_SIZE != 0 {
         return false;
     }
-    if 4096 < nodes.len() / NODE_SIZE {
+    if limits::NODES < nodes.len() / NODE_SIZE {
         return false;
     }
-    if 1024 < rules.len() / RULE_SIZE {
+    if limits::RULES < rules.len() / RULE_SIZE {
         return false;
     }
-    store.len() <= 65536
+    store.len() <= limits::STORE
 }
 
 // Whether a part lies in the store; offset and length are not added before it is known to.
@@ -56,8 +59,8 @@ fn is_utf8(s: &[u8]) -> bool
 {
     let bad = text::first_bad(s);
     match bad {
-        Check::Good => true,
-        Check::Bad(_) => false,
+        Scan::Through => true,
+        Scan::StopsAt(_) => false,
     }
 }
 
@@ -153,14 +156,20 @@ fn wide(x: u16) -> usize
 
 // The first node of node i's subtree, unless the node is false; `firsts` has those of the nodes
 // before it, so that none is looked for again.
-fn first_of(t: &[u8; 256], nodes: &[u32], store: &[u8], firsts: &[u16; 4096], i: usize) -> First
+fn first_of(
+    t: &[u8; 256],
+    nodes: &[u32],
+    store: &[u8],
+    firsts: &[u16; limits::NODES],
+    i: usize,
+) -> First
     requires { ⌜ now t ≡ classes ⌝ }
     requires { ⌜ nodeSize * (i + 1) ≤ length (now nodes) ⌝ }
     requires { ⌜ i ≤ maxNodes ⌝ }
     requires { ⌜ Firsts (now nodes) (now firsts) i ⌝ }
     ensures { λ r. ⌜ r ≡ verdict (now (nodes .entry)) (now (store .entry)) i ⌝ }
 {
-    let node = super::records::node_at(nodes, i);
+    let node = super::layout::node_at(nodes, i);
     match node {
         Node::Tip(leaf) => {
             if good_leaf(t, store, leaf) {
@@ -255,7 +264,7 @@ fn first_flat(
     two: usize,
     nodes: &[u32],
     store: &[u8],
-    firsts: &[u16; 4096],
+    firsts: &[u16; limits::NODES],
     i: usize,
 ) -> First
     requires { ⌜ nodeSize * (i + 1) ≤ length (now nodes) ⌝ }
@@ -311,7 +320,7 @@ fn first_at(
     limit: &[usize; 20],
     nodes: &[u32],
     store: &[u8],
-    firsts: &[u16; 4096],
+    firsts: &[u16; limits::NODES],
     i: usize,
 ) -> First
     requires { ⌜ now t ≡ classes ⌝ }
@@ -339,7 +348,7 @@ fn first_at(
             );
         }
     }
-    if kind == 4 {
+    if kind == kind::IDENT {
         return first_name(t, nodes, store, i);
     }
     first_of(t, nodes, store, firsts, i)
@@ -350,13 +359,13 @@ pub(crate) fn lowest_node(
     t: &[u8; 256],
     nodes: &[u32],
     store: &[u8],
-    firsts: &mut [u16; 4096],
-) -> Check
+    firsts: &mut [u16; limits::NODES],
+) -> Scan
     requires { ⌜ now t ≡ classes ⌝ }
     requires { ⌜ nodesIn (now nodes) ≤ maxNodes ⌝ }
     requires { ⌜ length (now firsts) ≡ maxNodes ⌝ }
     ensures { λ r. ⌜ r ≡ lowest (goodAt (now (nodes .entry)) (now (store .entry))) (nodesIn (now (nodes .entry))) ⌝ }
-    ensures { λ r. ⌜ (r ≡ Good → Firsts (now (nodes .entry)) (now (firsts .exit)) (nodesIn (now (nodes .entry)))) ⌝ }
+    ensures { λ r. ⌜ (r ≡ Through → Firsts (now (nodes .entry)) (now (firsts .exit)) (nodesIn (now (nodes .entry)))) ⌝ }
 {
     let n = nodes.len() / NODE_SIZE;
     let one = ones();
@@ -366,12 +375,12 @@ pub(crate) fn lowest_node(
     while i < n {
         let f = first_at(t, &one, &two, &limit, nodes, store, firsts, i);
         let First::At(x) = f else {
-            return Check::Bad(i);
+            return Scan::StopsAt(i);
         };
         firsts[i] = x as u16;
         i += 1;
     }
-    Check::Good
+    Scan::Through
 }
 
 // Where a rule's tree begins: right after the last one.
@@ -382,12 +391,18 @@ pub(crate) fn begin_at(rules: &[u32], k: usize) -> usize
     if k == 0 {
         return 0;
     }
-    let last = super::records::head_at(rules, k - 1);
+    let last = super::layout::head_at(rules, k - 1);
     last.root + 1
 }
 
 // The root is a node, and its tree begins where it should.
-fn good_root(nodes: &[u32], rules: &[u32], firsts: &[u16; 4096], k: usize, root: usize) -> bool
+fn good_root(
+    nodes: &[u32],
+    rules: &[u32],
+    firsts: &[u16; limits::NODES],
+    k: usize,
+    root: usize,
+) -> bool
     requires { ⌜ nodesIn (now nodes) ≤ maxNodes ⌝ }
     requires { ⌜ ruleSize * k ≤ length (now rules) ⌝ }
     requires { ⌜ Firsts (now nodes) (now firsts) (nodesIn (now nodes)) ⌝ }
@@ -404,7 +419,7 @@ fn good_rule(
     nodes: &[u32],
     rules: &[u32],
     store: &[u8],
-    firsts: &[u16; 4096],
+    firsts: &[u16; limits::NODES],
     k: usize,
 ) -> bool
     requires { ⌜ now t ≡ classes ⌝ }
@@ -413,7 +428,7 @@ fn good_rule(
     requires { ⌜ Firsts (now nodes) (now firsts) (nodesIn (now nodes)) ⌝ }
     ensures { λ r. ⌜ r ≡ goodRule (now (nodes .entry)) (now (rules .entry)) (now (store .entry)) k ⌝ }
 {
-    let head = super::records::head_at(rules, k);
+    let head = super::layout::head_at(rules, k);
     if !good_text(t, store, Sort::Ident, head.offset, head.length) {
         return false;
     }
@@ -429,8 +444,8 @@ pub(crate) fn lowest_rule(
     nodes: &[u32],
     rules: &[u32],
     store: &[u8],
-    firsts: &[u16; 4096],
-) -> Check
+    firsts: &[u16; limits::NODES],
+) -> Scan
     requires { ⌜ now t ≡ classes ⌝ }
     requires { ⌜ nodesIn (now nodes) ≤ maxNodes ⌝ }
     requires { ⌜ Firsts (now nodes) (now firsts) (nodesIn (now nodes)) ⌝ }
@@ -440,9 +455,9 @@ pub(crate) fn lowest_rule(
     let mut k = 0;
     while k < m {
         if !good_rule(t, nodes, rules, store, firsts, k) {
-            return Check::Bad(k);
+            return Scan::StopsAt(k);
         }
         k += 1;
     }
-    Check::Good
+    Scan::Through
 }

@@ -1,5 +1,5 @@
 // The rule of a name.
-use super::records::RULE_SIZE;
+use super::layout::RULE_SIZE;
 use crate::Named;
 ghost use mathlib.Core.Path.{_≡_};
 ghost use Rattle.table.specs.Names.{sameText, ruleNamed, NamesInside};
@@ -21,7 +21,7 @@ pub fn rule_named(rules: &[u32], store: &[u8], name: &[u8]) -> Named
     let m = rules.len() / RULE_SIZE;
     let mut k = 0;
     while k < m {
-        let head = super::records::head_at(rules, k);
+        let head = super::layout::head_at(rules, k);
         let p = head.offset;
         let e = p + head.length;
         if same_text(&store[p..e], name) {

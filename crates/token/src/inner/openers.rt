@@ -2,7 +2,7 @@
 use crate::Token;
 use crate::kind;
 use literal::Escape;
-use text::Check;
+use text::Scan;
 use text::Sequence;
 ghost use mathlib.Core.Path.{_≡_};
 ghost use Prim.Native.Nat.{_+_, _<_, _≤_};
@@ -103,14 +103,14 @@ fn dots_at(s: &[u8], at: usize) -> Token
 }
 
 // Up to the `"` or the bad backslash that ends the inside of a string.
-fn inside_end(s: &[u8], at: usize) -> Check
+fn inside_end(s: &[u8], at: usize) -> Scan
     ensures { λ r. ⌜ r ≡ later at (sought insideLook 0 (drop at (now (s .entry)))) ⌝ }
 {
     let mut i = at;
     while i < s.len() {
         let b = s[i];
         if b == 34 {
-            return Check::Bad(i);
+            return Scan::StopsAt(i);
         }
         if b == 92 {
             let escape = literal::escape_at(s, i);
@@ -119,14 +119,14 @@ fn inside_end(s: &[u8], at: usize) -> Check
                     i += n;
                 }
                 Escape::Plain => {
-                    return Check::Bad(i);
+                    return Scan::StopsAt(i);
                 }
             }
         } else {
             i += 1;
         }
     }
-    Check::Good
+    Scan::Through
 }
 
 // A string that the k bytes at a place open. A bad escape is told at its backslash.
@@ -136,8 +136,8 @@ fn string_at(s: &[u8], at: usize, kind: u8, k: usize) -> Token
 {
     let inside = inside_end(s, at + k);
     match inside {
-        Check::Good => Token::NoToken(at),
-        Check::Bad(i) => {
+        Scan::Through => Token::NoToken(at),
+        Scan::StopsAt(i) => {
             if s[i] == 34 {
                 return Token::Found {
                     kind,

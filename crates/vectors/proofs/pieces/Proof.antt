@@ -9,28 +9,31 @@ use Rattle.vectors.proofs.pieces.Statement.{statement}
 use Rattle.vectors.proofs.pieces.Tie as tie
 
 abbrev Inv-loop : tie.InvT-loop
-Inv-loop line from out₀ piece₀ at₀ k₀ turns₀ out piece at k turns = (k ≤ length out) × (length out ≡ length out₀) × (length piece ≡ 4096) × (turns ≤ 9)
+Inv-loop line fields out₀ piece₀ k₀ turns₀ out piece k turns = (k ≤ length out) × (length out ≡ length out₀) × (length piece ≡ 4096) × (turns ≤ 9)
 
 abbrev μ-loop : tie.MeasureT-loop
-μ-loop line from out₀ piece₀ at₀ k₀ turns₀ out piece at k turns = 9 - turns
+μ-loop line fields out₀ piece₀ k₀ turns₀ out piece k turns = 9 - turns
 
 loop-holds : tie.Need-loop-holds Inv-loop μ-loop
 loop-holds c = search needs
 
-field-requires : tie.Need-field-requires Inv-loop μ-loop
-field-requires c κs = search needs
+mul-at : tie.Need-mul-at Inv-loop μ-loop
+mul-at c = search needs
 
-field-requires-2 : tie.Need-field-requires-2 Inv-loop μ-loop
-field-requires-2 c κs = search needs
+add-at : tie.Need-add-at Inv-loop μ-loop
+add-at c = search needs
 
-sub-unhex : tie.Need-sub-unhex Inv-loop μ-loop
-sub-unhex c = search needs
+word-requires : tie.Need-word-requires Inv-loop μ-loop
+word-requires c κs = search needs
 
-part-unhex-start : tie.Need-part-unhex-start Inv-loop μ-loop
-part-unhex-start c = search needs
+number-requires : tie.Need-number-requires Inv-loop μ-loop
+number-requires c κs = search needs
 
-part-unhex-end : tie.Need-part-unhex-end Inv-loop μ-loop
-part-unhex-end c = search needs
+add-word : tie.Need-add-word Inv-loop μ-loop
+add-word c = search needs
+
+word-requires-2 : tie.Need-word-requires-2 Inv-loop μ-loop
+word-requires-2 c κs = search needs
 
 slice-aggregate-unhex : tie.Need-slice-aggregate-unhex Inv-loop μ-loop
 slice-aggregate-unhex c = search needs
@@ -43,18 +46,6 @@ array-share-prefix-piece c = search needs
 
 slice-aggregate-repeat : tie.Need-slice-aggregate-repeat Inv-loop μ-loop
 slice-aggregate-repeat c = search needs
-
-sub-number : tie.Need-sub-number Inv-loop μ-loop
-sub-number c = search needs
-
-part-number-start : tie.Need-part-number-start Inv-loop μ-loop
-part-number-start c = search needs
-
-part-number-end : tie.Need-part-number-end Inv-loop μ-loop
-part-number-end c = search needs
-
-number-requires : tie.Need-number-requires Inv-loop μ-loop
-number-requires c κs = search needs
 
 repeat-requires : tie.Need-repeat-requires Inv-loop μ-loop
 repeat-requires c κs = search needs
@@ -81,19 +72,16 @@ pieces-spec =
     Inv-loop
     μ-loop
     loop-holds
-    field-requires
-    field-requires-2
-    sub-unhex
-    part-unhex-start
-    part-unhex-end
+    mul-at
+    add-at
+    word-requires
+    number-requires
+    add-word
+    word-requires-2
     slice-aggregate-unhex
     unhex-requires
     array-share-prefix-piece
     slice-aggregate-repeat
-    sub-number
-    part-number-start
-    part-number-end
-    number-requires
     repeat-requires
     add-turns
     loop-less

@@ -4,7 +4,7 @@ use Rattle.links.specs.Program.{fitAt}
 use Rattle.table.proofs.Lowest.{lowest-none, lowest-more}
 use Rattle.table.specs.Check.{lowest}
 use Rattle.table.specs.Record.{nodesIn}
-use Rattle.table.specs.Characters.{Good}
+use Rattle.table.specs.Characters.{Through}
 use borrow.Author.Tests.{not-true, not-false}
 use borrow.Author.Needs.{needs}
 use denote.Ref.{now}
@@ -15,7 +15,7 @@ use Rattle.links.proofs.inner.ready.first_unfit.Statement.{statement}
 use Rattle.links.proofs.inner.ready.first_unfit.Tie as tie
 
 abbrev Inv-loop : tie.InvT-loop
-Inv-loop nodes n i₀ i = (n ≡ nodesIn nodes) × (i ≤ n) × (lowest (fitAt nodes) i ≡ Good)
+Inv-loop nodes n i₀ i = (n ≡ nodesIn nodes) × (i ≤ n) × (lowest (fitAt nodes) i ≡ Through)
 
 abbrev μ-loop : tie.MeasureT-loop
 μ-loop nodes n i₀ i = n - i

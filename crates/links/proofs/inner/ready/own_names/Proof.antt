@@ -4,7 +4,7 @@ use Rattle.links.specs.Program.{ownAt}
 use Rattle.table.proofs.Lowest.{lowest-none, lowest-more}
 use Rattle.table.specs.Check.{lowest}
 use Rattle.table.specs.Record.{rulesIn}
-use Rattle.table.specs.Characters.{Good}
+use Rattle.table.specs.Characters.{Through}
 use borrow.Author.Tests.{not-true, not-false}
 use denote.Ref.{now}
 use native.Mathlib.Omega.{arith}
@@ -14,7 +14,7 @@ use Rattle.links.proofs.inner.ready.own_names.Statement.{statement}
 use Rattle.links.proofs.inner.ready.own_names.Tie as tie
 
 abbrev Inv-loop : tie.InvT-loop
-Inv-loop rules store m k₀ k = (m ≡ rulesIn rules) × (k ≤ m) × (lowest (ownAt rules store) k ≡ Good)
+Inv-loop rules store m k₀ k = (m ≡ rulesIn rules) × (k ≤ m) × (lowest (ownAt rules store) k ≡ Through)
 
 abbrev μ-loop : tie.MeasureT-loop
 μ-loop rules store m k₀ k = m - k

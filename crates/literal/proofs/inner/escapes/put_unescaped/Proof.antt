@@ -6,7 +6,7 @@ use lib.ListN.{length, drop}
 use native.Mathlib.Omega.{arith}
 use borrow.Author.Needs.{needs}
 use Rattle.text.specs.Scans.{spelled, sought, later}
-use Rattle.text.specs.declared.Check.the-variants.{Good}
+use Rattle.text.specs.declared.Scan.the-variants.{Through}
 use Rattle.text.proofs.Walks.{Same, same-start, same-end, spelled-end, later-zero}
 use Rattle.text.proofs.Encodes.{scalar-below}
 use Rattle.literal.specs.Escapes.{escapePiece, escapeLook, unescaped, badEscape}
@@ -16,7 +16,7 @@ use Rattle.literal.proofs.inner.escapes.put_unescaped.Statement.{statem
 use Rattle.literal.proofs.inner.escapes.put_unescaped.Tie as tie
 
 abbrev Inv-loop : tie.InvT-loop
-Inv-loop s out₀ at a₀ i₀ out a i = Same out₀ at (unescaped s) out a (spelled escapePiece 0 (drop i s)) × (later i (sought escapeLook 0 (drop i s)) ≡ Good)
+Inv-loop s out₀ at a₀ i₀ out a i = Same out₀ at (unescaped s) out a (spelled escapePiece 0 (drop i s)) × (later i (sought escapeLook 0 (drop i s)) ≡ Through)
 
 abbrev μ-loop : tie.MeasureT-loop
 μ-loop s out₀ at a₀ i₀ out a i = length s - i

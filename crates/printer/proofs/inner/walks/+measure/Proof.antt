@@ -21,7 +21,7 @@ use Rattle.forms.proofs.inner.brackets.spend_brackets.Reads as spend-brackets-r
 use Rattle.forms.proofs.inner.brackets.under.Reads as under-reads
 use Rattle.forms.proofs.inner.leaves.spend_leaf.Reads as spend-leaf-reads
 use Rattle.forms.proofs.inner.unary.spend_op.Reads as spend-op-reads
-use Rattle.table.proofs.inner.records.node_at.Reads as node-at-reads
+use Rattle.table.proofs.inner.layout.node_at.Reads as node-at-reads
 use Rattle.text.proofs.inner.splice.spend.Reads as spend-reads
 use Rattle.printer.proofs.inner.walks.+measure.{statement}
 use Rattle.printer.proofs.inner.walks.+measure.Tie.{close}

@@ -15,7 +15,7 @@ use Rattle.table.specs.declared.Join.{Join}
 use Rattle.table.specs.declared.Leaf.{Leaf}
 use Rattle.table.specs.declared.Unary.{Unary}
 use Rattle.table.specs.Record.{nodeAt, firstAt, atomOf, wrapOf, treeAt}
-use Rattle.table.specs.Check.{Sound, goodLeaf, goodOp}
+use Rattle.table.specs.Check.{SoundUpTo, goodLeaf, goodOp}
 use Rattle.table.proofs.Nodes.{sound-tip, sound-one, sound-two, sound-unknown, sound-below}
 use Rattle.forms.specs.declared.Place.{Place}
 use Rattle.forms.specs.declared.Place.the-variants.{Alone, Prefixed, Operand, LeftOf, RightOf}
@@ -40,7 +40,7 @@ use Rattle.forms.proofs.inner.leaves.put_leaf.Reads as put-leaf-reads
 use Rattle.forms.proofs.inner.unary.put_after.Reads as put-after-reads
 use Rattle.forms.proofs.inner.unary.put_before.Reads as put-before-reads
 use Rattle.forms.proofs.inner.unary.put_tag.Reads as put-tag-reads
-use Rattle.table.proofs.inner.records.node_at.Reads as node-at-reads
+use Rattle.table.proofs.inner.layout.node_at.Reads as node-at-reads
 use Rattle.text.proofs.inner.splice.put_byte.Reads as put-byte-reads
 use Rattle.printer.proofs.inner.walks.+write.{statement}
 use Rattle.printer.proofs.inner.walks.+write.Tie.{close}
@@ -74,7 +74,7 @@ module _ (t : ℕ) (s : of-write write-lts.Start t) where
   Parts p ps = Going (now (s .args .out)) (s .args .at) (text (s .args .place) (s .args .i)) (now (s .args .out)) (s .args .at) p ps
 
   abbrev Child : ℕ → Type 0 → Type 0
-  Child k R = (k < t) × (Sound (now (s .args .nodes)) (now (s .args .store)) (k + 1) × R)
+  Child k R = (k < t) × (SoundUpTo (now (s .args .nodes)) (now (s .args .store)) (k + 1) × R)
 
   below : (k : ℕ) → k < s .args .i → {R : Type 0} → R → Child k R
   below k h r = (omega (arith, s .pre .0), (sound-below (k + 1) (omega arith) (s .pre .1 .0), r))

@@ -3,6 +3,7 @@
 use Prim.Native.Nat.{_-_}
 use borrow.Author.Needs.{needs}
 use native.Mathlib.Omega.{arith}
+use Rattle.text.specs.Limits.{maxText}
 use Rattle.reader.proofs.Answers.{tried-all, listed-done, listed-again}
 use Prim.Native.Nat.{ℕ, _<_}
 use borrow.Fn.Kinds.{In, Out}
@@ -18,7 +19,7 @@ use Rattle.reader.proofs.inner.listings.+read_listed.{statement}
 use Rattle.reader.proofs.inner.listings.+read_listed.Tie.{close}
 
 abbrev μ-read-listed : Measures 5 read-listed-kinds.ps ℕ
-μ-read-listed κs a = 65536 - a .1 .1 .1 .1 .1 .1 .0
+μ-read-listed κs a = maxText - a .1 .1 .1 .1 .1 .1 .0
 
 abbrev read-listed-at : ℕ → In 5 read-listed-kinds.ps
 read-listed-at t =
@@ -155,7 +156,7 @@ read-listed-returns-5 : (t : ℕ) → of-read-listed read-listed-lts.Need-return
 read-listed-returns-5 t c =
     let at-large = c .before in
     let at-try-large = at-large .before .before .before .before .before .before .before .before in
-    listed-done 65536 _ _ _ _ _ _ _ _ (at-try-large .try-large .ensures .0) (at-try-large .try-large .ensures .1) (at-large .large .given .1)
+    listed-done maxText _ _ _ _ _ _ _ _ (at-try-large .try-large .ensures .0) (at-try-large .try-large .ensures .1) (at-large .large .given .1)
 
 read-listed-same-length-16 : (t : ℕ) → of-read-listed read-listed-lts.Need-same-length-16 t
 read-listed-same-length-16 t c = search needs
@@ -170,7 +171,7 @@ read-listed-returns-6 : (t : ℕ) → of-read-listed read-listed-lts.Need-return
 read-listed-returns-6 t c =
     let at-try-large = c .before .before .before .before .before .before .before .before .before in
     let start = at-try-large .before .before .before .before .before .before .before .before .before .before in
-    absurd (tried-all 65536 _ _ _ _ _ (start .pre .1 .1) (at-try-large .try-large .ensures .0) (c .before .enum-told3 .given .1))
+    absurd (tried-all maxText _ _ _ _ _ (start .pre .1 .1) (at-try-large .try-large .ensures .0) (c .before .enum-told3 .given .1))
 
 pub +read-listed-spec : {M : Type 1} → statement M
 +read-listed-spec = close μ-read-listed λ t. read-listed-lts.spec (

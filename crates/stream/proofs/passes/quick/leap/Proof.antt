@@ -1,9 +1,11 @@
 -- From token to token: each is the law of one token, so what the stash holds and the rest of the packet make up the whole.
-use Rattle.stream.proofs.Leaps.{yes, all-left, inside, clean-on, leapt-none, leapt-same, over-yes, sound-between, leap-turn}
+use Rattle.text.proofs.Booleans.{not-false}
+use Rattle.stream.proofs.Leaps.{all-left, inside, clean-on, leapt-none, leapt-same, over-yes, sound-between, leap-turn}
 use Rattle.stream.specs.Quick.{startAt, Free, Leapt}
 use Rattle.states.specs.Utf.{brokenAt, utfFeed}
 use Rattle.states.specs.declared.Utf.the-variants.{Whole}
-use Rattle.text.specs.declared.Check.the-variants.{Good}
+use Rattle.text.specs.declared.Scan.the-variants.{Through}
+use Rattle.text.specs.Limits.{maxText}
 use Rattle.token.specs.Table.{roomOf}
 use lib.ListN.{length, drop, length-drop, length-set}
 use mathlib.Core.Path.{_∙_, ap, refl, _≡_}
@@ -14,7 +16,7 @@ use Rattle.stream.proofs.passes.quick.leap.Statement.{statement}
 use Rattle.stream.proofs.passes.quick.leap.Tie as tie
 
 abbrev Inv-loop : tie.InvT-loop
-Inv-loop t room i m packet stash₀ space seen₀ count₀ at₀ n₀ stash seen count at n = (length stash ≡ length stash₀) × (n + count₀ ≡ count + m) × (seen + (length packet - at) ≤ 65536) × (brokenAt (utfFeed Whole seen (drop at packet)) ≡ Good) × Leapt room (startAt seen₀ count₀) i m packet stash₀ stash (startAt seen count) at
+Inv-loop t room i m packet stash₀ space seen₀ count₀ at₀ n₀ stash seen count at n = (length stash ≡ length stash₀) × (n + count₀ ≡ count + m) × (seen + (length packet - at) ≤ maxText) × (brokenAt (utfFeed Whole seen (drop at packet)) ≡ Through) × Leapt room (startAt seen₀ count₀) i m packet stash₀ stash (startAt seen count) at
 
 abbrev μ-loop : tie.MeasureT-loop
 μ-loop t room i m packet stash₀ space seen₀ count₀ at₀ n₀ stash seen count at n = length packet - at
@@ -39,7 +41,7 @@ returns c =
 loop-holds : tie.Need-loop-holds Inv-loop μ-loop
 loop-holds c =
     let s = c .before .before .before .before .before .args in
-    let f : Free (s .from) (drop (s .i) (s .packet .now)) = rw (all-left (s .packet .now) (s .i)) at (c .before .may-leap .ensures (yes _ (c .if1 .left))) in
+    let f : Free (s .from) (drop (s .i) (s .packet .now)) = rw (all-left (s .packet .now) (s .i)) at (c .before .may-leap .ensures (not-false _ (c .if1 .left))) in
     let l = length-drop (s .i) (s .packet .now) in
     (refl, omega arith, omega (arith, f .short), f .clean, leapt-none (s .room) (startAt (s .from .seen) (s .from .count)) (s .i) (s .m) (s .packet .now) (s .stash .now) (sound-between (s .from) (c .before .before .before .before .before .pre .1 .0)) (c .before .before .before .before .before .pre .1 .1 .0) (c .before .before .before .before .before .pre .1 .1 .1))
 
@@ -53,7 +55,7 @@ returns-2 : tie.Need-returns-2 Inv-loop μ-loop
 returns-2 c =
     let s = c .before .before .before .before .before .before .before .before .before .args in
     let w = c .before .before .before .loop in
-    let f = c .before .before .before .before .before .may-leap .ensures (yes _ (c .before .before .before .before .if1 .left)) in
+    let f = c .before .before .before .before .before .may-leap .ensures (not-false _ (c .before .before .before .before .if1 .left)) in
     leapt-same (s .room) (s .from) (startAt (s .from .seen) (s .from .count)) _ (startAt (w .seen) (w .count)) (s .i) (s .m) (s .packet .now) (s .stash .now) (w .stash) (w .at) (f .between) (c .start-at .ensures) (w .inv .4)
 
 ahead-requires : tie.Need-ahead-requires Inv-loop μ-loop
@@ -72,7 +74,7 @@ returns-3 : tie.Need-returns-3 Inv-loop μ-loop
 returns-3 c =
     let s = c .before .before .before .before .before .before .before .before .before .before .before .before .args in
     let w = c .before .before .before .before .before .before .loop in
-    let f = c .before .before .before .before .before .before .before .before .may-leap .ensures (yes _ (c .before .before .before .before .before .before .before .if1 .left)) in
+    let f = c .before .before .before .before .before .before .before .before .may-leap .ensures (not-false _ (c .before .before .before .before .before .before .before .if1 .left)) in
     leapt-same (s .room) (s .from) (startAt (s .from .seen) (s .from .count)) _ (startAt (w .seen) (w .count)) (s .i) (s .m) (s .packet .now) (s .stash .now) (w .stash) (w .at) (f .between) (c .start-at2 .ensures) (w .inv .4)
 
 enum-known-next : tie.Need-enum-known-next Inv-loop μ-loop
@@ -187,7 +189,7 @@ returns-4 : tie.Need-returns-4 Inv-loop μ-loop
 returns-4 c =
     let s = c .before .before .before .before .before .before .before .before .args in
     let w = c .before .before .loop in
-    let f = c .before .before .before .before .may-leap .ensures (yes _ (c .before .before .before .if1 .left)) in
+    let f = c .before .before .before .before .may-leap .ensures (not-false _ (c .before .before .before .if1 .left)) in
     leapt-same (s .room) (s .from) (startAt (s .from .seen) (s .from .count)) _ (startAt (w .seen) (w .count)) (s .i) (s .m) (s .packet .now) (s .stash .now) (w .stash) (w .at) (f .between) (c .start-at3 .ensures) (w .inv .4)
 
 pub leap-spec : {M : Type 1} → statement M

@@ -1,5 +1,6 @@
 -- Each byte gives at most two tokens, for which the stash has room; the rest is as if it was fed from where the loop stands.
-use Rattle.stream.proofs.Leaps.{yes, leapt-none, over-yes, two-small, settle-turn, step-seen}
+use Rattle.text.proofs.Booleans.{not-false}
+use Rattle.stream.proofs.Leaps.{leapt-none, over-yes, two-small, settle-turn, step-seen}
 use Rattle.stream.proofs.Writes.{step-room}
 use Rattle.stream.proofs.Sounds.{many-small, many-two}
 use Rattle.stream.specs.Quick.{Leapt}
@@ -34,7 +35,7 @@ returns : tie.Need-returns Inv-loop μ-loop
 returns c = c .before .before .loop .inv .2
 
 shared-slice-read-step : tie.Need-shared-slice-read-step Inv-loop μ-loop
-shared-slice-read-step c = c .before .before .is-slow .ensures (yes _ (c .before .if1 .left)) .0
+shared-slice-read-step c = c .before .before .is-slow .ensures (not-false _ (c .before .if1 .left)) .0
 
 step-requires : tie.Need-step-requires Inv-loop μ-loop
 step-requires c κs = (c .before .before .before .before .before .before .pre .0, c .before .before .before .loop .inv .2 .sound)
@@ -58,7 +59,7 @@ put-two-requires c κs =
     let p = w .inv .2 .sound in
     let l : length (w .stash) ≡ length (s .stash .now) = w .inv .0 in
     let v = c .before .before .stepped .given .0 in
-    let f = c .before .before .before .before .before .before .before .is-slow .ensures (yes _ (c .before .before .before .before .before .before .if1 .left)) .1 in
+    let f = c .before .before .before .before .before .before .before .is-slow .ensures (not-false _ (c .before .before .before .before .before .before .if1 .left)) .1 in
     (omega (arith, w .inv .1, p .count, p .sum, p .short), rw l (over-yes (roomOf (s .stash .now)) _ (w .n) (omega (arith, two-small (v .0) (v .1 .0)))))
 
 many-requires : tie.Need-many-requires Inv-loop μ-loop
@@ -87,14 +88,14 @@ add-i c =
     omega (arith, w .inv .3, w .inv .2 .sound .short)
 
 loop-less : tie.Need-loop-less Inv-loop μ-loop
-loop-less c = let f = c .before .before .before .before .before .before .before .before .before .before .before .before .is-slow .ensures (yes _ (c .before .before .before .before .before .before .before .before .before .before .before .if1 .left)) .0 in omega arith
+loop-less c = let f = c .before .before .before .before .before .before .before .before .before .before .before .before .is-slow .ensures (not-false _ (c .before .before .before .before .before .before .before .before .before .before .before .if1 .left)) .0 in omega arith
 
 loop-again : tie.Need-loop-again Inv-loop μ-loop
 loop-again c =
     let s = c .before .before .before .before .before .before .before .before .before .before .before .before .before .before .before .before .args in
     let w = c .before .before .before .before .before .before .before .before .before .before .before .before .before .loop in
     let v = c .before .before .before .before .before .before .before .stepped .given .0 in
-    let f = c .before .before .before .before .before .before .before .before .before .before .before .before .is-slow .ensures (yes _ (c .before .before .before .before .before .before .before .before .before .before .before .if1 .left)) in
+    let f = c .before .before .before .before .before .before .before .before .before .before .before .before .is-slow .ensures (not-false _ (c .before .before .before .before .before .before .before .before .before .before .before .if1 .left)) in
     let l = simp length-sets at (ap length (c .before .before .before .before .put-two .ensures)) in
     let e = rw (c .before .before .before .before .before .before .before .stepped .given .1) at (c .before .before .before .before .before .before .before .before .before .step .ensures) in
     let m = step-room (s .room) (w .c) _ _ _ e .1 in

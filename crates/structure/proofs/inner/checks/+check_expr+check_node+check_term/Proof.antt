@@ -1,5 +1,6 @@
 -- Falls: 3 times the unread bytes, plus 2 for an expression, 1 for a term, 0 for a node; a node calls for an expression only past a `(`.
 -- Loop of `check_expr` (`ChainInv`): the expression is the chain read so far, with its nodes and bytes, going on at i; the tokens left fall.
+use Rattle.text.specs.Limits.{maxText}
 use Rattle.structure.proofs.Cycle.{ChainInv, expr-refused, chain-start, chain-done, joint-in, chain-more, chain-refused, term-untied, term-refused, term-unposted, term-sums, term-good, node-leaf, node-unopened, node-deep, node-refused, node-unclosed, node-sum, node-closed, falls-term, falls-node}
 use Rattle.structure.proofs.Checks.{was-from, was-untied, was-open, was-unopened}
 use Rattle.structure.specs.Answers.{unread}
@@ -29,7 +30,7 @@ use Rattle.structure.proofs.inner.checks.predicates_end.Reads as predic
 use Rattle.structure.proofs.inner.checks.tag_of.Reads as tag-of-reads
 use Rattle.structure.proofs.inner.leaves.check_leaf.Reads as check-leaf-reads
 use Rattle.structure.proofs.inner.tokens.expect.Reads as expect-reads
-use Rattle.token.proofs.inner.table.kind_at.Reads as kind-at-reads
+use Rattle.token.proofs.inner.listing.kind_at.Reads as kind-at-reads
 use Rattle.structure.proofs.inner.tokens.not_allowed.Reads as not-allowed-reads
 use Rattle.structure.proofs.inner.tokens.refused_at.Reads as refused-at-reads
 use Rattle.structure.proofs.inner.checks.+check_expr+check_node+check_term.{statement}
@@ -69,7 +70,7 @@ check-term-below t =
     and 2 check-term-kinds.ps (falls 2 check-term-kinds.ps _<_ μ-check-term t) check-term.Pre
 
 abbrev check-expr-Inv-loop : check-expr-lts.InvT-loop
-check-expr-Inv-loop text tokens level at deep next nodes bytes i₀ count₀ size₀ i count size = (length text ≤ 65536) × ((w : length text ≤ 65536) → ChainInv level text w deep at i count size)
+check-expr-Inv-loop text tokens level at deep next nodes bytes i₀ count₀ size₀ i count size = (length text ≤ maxText) × ((w : length text ≤ maxText) → ChainInv level text w deep at i count size)
 
 abbrev check-expr-μ-loop : check-expr-lts.MeasureT-loop
 check-expr-μ-loop text tokens level at deep next nodes bytes i₀ count₀ size₀ i count size = length (toks text) - i

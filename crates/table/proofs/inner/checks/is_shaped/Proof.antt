@@ -3,7 +3,8 @@ use Prim.Native.Nat.{_%_}
 use denote.Ref.{now}
 use lib.ListN.{length}
 use borrow.Author.Tests.{eq-eqb, ne-eqb, le-leb, lt-leb}
-use Rattle.table.specs.Check.{maxNodes, maxRules, shaped}
+use Rattle.text.specs.Limits.{maxNodes, maxRules}
+use Rattle.table.specs.Check.{shaped}
 use Rattle.table.specs.Record.{nodeSize, ruleSize, nodesIn, rulesIn}
 use Rattle.table.proofs.inner.checks.is_shaped.Statement.{statement}
 use Rattle.table.proofs.inner.checks.is_shaped.Tie as tie

@@ -6,7 +6,7 @@ use Rattle.table.proofs.Lowest.{lowest-none, lowest-more, lowest-bad}
 use Rattle.table.proofs.Verdicts.{firsts-none, firsts-more, verdict-at, verdict-none}
 use Rattle.table.proofs.Nodes.{first-le}
 use Rattle.table.specs.Check.{goodAt, lowest, Firsts}
-use Rattle.text.specs.declared.Check.the-variants.{Good}
+use Rattle.text.specs.declared.Scan.the-variants.{Through}
 use native.Mathlib.Omega.{arith}
 use denote.Ref.{now}
 use lib.ListN.{length, length-set}
@@ -25,7 +25,7 @@ use Rattle.table.proofs.inner.checks.pick.Reads as pick-reads
 use Rattle.table.proofs.inner.checks.twos.Reads as twos-reads
 
 abbrev Inv-loop : tie.InvT-loop
-Inv-loop t nodes store firsts₀ n one two limit i₀ firsts i = (i ≤ n) × (lowest (goodAt nodes store) i ≡ Good) × Firsts nodes firsts i × (length firsts ≡ 4096)
+Inv-loop t nodes store firsts₀ n one two limit i₀ firsts i = (i ≤ n) × (lowest (goodAt nodes store) i ≡ Through) × Firsts nodes firsts i × (length firsts ≡ 4096)
 
 abbrev μ-loop : tie.MeasureT-loop
 μ-loop t nodes store firsts₀ n one two limit i₀ firsts i = n - i

@@ -6,14 +6,14 @@ use denote.Ref.{now}
 use native.Mathlib.Omega.{arith}
 use borrow.Author.Tests.{not-true, not-false}
 use borrow.Author.Needs.{needs}
-use Rattle.text.specs.declared.Check.the-variants.{Good}
+use Rattle.text.specs.declared.Scan.the-variants.{Through}
 use Rattle.table.specs.Check.{goodRule, lowest}
 use Rattle.table.proofs.Lowest.{lowest-none, lowest-more, lowest-bad}
 use Rattle.table.proofs.inner.checks.lowest_rule.Statement.{statement}
 use Rattle.table.proofs.inner.checks.lowest_rule.Tie as tie
 
 abbrev Inv-loop : tie.InvT-loop
-Inv-loop t nodes rules store firsts m k₀ k = (k ≤ m) × (lowest (goodRule nodes rules store) k ≡ Good)
+Inv-loop t nodes rules store firsts m k₀ k = (k ≤ m) × (lowest (goodRule nodes rules store) k ≡ Through)
 
 abbrev μ-loop : tie.MeasureT-loop
 μ-loop t nodes rules store firsts m k₀ k = m - k

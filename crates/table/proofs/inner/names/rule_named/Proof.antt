@@ -1,7 +1,7 @@
 -- All rules before the one at hand have another name.
 use Rattle.table.proofs.Names.{named-at, other-at, named-none, head-name, head-inside}
 use Rattle.table.proofs.Lowest.{lowest-none, lowest-more}
-use Rattle.text.specs.declared.Check.the-variants.{Good}
+use Rattle.text.specs.declared.Scan.the-variants.{Through}
 use Rattle.table.specs.Check.{lowest}
 use Rattle.table.specs.Record.{rulesIn}
 use Rattle.table.specs.Names.{sameText, otherName}
@@ -14,7 +14,7 @@ use Rattle.table.proofs.inner.names.rule_named.Statement.{statement}
 use Rattle.table.proofs.inner.names.rule_named.Tie as tie
 
 abbrev Inv-loop : tie.InvT-loop
-Inv-loop rules store name m k₀ k = (m ≡ rulesIn rules) × (k ≤ m) × (lowest (otherName rules store name) k ≡ Good)
+Inv-loop rules store name m k₀ k = (m ≡ rulesIn rules) × (k ≤ m) × (lowest (otherName rules store name) k ≡ Through)
 
 abbrev μ-loop : tie.MeasureT-loop
 μ-loop rules store name m k₀ k = m - k
