@@ -6,7 +6,7 @@ use Prim.Native.Nat.{ℕ, _≤_, _<_}
 use native.Mathlib.Omega.{arith}
 use lib.Dec.{ltb}
 use borrow.Author.Tests.{lt-ltb, le-ltb, ltb-true}
-use Rattle.text.proofs.Booleans.{and-both, and-first, and-second, and-true, choose-false, choose-true}
+use Rattle.table.proofs.Booleans.{and-both, and-first, and-second, and-true, choose-false, choose-true}
 use Rattle.table.specs.declared.Fault.{Fault}
 use Rattle.table.specs.declared.Fault.the-variants as Fault
 use Rattle.table.specs.declared.TableCheck.{TableCheck}

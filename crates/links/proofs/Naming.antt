@@ -9,8 +9,8 @@ use native.Mathlib.Decide.{decLt}
 use lib.Dec.{eqb, leb}
 use lib.ListN.{length, getD, set, take, drop, length-set, List·getD-eq-default}
 use lib.Seq.{getD-set-same, getD-set-other}
-use Rattle.text.proofs.Booleans.{choose-false, choose-true}
-use Rattle.text.specs.Limits.{maxNodes}
+use Rattle.table.proofs.Booleans.{choose-false, choose-true}
+use Rattle.table.specs.Characters.{maxNodes}
 use Rattle.table.specs.declared.Join.{Join}
 use Rattle.table.specs.declared.Join.the-variants as Join
 use Rattle.table.specs.declared.Unary.{Unary}

@@ -5,7 +5,7 @@ use mathlib.Core.Path.{_≡_}
 use mathlib.Core.List.{List, [], _∷_}
 use lib.Dec.{eqb, leb, ltb}
 use lib.ListN.{length, getD}
-use Rattle.text.specs.Limits.{maxNodes}
+use Rattle.table.specs.Characters.{maxNodes}
 use Rattle.table.specs.declared.Join.{Join}
 use Rattle.table.specs.declared.Join.the-variants as Join
 use Rattle.table.specs.declared.Unary.{Unary}

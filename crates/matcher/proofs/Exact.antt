@@ -7,7 +7,7 @@ use mathlib.Core.List.{List}
 use native.Mathlib.Omega.{arith}
 use lib.Dec.{leb}
 use native.Mathlib.Decide.{decLt}
-use Rattle.text.proofs.Booleans.{split}
+use Rattle.table.proofs.Booleans.{split}
 use Rattle.links.specs.declared.Most.{Most}
 use Rattle.links.specs.declared.Act.{Act}
 use Rattle.links.specs.declared.Act.the-variants.{Text, Range, Any, Call, PosPred, NegPred, Seq, Choice, Repeat, Unfit}

@@ -10,7 +10,7 @@ use lib.Dec.{eqb, leb, ltb}
 use lib.ListN.{length, getD, take, drop, length-take, length-drop}
 use lib.Seq.{drop-cons}
 use borrow.Author.Tests.{le-leb, lt-leb, eq-eqb, ne-eqb}
-use Rattle.text.proofs.Booleans.{and-second}
+use Rattle.table.proofs.Booleans.{and-second}
 use Rattle.table.specs.declared.Character.{Character}
 use Rattle.table.specs.declared.Character.the-variants.{Is, Broken}
 use Rattle.table.specs.Characters.{choose, and, within}

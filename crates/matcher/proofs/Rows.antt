@@ -10,7 +10,7 @@ use lib.Dec.{eqb}
 use lib.ListN.{length, getD, set, take, drop, length-take, length-drop, length-append, List·getD-eq-default}
 use lib.Seq.{drop-cons, drop-drop, sets, length-sets, sets-eq}
 use borrow.Author.Tests.{eq-eqb, ne-eqb}
-use Rattle.text.proofs.Booleans.{and-right, choose-false, choose-true}
+use Rattle.table.proofs.Booleans.{and-right, choose-false, choose-true}
 use Rattle.table.specs.Characters.{choose, and, or, nextIs, fronted}
 use Rattle.replies.specs.declared.Answer.{Answer}
 use Rattle.replies.specs.declared.Row.{Row}

@@ -5,7 +5,7 @@ use mathlib.Core.Path.{_≡_, refl, sym, ap, _∙_}
 use mathlib.Core.List.{List}
 use native.Mathlib.Omega.{arith}
 use lib.Dec.{leb}
-use Rattle.text.proofs.Booleans.{choose-by, choose-cong}
+use Rattle.table.proofs.Booleans.{choose-by, choose-cong}
 use Rattle.links.specs.declared.Most.{Most}
 use Rattle.links.specs.declared.Act.{Act}
 use Rattle.links.specs.declared.Act.the-variants.{Text, Range, Any, Call, PosPred, NegPred, Seq, Choice, Repeat, Unfit}

@@ -11,7 +11,7 @@ use replies::Found;
 use replies::Lines;
 use table::Named;
 use table::TableCheck;
-use text::limits;
+use table::limits;
 ghost use mathlib.Core.Path.{_≡_};
 ghost use lib.ListN.{length};
 ghost use Rattle.matcher.specs.Answers.{matchOf};

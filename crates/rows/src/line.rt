@@ -1,33 +1,12 @@
 // The line `refused N at P`: room for it, and its bytes.
+use text::inner::digits::put_number;
+use text::inner::digits::spend_number;
 use text::inner::splice::put;
 use text::inner::splice::put_byte;
 use text::inner::splice::spend;
 ghost use mathlib.Core.Path.{_≡_};
-ghost use Rattle.text.specs.Digits.{decimal};
 ghost use Rattle.text.specs.Splice.{Room, Wrote, spent};
 ghost use Rattle.rows.specs.Line.{refusalLine};
-
-// What is left after a number in decimal. `text` has this and the next one for 32 bits; the laws are its own.
-pub fn spend_number(left: usize, n: u64) -> usize
-    ensures { λ r. ⌜ r ≡ spent left (decimal n) ⌝ }
-{
-    if n < 10 {
-        return spend(left, 1);
-    }
-    spend(spend_number(left, n / 10), 1)
-}
-
-// Writes a number in decimal.
-pub fn put_number(n: u64, out: &mut [u8], at: usize) -> usize
-    requires { ⌜ Room (now out) at (decimal n) ⌝ }
-    ensures { λ r. ⌜ Wrote (now (out .entry)) at (decimal n) (now (out .exit)) r ⌝ }
-{
-    if n < 10 {
-        return put_byte(48 + n as u8, out, at);
-    }
-    let next = put_number(n / 10, out, at);
-    put_byte(48 + (n % 10) as u8, out, next)
-}
 
 // What is left after the line: its words, blanks and LF are thirteen bytes.
 pub fn spend_line(left: usize, number: u64, place: u64) -> usize

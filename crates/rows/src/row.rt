@@ -1,10 +1,10 @@
 // The line of a camera line's answer: room for it, its bytes, and the lines of many records.
 use crate::Rows;
 use crate::line::put_line;
-use crate::line::put_number;
 use crate::line::spend_line;
-use crate::line::spend_number;
 use replies::Row;
+use text::inner::digits::put_number;
+use text::inner::digits::spend_number;
 use text::inner::splice::put;
 use text::inner::splice::put_byte;
 use text::inner::splice::spend;

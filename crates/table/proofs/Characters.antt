@@ -1,4 +1,4 @@
--- Laws of characters. Through bytes before a text change nothing of what is good behind them, so that a place behind whole characters parts
+-- Laws of characters. Good bytes before a text change nothing of what is good behind them, so that a place behind whole characters parts
 -- a line into two that are UTF-8.
 use mathlib.Core.Path.{_≡_, refl, sym, ap, _∙_}
 use mathlib.Core.Bool.{Bool, true, false}

@@ -1,4 +1,5 @@
 -- The laws of trees and tables.
+pub mod Booleans
 pub mod Columns
 pub mod Records
 pub mod Nodes

@@ -1,4 +1,4 @@
--- Characters and tests, for crates that see the tables alone: passed on, and two answers under names that those can say.
+-- Characters, tests and limits, for crates that see the tables alone: passed on, and two answers under names that those can say.
 use Rattle.text.specs.declared.Scan.{Scan}
 use Rattle.text.specs.declared.Scan.the-variants as Scan
 use Rattle.text.specs.declared.Sequence.{Sequence}
@@ -11,6 +11,7 @@ pub use Rattle.text.specs.declared.Scan.the-variants.{Through, StopsAt}
 unfoldable pub use Rattle.text.specs.Utf8.{charOf, firstBad}
 pub use Rattle.text.specs.Booleans.{choose, and, or, within, nextIs}
 unfoldable pub use Rattle.text.specs.Splice.{fronted}
+pub use Rattle.text.specs.Limits.{maxNodes}
 
 abbrev pub faultOf : Scan → Fault
 faultOf Scan.Through = Fault.None

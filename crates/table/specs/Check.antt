@@ -28,7 +28,6 @@ use Rattle.table.specs.declared.TableCheck.the-variants as Table
 use Rattle.table.specs.Tree.{Atom, text, range, peekSlice, Wrap, plain, nodeTag, Tree, leaf, one, two, Rule}
 use Rattle.table.specs.Record.{nodeSize, ruleSize, nodesIn, rulesIn, nodeAt, atomOf, wrapOf, firstAt, nameOffset, nameLength, nameAt, markAt, rootAt}
 
--- the limits: 4,096 nodes, 1,024 rules, 65,536 bytes of store
 -- whole records, no more than the limits
 unfoldable pub shaped : List ℕ → List ℕ → List ℕ → Bool
 shaped ns rs st =

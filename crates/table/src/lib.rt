@@ -7,7 +7,7 @@ pub mod inner;
 pub mod kind;
 
 use text::Scan;
-use text::limits;
+pub use text::limits;
 ghost use mathlib.Core.Path.{_≡_};
 ghost use Rattle.table.specs.Check.{tables};
 

@@ -8,11 +8,11 @@ use table::Node;
 use table::Op;
 use table::Sort;
 use table::Unary;
-use text::limits;
+use table::limits;
 ghost use mathlib.Core.Path.{_≡_};
 ghost use Prim.Native.Nat.{_<_};
 ghost use Rattle.table.specs.declared.Node.the-variants.{Tip};
-ghost use Rattle.text.specs.Limits.{maxNodes};
+ghost use Rattle.table.specs.Characters.{maxNodes};
 ghost use Rattle.table.specs.Record.{nodesIn};
 ghost use Rattle.links.specs.Program.{linked, unaryAct, actOf, linkedAt, mentionOf, isFit};
 

@@ -1,7 +1,7 @@
 -- Where nothing is refused, the links make the table the program, so that the run is that of the definition.
 use Prim.Native.Nat.{ℕ}
 use lib.ListN.{length-replicate}
-use Rattle.text.specs.Limits.{maxNodes}
+use Rattle.table.specs.Characters.{maxNodes}
 use Rattle.matcher.proofs.Answering.{call-there, call-sound, call-root, answer-yes, answer-false, answer-unfit, answer-none}
 use borrow.Author.Needs.{needs}
 use Rattle.matcher.proofs.match_line.Statement.{statement}

@@ -1,7 +1,7 @@
 -- Where nothing is refused, the links make the table the program; a refusal leaves the records as they were.
 use Prim.Native.Nat.{ℕ}
 use lib.ListN.{length-replicate}
-use Rattle.text.specs.Limits.{maxNodes}
+use Rattle.table.specs.Characters.{maxNodes}
 use Rattle.matcher.proofs.Answering.{call-there, call-sound, call-root, lines-yes, lines-false, lines-unfit, lines-none}
 use borrow.Author.Needs.{needs}
 use Rattle.matcher.proofs.match_lines.Statement.{statement}

@@ -4,7 +4,7 @@ use crate::Line;
 use replies::Lines;
 use replies::Row;
 use replies::row_of;
-use text::limits;
+use table::limits;
 ghost use mathlib.Core.Path.{_≡_};
 ghost use Prim.Native.Nat.{_+_, _≤_, _<_};
 ghost use lib.ListN.{length, drop};

@@ -9,7 +9,7 @@ use links::Most;
 use links::inner::nodes::linked_at;
 use replies::Answer;
 use table::Fault;
-use text::limits;
+use table::limits;
 ghost use mathlib.Core.Path.{_≡_};
 ghost use Prim.Native.Nat.{_<_};
 ghost use Rattle.table.specs.Record.{nodesIn};

@@ -42,25 +42,39 @@ pub fn decimal_from(s: &[u8], limit: u32) -> Decimal
 }
 
 // What is left after a number in decimal.
-pub fn spend_decimal(left: usize, n: u32) -> usize
+pub fn spend_number(left: usize, n: u64) -> usize
     ensures { λ r. ⌜ r ≡ spent left (decimal n) ⌝ }
 {
     if n < 10 {
         return super::splice::spend(left, 1);
     }
-    super::splice::spend(spend_decimal(left, n / 10), 1)
+    super::splice::spend(spend_number(left, n / 10), 1)
 }
 
 // Writes a number in decimal.
-pub fn put_decimal(n: u32, out: &mut [u8], at: usize) -> usize
+pub fn put_number(n: u64, out: &mut [u8], at: usize) -> usize
     requires { ⌜ Room (now out) at (decimal n) ⌝ }
     ensures { λ r. ⌜ Wrote (now (out .entry)) at (decimal n) (now (out .exit)) r ⌝ }
 {
     if n < 10 {
         return super::splice::put_byte(48 + n as u8, out, at);
     }
-    let next = put_decimal(n / 10, out, at);
+    let next = put_number(n / 10, out, at);
     super::splice::put_byte(48 + (n % 10) as u8, out, next)
+}
+
+// Both for a number of 32 bits, as records have it.
+pub fn spend_decimal(left: usize, n: u32) -> usize
+    ensures { λ r. ⌜ r ≡ spent left (decimal n) ⌝ }
+{
+    spend_number(left, n as u64)
+}
+
+pub fn put_decimal(n: u32, out: &mut [u8], at: usize) -> usize
+    requires { ⌜ Room (now out) at (decimal n) ⌝ }
+    ensures { λ r. ⌜ Wrote (now (out .entry)) at (decimal n) (now (out .exit)) r ⌝ }
+{
+    put_number(n as u64, out, at)
 }
 
 const HEX_DIGITS: [u8; 16] = [

@@ -1,4 +1,5 @@
--- A number takes one byte more than its tenth: `spend_decimal` of `text`, for 64 bits.
+-- A number takes one byte more than its tenth (`decimal-more`); the number falls at the call.
+-- What is spent on one text and then on another is spent on both in a row (`spent-append`).
 use Prim.Native.Nat.{_+_, _%_, _/_, ℕ, _<_}
 use mathlib.Core.List.{List, [], _∷_}
 use mathlib.Core.Path.{ap, refl, _∙_}
@@ -6,16 +7,16 @@ use native.Mathlib.Omega.{arith}
 use borrow.Author.Needs.{needs}
 use borrow.Fn.Kinds.{In, Out}
 use borrow.Fn.PlainCycle.{Measures, is, falls, and}
 use Rattle.text.specs.Splice.{spent}
 use Rattle.text.specs.Digits.{decimal}
 use Rattle.text.proofs.Decimals.{decimal-one, decimal-more}
 use Rattle.text.proofs.Splices.{spent-size, spent-append}
-use Rattle.rows.proofs.line.spend_number.Reads as spend-number
-use Rattle.rows.proofs.line.spend_number.Kinds as spend-number-kinds
-use Rattle.rows.proofs.line.+spend_number.Lts-spend_number as spend-number-lts
+use Rattle.text.proofs.inner.digits.spend_number.Reads as spend-number
+use Rattle.text.proofs.inner.digits.spend_number.Kinds as spend-number-kinds
+use Rattle.text.proofs.inner.digits.+spend_number.Lts-spend_number as spend-number-lts
 use Rattle.text.proofs.inner.splice.spend.Reads as spend-reads
-use Rattle.rows.proofs.line.+spend_number.{statement}
-use Rattle.rows.proofs.line.+spend_number.Tie.{close}
+use Rattle.text.proofs.inner.digits.+spend_number.{statement}
+use Rattle.text.proofs.inner.digits.+spend_number.Tie.{close}
 
 abbrev μ-spend-number : Measures 0 spend-number-kinds.ps ℕ
 μ-spend-number κs a = a .1 .0

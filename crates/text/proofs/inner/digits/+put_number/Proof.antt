@@ -1,4 +1,5 @@
--- A number's last digit goes behind those of its tenth: `put_decimal` of `text`, for 64 bits.
+-- A number's last digit goes behind those of its tenth (`decimal-more`); the number falls at the call.
+-- Room for all digits is room for those of the tenth (`room-front`), and behind them for the last (`room-next`).
 use Prim.Native.Nat.{_+_, _/_, _%_, ℕ, _<_}
 use mathlib.Core.List.{[], _∷_}
 use mathlib.Core.Path.{_∙_}
@@ -6,15 +7,15 @@ use native.Mathlib.Omega.{arith}
 use borrow.Author.Needs.{needs}
 use borrow.Fn.Kinds.{In, Out}
 use borrow.Fn.PlainCycle.{Measures, is, falls, and}
 use Rattle.text.specs.Digits.{decimal}
 use Rattle.text.proofs.Decimals.{decimal-one, decimal-more}
 use Rattle.text.proofs.Splices.{wrote-then, wrote-length, room-front, room-next}
-use Rattle.rows.proofs.line.put_number.Reads as put-number
-use Rattle.rows.proofs.line.put_number.Kinds as put-number-kinds
-use Rattle.rows.proofs.line.+put_number.Lts-put_number as put-number-lts
+use Rattle.text.proofs.inner.digits.put_number.Reads as put-number
+use Rattle.text.proofs.inner.digits.put_number.Kinds as put-number-kinds
+use Rattle.text.proofs.inner.digits.+put_number.Lts-put_number as put-number-lts
 use Rattle.text.proofs.inner.splice.put_byte.Reads as put-byte-reads
-use Rattle.rows.proofs.line.+put_number.{statement}
-use Rattle.rows.proofs.line.+put_number.Tie.{close}
+use Rattle.text.proofs.inner.digits.+put_number.{statement}
+use Rattle.text.proofs.inner.digits.+put_number.Tie.{close}
 
 abbrev μ-put-number : Measures 1 put-number-kinds.ps ℕ
 μ-put-number κs a = a .0
