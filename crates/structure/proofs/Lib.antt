@@ -10,6 +10,7 @@ pub mod Leaves
 pub mod Checks
 pub mod Cycle
 pub mod Rules
+pub mod Bounds
 pub mod Faults
 pub mod Cases
 pub mod Reasons

@@ -1,6 +1,6 @@
--- What an expression is, by its terms alone: "terms joined by `~` or `|`", where `~` binds tighter than `|` and both group left.
--- That this is what is read is a theorem (proofs/Meaning).
-use Prim.Native.Nat.{ℕ, _+_}
+-- What an expression is, by its terms alone: "terms joined by `~` or `|`", where `~` binds tighter than `|` and both group left. And up to
+-- where `//!` docs stand. That these are what is read are theorems (proofs/Meaning, proofs/Bounds).
+use Prim.Native.Nat.{ℕ, _+_, _≤_, _<_}
 use mathlib.Core.Path.{_≡_}
 use mathlib.Core.Bool.{true, false}
 use mathlib.Core.List.{List, [], _∷_, foldl}
@@ -44,3 +44,9 @@ module _ (level : Level) (s : List ℕ) (o : ℕ) where
     pub sequences : Joined s 11 Sequence Choice at tree end
     pub noSeq : is s end 10 ≡ false
     pub noChoice : is s end 11 ≡ false
+
+-- from an index on, `//!` docs stand up to an end, and none stands there
+pub record DocsTo (s : List ℕ) (at end : ℕ) : Type 0 where
+  pub ordered : at ≤ end
+  pub docs : (i : ℕ) → at ≤ i → i < end → is s i 26 ≡ true
+  pub other : is s end 26 ≡ false

@@ -258,12 +258,20 @@ ruleFrom level s at =
     (λ t n. want noRule s n 3 (λ m. ruling (record { name = word s at; mark = markAt s i; tree = t; place = across s at at }) m)))))
     (λ u. noRule (because NotAllowed (start s at)))
 
--- rules and `///` docs up to the last token; the first argument bounds how many
+-- rules and `///` docs up to the last token. go: those from a later index on
+abbrev pub rulesBy : Level → List ℕ → (ℕ → Ruled) → ℕ → Ruled
+rulesBy level s go at =
+    choose (leb (length (toks s)) at) (λ u. rules [])
+    (λ u. choose (is s at 27) (λ u. go (at + 1)) (λ u. thenRules (ruleFrom level s at) (λ r n. withRule r (go n))))
+
+-- the first argument bounds how many: as many as tokens are left are enough, since no rule is empty
 unfoldable pub rulesUpTo : Level → List ℕ → ℕ → ℕ → Ruled
 rulesUpTo level s zero at = rules []
-rulesUpTo level s (suc k) at =
-    choose (leb (length (toks s)) at) (λ u. rules [])
-    (λ u. choose (is s at 27) (λ u. rulesUpTo level s k (at + 1)) (λ u. thenRules (ruleFrom level s at) (λ r n. withRule r (rulesUpTo level s k n))))
+rulesUpTo level s (suc k) at = rulesBy level s (rulesUpTo level s k) at
+
+-- those from an index on
+abbrev pub rulesFrom : Level → List ℕ → ℕ → Ruled
+rulesFrom level s at = rulesUpTo level s (length (toks s)) at
 
 -- the index past the `//!` docs from an index on
 unfoldable pub docsIn : List ℕ → ℕ → ℕ → ℕ
@@ -276,4 +284,4 @@ docs s = docsIn s (length (toks s)) 0
 -- any `//!` docs, then one or more of rule or `///` doc
 unfoldable pub grammar : Level → List ℕ → Ruled
 grammar level s =
-    choose (leb (length (toks s)) (docs s)) (λ u. unruled (because NotAllowed (length s))) (λ u. rulesUpTo level s (length (toks s)) (docs s))
+    choose (leb (length (toks s)) (docs s)) (λ u. unruled (because NotAllowed (length s))) (λ u. rulesFrom level s (docs s))
