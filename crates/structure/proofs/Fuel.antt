@@ -1,6 +1,6 @@
 -- Where a reading ends and what it adds, and that more fuel than enough changes nothing: `law`.
 use Prim.Native.Nat.{ℕ, zero, suc, _+_, _-_, _*_, _≤_, _<_, max}
-use mathlib.Core.Path.{_≡_, refl, ap}
+use mathlib.Core.Path.{_≡_, refl, sym, ap, _∙_}
 use mathlib.Core.Bool.{Bool, true, false}
 use mathlib.Core.List.{List}
 use mathlib.Core.Option.{Option, none, some}
@@ -399,3 +399,12 @@ module _ (level : Level) (s : List ℕ) where
   pub law : (c : Call) → Run level s c ≡ body level s (Run level s) c
   unfolding Run run
   law c = body-cong (run level s (weight s c)) (Run level s) (run-went (weight s c)) c (λ d q. run-fuel (weight s c) (suc (weight s d)) d q (omega arith))
+
+  -- and nothing else meets it
+  module _ (go : Call → Parsed) (meets : (c : Call) → go c ≡ body level s go c) where
+    only-in : (k : ℕ) (c : Call) → weight s c < k → Run level s c ≡ go c
+    only-in zero c h = absurd (omega arith)
+    only-in (suc k) c h = law c ∙ body-cong (Run level s) go went c (λ d q. only-in k d (omega arith)) ∙ sym (meets c)
+
+    pub law-only : (c : Call) → go c ≡ Run level s c
+    law-only c = sym (only-in (suc (weight s c)) c (omega arith))

@@ -3,12 +3,14 @@ pub mod Steps
 pub mod Sizes
 pub mod Fuel
 pub mod Grammar
+pub mod Meaning
 pub mod Bytes
 pub mod Wants
 pub mod Leaves
 pub mod Checks
 pub mod Cycle
 pub mod Rules
+pub mod Bounds
 pub mod Faults
 pub mod Cases
 pub mod Reasons

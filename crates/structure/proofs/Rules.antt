@@ -29,7 +29,7 @@ use Rattle.structure.specs.Structure.{Parsed, got, refused, want, expr, 
 use Rattle.structure.specs.Answers.{summary, wanted, ruleSummary, summaries}
 use Rattle.structure.proofs.Steps.{inside-is, sees, misses, another, spells-in, spells-kind}
 use Rattle.structure.proofs.Sizes.{most, word-short}
-use Rattle.structure.proofs.Fuel.{went}
+use Rattle.structure.proofs.Fuel.{Past, went}
 use Rattle.structure.proofs.Wants.{wanted-on, wanted-off, good, bad}
 
 -- ---- a name, a mark, a `|`
@@ -133,11 +133,11 @@ pub size-rule : (r : Rule Span) → length (ruleStored r) ≡ length (r .name) +
 unfolding ruleStored
 size-rule r = length-append (r .name) (stored (r .tree))
 
--- where a rule ends, and that it isn't large
-pub rule-went : (level : Level) (s : List ℕ) (at : ℕ) (r : Rule Span) (n : ℕ) → length s ≤ maxText → ruleFrom level s at ≡ ruling r n
-    → (at + count (r .tree) < n) × (n ≤ length (toks s)) × (length (ruleStored r) ≤ most * count (r .tree) + most)
+-- where a rule ends, and that it isn't large in a text of legal length
+rule-goes : (level : Level) (s : List ℕ) (at : ℕ) (r : Rule Span) (n : ℕ) → ruleFrom level s at ≡ ruling r n
+    → (at + count (r .tree) < n) × (n ≤ length (toks s)) × (length s ≤ maxText → length (ruleStored r) ≤ most * count (r .tree) + most)
 unfolding ruleFrom
-rule-went level s at r n w e =
+rule-goes level s at r n e =
     split (isName s at) _ _
     (λ v e₀.
     let (p₁, e₁) = want-rule s (at + 1) 1 _ (omega arith) e₀ in
@@ -153,10 +153,17 @@ rule-went level s at r n w e =
     let h = past-mark-on s (at + 1 + 1) in
     let l = past-bar-on s (pastMark s (at + 1 + 1) + 1) in
     let m = word-short s at in
-    let a = g .small w in
     let b = g .few in
-    (omega arith, omega arith, omega arith))
+    (omega arith, omega arith, λ w. let a = g .small w in omega arith))
     (λ v e₀. no-rule e₀) e
+
+-- a rule takes a token at least
+pub rule-past : (level : Level) (s : List ℕ) (at : ℕ) (r : Rule Span) (n : ℕ) → ruleFrom level s at ≡ ruling r n → Past s at n
+rule-past level s at r n e = let g = rule-goes level s at r n e in (omega arith, g .1)
+
+pub rule-went : (level : Level) (s : List ℕ) (at : ℕ) (r : Rule Span) (n : ℕ) → length s ≤ maxText → ruleFrom level s at ≡ ruling r n
+    → (at + count (r .tree) < n) × (n ≤ length (toks s)) × (length (ruleStored r) ≤ most * count (r .tree) + most)
+rule-went level s at r n w e = let (a, b, c) = rule-goes level s at r n e in (a, b, c w)
 
 was-ruled : (m : Ruling) (r : Checked) (n k b : ℕ) → r ≡ ruleSummary m → r ≡ Checked.Good n k b → (u : Rule Span) × (m ≡ ruling u n) × (count (u .tree) ≡ k) × (length (ruleStored u) ≡ b)
 unfolding ruleSummary

@@ -4,3 +4,4 @@ pub mod Tokens
 pub mod Values
 pub mod Structure
 pub mod Answers
+pub mod Meaning

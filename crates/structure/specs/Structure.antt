@@ -258,22 +258,31 @@ ruleFrom level s at =
     (λ t n. want noRule s n 3 (λ m. ruling (record { name = word s at; mark = markAt s i; tree = t; place = across s at at }) m)))))
     (λ u. noRule (because NotAllowed (start s at)))
 
--- rules and `///` docs up to the last token; the first argument bounds how many
+-- rules and `///` docs up to the last token. go: those from a later index on
+abbrev pub rulesBy : Level → List ℕ → (ℕ → Ruled) → ℕ → Ruled
+rulesBy level s go at =
+    choose (leb (length (toks s)) at) (λ u. rules [])
+    (λ u. choose (is s at 27) (λ u. go (at + 1)) (λ u. thenRules (ruleFrom level s at) (λ r n. withRule r (go n))))
+
+-- the first argument bounds how many: as many as tokens are left are enough, since no rule is empty (`rules-enough`, proofs/Bounds)
 unfoldable pub rulesUpTo : Level → List ℕ → ℕ → ℕ → Ruled
 rulesUpTo level s zero at = rules []
-rulesUpTo level s (suc k) at =
-    choose (leb (length (toks s)) at) (λ u. rules [])
-    (λ u. choose (is s at 27) (λ u. rulesUpTo level s k (at + 1)) (λ u. thenRules (ruleFrom level s at) (λ r n. withRule r (rulesUpTo level s k n))))
+rulesUpTo level s (suc k) at = rulesBy level s (rulesUpTo level s k) at
 
--- the index past the `//!` docs from an index on
+-- those from an index on: what `rulesBy` makes of themselves, and nothing else is (`rules-law`, `rules-only`)
+abbrev pub rulesFrom : Level → List ℕ → ℕ → Ruled
+rulesFrom level s at = rulesUpTo level s (length (toks s)) at
+
+-- the index past the `//!` docs from an index on; the second argument bounds how many (`docs-enough`)
 unfoldable pub docsIn : List ℕ → ℕ → ℕ → ℕ
 docsIn s zero at = at
 docsIn s (suc k) at = choose (is s at 26) (λ u. docsIn s k (at + 1)) (λ u. at)
 
+-- the index of the first token that is no `//!` doc (`docs-first`)
 abbrev pub docs : List ℕ → ℕ
 docs s = docsIn s (length (toks s)) 0
 
 -- any `//!` docs, then one or more of rule or `///` doc
 unfoldable pub grammar : Level → List ℕ → Ruled
 grammar level s =
-    choose (leb (length (toks s)) (docs s)) (λ u. unruled (because NotAllowed (length s))) (λ u. rulesUpTo level s (length (toks s)) (docs s))
+    choose (leb (length (toks s)) (docs s)) (λ u. unruled (because NotAllowed (length s))) (λ u. rulesFrom level s (docs s))

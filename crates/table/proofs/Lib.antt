@@ -17,3 +17,4 @@ pub mod Tables
 pub mod Names
 pub mod Characters
 pub mod Regroups
+pub mod Regrouping

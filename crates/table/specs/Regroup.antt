@@ -1,4 +1,5 @@
 -- Regrouping once, and removing tags. Spans are put aside before.
+use mathlib.Core.Path.{_≡_}
 use mathlib.Core.Bool.{Bool, true, false, not}
 use mathlib.Core.List.{List, [], _∷_, _++_, map}
 use Rattle.text.specs.Booleans.{choose, and}
@@ -36,13 +37,33 @@ parts (leaf s a) = leaf s a ∷ []
 parts (one s o t) = one s o (regrouped t (parts t)) ∷ []
 parts (two s j a b) = regrouped a (parts a) ∷ choose (isJoin j b) (λ u. parts b) (λ u. regrouped b (parts b) ∷ [])
 
--- regrouping once: take e1 to en along the right children of one operator, regroup each, join them left to right
+-- regrouping once: take e1 to en along the right children of one operator, regroup each, join them left to right. `Regroups` below says
+-- it in three laws, and nothing else meets them
 unfoldable pub regroup : Tree Nowhere → Tree Nowhere
 regroup e = regrouped e (parts e)
 
 -- what a right child adds to a chain of j: its own e1 to en if it is of that operator, else itself, regrouped
 unfoldable pub links : Join → Tree Nowhere → List (Tree Nowhere)
 links j b = choose (isJoin j b) (λ u. parts b) (λ u. regroup b ∷ [])
+
+-- e1, then all others, along the right children of j
+unfoldable pub chained : Join → Tree Nowhere → List (Tree Nowhere) → Tree Nowhere
+chained j e [] = e
+chained j e (x ∷ xs) = two tt j e (chained j x xs)
+
+-- en
+abbrev pub lastOf : Tree Nowhere → List (Tree Nowhere) → Tree Nowhere
+lastOf e [] = e
+lastOf e (x ∷ xs) = lastOf x xs
+
+-- a function that regroups once: `regroup` does, and it is the only one (`regroups`, `regroups-only`, proofs/Regrouping)
+pub record Regroups (f : Tree Nowhere → Tree Nowhere) : Type 0 where
+  -- a leaf is itself
+  pub ofLeaf : (s : Nowhere) (a : Atom) → f (leaf s a) ≡ leaf s a
+  -- what stands over one child is that over the child regrouped
+  pub ofOne : (s : Nowhere) (o : Wrap) (t : Tree Nowhere) → f (one s o t) ≡ one s o (f t)
+  -- e1 to en along the right children of j, of which en is none of j, are the regrouped e1 to en, joined left to right
+  pub ofChain : (j : Join) (e : Tree Nowhere) (es : List (Tree Nowhere)) → isJoin j (lastOf e es) ≡ false → f (chained j e es) ≡ joined j (f e) (map f es)
 
 -- no Seq is the right child of a Seq, and no Choice of a Choice
 unfoldable pub grouped : {P : Type 0} → Tree P → Bool

@@ -1,6 +1,6 @@
 -- Laws of the list of tokens.
 use Prim.Native.Nat.{ℕ, zero, suc, _+_, _-_, _≤_, _<_}
-use mathlib.Core.Path.{_≡_, refl, ap}
+use mathlib.Core.Path.{_≡_, refl, sym, ap, _∙_}
 use mathlib.Core.List.{List, [], _∷_}
 use native.Mathlib.Omega.{arith}
 use lib.ListN.{length, getD}
@@ -11,6 +11,7 @@ use Rattle.token.specs.Lists.{Tok, tok, kindOf, startOf, endOf, Tokens, 
 use Rattle.token.specs.declared.Token.{Token}
 use Rattle.token.specs.declared.Token.the-variants.{Found, End, NoToken}
 use Rattle.token.proofs.Bounds.{Inside, token-in}
+use Rattle.token.proofs.Places.{at-over}
 
 -- ---- the law of the list: no bound on how many
 
@@ -19,24 +20,47 @@ by-same (Found k a b) f g h = ap (onto (tok k a b ∷ [])) (h k a b refl)
 by-same End f g h = refl
 by-same (NoToken p) f g h = refl
 
-enough : (j k : ℕ) (s : List ℕ) (at : ℕ) → length s - at < j → length s - at < k → tokensIn j s at ≡ tokensIn k s at
+-- any bound from the number of bytes left on gives the same, since no token is empty
+enough : (j k : ℕ) (s : List ℕ) (at : ℕ) → length s ≤ at + j → length s ≤ at + k → tokensIn j s at ≡ tokensIn k s at
 unfolding tokensIn
-enough zero k s at h g = absurd (omega arith)
-enough (suc j) zero s at h g = absurd (omega arith)
+enough zero zero s at h g = refl
+enough zero (suc k) s at h g = ap (λ (r : Token). tokensBy r (tokensIn k s)) (at-over s at (omega arith))
+enough (suc j) zero s at h g = sym (ap (λ (r : Token). tokensBy r (tokensIn j s)) (at-over s at (omega arith)))
 enough (suc j) (suc k) s at h g =
     by-same (tokenAt s at) _ _
     (λ c a b e.
     let p = token-in s at c a b e in
     enough j k s b (omega arith) (omega arith))
 
--- the tokens from a place on: the token there, and those from its end on
+-- so the tokens from a place on are those of any such bound
+pub tokens-enough : (k : ℕ) (s : List ℕ) (at : ℕ) → length s ≤ at + k → tokensIn k s at ≡ tokensFrom s at
+unfolding tokensFrom
+tokens-enough k s at h = enough k (suc (length s - at)) s at h (omega arith)
+
+-- the tokens from a place on: the token there, and those from its end on; none at the text's end; none and a fault where there is no token
 pub tokens-law : (s : List ℕ) (at : ℕ) → tokensFrom s at ≡ tokensBy (tokenAt s at) (tokensFrom s)
 unfolding tokensFrom tokensIn
 tokens-law s at =
     by-same (tokenAt s at) _ _
     (λ c a b e.
     let p = token-in s at c a b e in
-    enough (length s - at) (suc (length s - b)) s b (omega arith) (omega arith))
+    tokens-enough (length s - at) s b (omega arith))
+
+-- and that says what they are
+module _ (s : List ℕ) (f : ℕ → Tokens) (law : (at : ℕ) → f at ≡ tokensBy (tokenAt s at) f) where
+  only-in : (k at : ℕ) → length s ≤ at + k → f at ≡ tokensIn k s at
+  unfolding tokensIn
+  only-in zero at h = law at ∙ sym (ap (λ (r : Token). tokensBy r f) (at-over s at (omega arith)))
+  only-in (suc k) at h =
+      law at
+      ∙ by-same (tokenAt s at) _ _
+      (λ c a b e.
+      let p = token-in s at c a b e in
+      only-in k b (omega arith))
+
+  pub tokens-only : (at : ℕ) → f at ≡ tokensFrom s at
+  unfolding tokensFrom
+  tokens-only at = only-in (suc (length s - at)) at (omega arith)
 
 -- ---- what the list is
 

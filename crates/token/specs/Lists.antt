@@ -41,12 +41,13 @@ tokensBy End go = record { list = []; fault = Through }
 tokensBy (NoToken place) go = record { list = []; fault = StopsAt place }
 tokensBy (Found kind start end) go = onto (tok kind start end ∷ []) (go end)
 
--- the first argument bounds how many: one more than the bytes left are enough, since no token is empty
+-- the first argument bounds how many: as many as bytes are left are enough, since no token is empty (`tokens-enough`, proofs/Lists)
 unfoldable pub tokensIn : ℕ → List ℕ → ℕ → Tokens
 tokensIn zero s at = record { list = []; fault = Through }
 tokensIn (suc k) s at = tokensBy (tokenAt s at) (λ end. tokensIn k s end)
 
--- the tokens from a place on, each looked for at the end of the one before it
+-- the tokens from a place on, each looked for at the end of the one before it: what `tokensBy` makes of themselves, and nothing else is
+-- (`tokens-law`, `tokens-only`)
 unfoldable pub tokensFrom : List ℕ → ℕ → Tokens
 tokensFrom s at = tokensIn (suc (length s - at)) s at
 
