@@ -13,3 +13,4 @@ pub mod Rules
 pub mod Faults
 pub mod Cases
 pub mod Reasons
+pub mod Held
