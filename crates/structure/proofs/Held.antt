@@ -7,15 +7,15 @@ use mathlib.Core.List.{List, [], _∷_, _++_, append-assoc, append-nil}
 use mathlib.Core.Option.{Option, none, some}
 use native.Mathlib.Numerals.{add-one}
 use native.Mathlib.Omega.{arith}
-use lib.Dec.{eqb}
+use lib.Dec.{leb, eqb}
 use lib.ListN.{length}
-use borrow.Author.Tests.{eqb-true, eq-eqb, ne-eqb}
+use borrow.Author.Tests.{leb-true, eqb-true, eq-eqb, ne-eqb}
 use Rattle.text.specs.Booleans.{choose, and, or}
 use Rattle.text.specs.Words.{begins, push}
 use Rattle.text.proofs.Booleans.{and-true, and-both, and-first, and-second, or-by, choose-by, choose-false, choose-true, split}
 use Rattle.token.specs.Table.{toks, kind, start, end, is, word, label}
 use Rattle.token.specs.Tokens.{pushLiteral}
-use Rattle.table.specs.Tree.{Span, Atom, peekSlice, Wrap, plain, nodeTag, Tree, leaf, one, two, placed, endsAt, startsAt}
+use Rattle.table.specs.Tree.{Span, Atom, peekSlice, Wrap, plain, nodeTag, Tree, leaf, one, two, Rule, placed, endsAt, startsAt}
 use Rattle.table.specs.declared.Join.{Join}
 use Rattle.table.specs.declared.Join.the-variants.{Seq, Choice}
 use Rattle.table.specs.declared.Unary.{Unary}
@@ -25,11 +25,13 @@ use Rattle.structure.specs.declared.Level.the-variants.{Tagged, Plain}
 use Rattle.table.specs.declared.End.the-variants.{Open, At}
 use Rattle.structure.specs.Tokens.{across, same, spells, peek}
 use Rattle.structure.specs.Values.{number, isInteger, integer, string, character}
-use Rattle.structure.specs.Structure.{Parsed, got, refused, next, want, join, closed, prefixed, postfixed, inTag, post, postfixAt, sliceTo, slice, slices, leafAt, Call, expr, term, signed, node, chain, posts, body, place, Run, isName, silent, markAt, pastMark, pastBar}
-use Rattle.structure.specs.Held.{Value, exact, least, most, peeked, single, bytes, pushes, unaryValues, wrapValues, atomValues, treeValues, before, repeatValue, numberValue, valueBy, valueAt, valuesTo}
-use Rattle.structure.proofs.Steps.{no-tree, next-got, want-got, opened-got, posts-by}
-use Rattle.structure.proofs.Cases.{PostfixRead, opt, rep, once, both, greatest, postfix-read, LeafRead, literal, sliced, ident, str, insens, ranges, leaf-read}
+use Rattle.structure.specs.Structure.{Parsed, got, refused, next, want, join, closed, prefixed, postfixed, inTag, post, postfixAt, sliceTo, slice, slices, leafAt, Call, expr, term, signed, node, chain, posts, body, place, Run, isName, silent, markAt, pastMark, pastBar, Ruled, rules, unruled, withRule, Ruling, ruling, noRule, thenRules, ruleFrom, rulesUpTo, docsIn, docs, grammar}
+use Rattle.structure.specs.Held.{Value, exact, least, most, peeked, single, bytes, pushes, unaryValues, wrapValues, atomValues, treeValues, rulesValues, before, repeatValue, numberValue, valueBy, valueAt, valuesTo, valuesIn}
+use Rattle.structure.proofs.Steps.{inside-is, no-tree, next-got, want-got, opened-got, posts-by}
+use Rattle.structure.proofs.Cases.{PostfixRead, opt, rep, once, both, greatest, postfix-read, LeafRead, literal, sliced, ident, str, insens, ranges, leaf-read, rule-read}
 use Rattle.structure.proofs.Cases as Cases
+use Rattle.structure.proofs.Fuel.{went}
+use Rattle.structure.proofs.Rules.{past-mark-on, past-bar-on}
 use Rattle.structure.proofs.Descent.{descent}
 
 -- ---- a token
@@ -391,3 +393,76 @@ module _ (level : Level) (s : List ℕ) where
   -- an expression that is read has the values of its tokens
   pub expr-values : (o at : ℕ) (t : Tree Span) (n : ℕ) → Run level s (expr o at) ≡ got t n → valuesTo s n ≡ valuesTo s at ++ treeValues t
   expr-values o at t n e = descent level s Hold body-hold (expr o at) t n e (valuesTo s at) (sym (append-nil (valuesTo s at)))
+
+-- ---- rules
+
+then-got : (m : Ruling) (f : Rule Span → ℕ → Ruled) {us : List (Rule Span)} → thenRules m f ≡ rules us → (r : Rule Span) × (n : ℕ) × (m ≡ ruling r n) × (f r n ≡ rules us)
+unfolding thenRules
+then-got (ruling r n) f e = (r, n, refl, e)
+then-got (noRule x) f e = let z : _≡_ {A = ℕ} 0 1 = cc in absurd (omega arith)
+
+with-got : (r : Rule Span) (m : Ruled) {us : List (Rule Span)} → withRule r m ≡ rules us → (vs : List (Rule Span)) × (m ≡ rules vs) × (us ≡ r ∷ vs)
+with-got r (rules vs) e = (vs, refl, cc)
+with-got r (unruled x) e = let z : _≡_ {A = ℕ} 0 1 = cc in absurd (omega arith)
+
+module _ (level : Level) (s : List ℕ) where
+  rule-values : (at : ℕ) (r : Rule Span) (n : ℕ) → ruleFrom level s at ≡ ruling r n → (at < n) × (n ≤ length (toks s)) × (valuesTo s n ≡ valuesTo s at ++ treeValues (r .tree))
+  unfolding valueBy
+  rule-values at r n e =
+      let c = rule-read level s at e in
+      let i = at + 1 + 1 in
+      let j = pastMark s i + 1 in
+      let l = inside-is s (c .past) 3 (omega arith) (c .shut) in
+      let g = went level s (expr 0 (pastBar s j)) (c .body) (c .past) (c .read) in
+      let a = past-mark-on s i in
+      let b = past-bar-on s j in
+      let q : n ≡ c .past + 1 = c .next in
+      let start : valuesTo s (pastBar s j) ≡ valuesTo s at =
+          values-bar s j ∙ values-kind s (pastMark s i) 2 (c .braced) refl ∙ values-mark s i ∙ values-kind s (at + 1) 1 (c .tied) refl ∙ values-name s at (c .named) in
+      (
+        omega arith,
+        omega arith,
+        ap (valuesTo s) q ∙ values-kind s (c .past) 3 (c .shut) refl ∙ expr-values level s 0 (pastBar s j) (c .body) (c .past) (c .read) ∙ ap (λ (x : List Value). x ++ treeValues (c .body)) start
+        ∙ ap (λ (x : Rule Span). valuesTo s at ++ treeValues (x .tree)) (sym (c .rule)),
+      )
+
+  rules-end : (at : ℕ) (us : List (Rule Span)) → at ≤ length (toks s) → length (toks s) ≤ at → rules [] ≡ rules us → valuesIn s ≡ valuesTo s at ++ rulesValues us
+  unfolding rulesValues
+  rules-end at us h g e =
+      let z : length (toks s) ≡ at = omega arith in
+      let y : [] ≡ us = cc in
+      ap (valuesTo s) z ∙ sym (append-nil (valuesTo s at)) ∙ ap (λ (x : List (Rule Span)). valuesTo s at ++ rulesValues x) y
+
+  rules-values : (k at : ℕ) (us : List (Rule Span)) → at ≤ length (toks s) → length (toks s) ≤ at + k → rulesUpTo level s k at ≡ rules us → valuesIn s ≡ valuesTo s at ++ rulesValues us
+  unfolding rulesUpTo valueBy rulesValues
+  rules-values zero at us h g e = rules-end at us h (omega arith) e
+  rules-values (suc k) at us h g e =
+      split (leb (length (toks s)) at) _ _ (λ v e₀. rules-end at us h (leb-true (length (toks s)) at v) e₀)
+      (λ v. split (is s at 27) _ _
+      (λ w e₀.
+      let l = inside-is s at 27 (omega arith) w in
+      rules-values k (at + 1) us (omega arith) (omega arith) e₀ ∙ ap (λ (x : List Value). x ++ rulesValues us) (values-kind s at 27 w refl))
+      (λ w e₀.
+      let (r, n, e₁, e₂) = then-got (ruleFrom level s at) _ e₀ in
+      let (vs, e₃, y) = with-got r (rulesUpTo level s k n) e₂ in
+      let (a, b, f) = rule-values at r n e₁ in
+      rules-values k n vs b (omega arith) e₃ ∙ ap (λ (x : List Value). x ++ rulesValues vs) f ∙ append-assoc (valuesTo s at) (treeValues (r .tree)) (rulesValues vs)
+      ∙ ap (λ (x : List (Rule Span)). valuesTo s at ++ rulesValues x) (sym y))) e
+
+  docs-values : (k at : ℕ) → at ≤ length (toks s) → (docsIn s k at ≤ length (toks s)) × (valuesTo s (docsIn s k at) ≡ valuesTo s at)
+  unfolding docsIn valueBy
+  docs-values zero at h = (h, refl)
+  docs-values (suc k) at h =
+      choose-by (λ (n : ℕ). (n ≤ length (toks s)) × (valuesTo s n ≡ valuesTo s at)) (is s at 26) _ _
+      (λ e.
+      let l = inside-is s at 26 (omega arith) e in
+      let (a, b) = docs-values k (at + 1) (omega arith) in
+      (a, b ∙ values-kind s at 26 e refl)) (λ e. (h, refl))
+
+  -- the values of a grammar's trees are those of its tokens
+  pub grammar-values : (us : List (Rule Span)) → grammar level s ≡ rules us → rulesValues us ≡ valuesIn s
+  unfolding grammar valuesTo
+  grammar-values us e =
+      let (a, b) = docs-values (length (toks s)) 0 (omega arith) in
+      split (leb (length (toks s)) (docs s)) _ _ (λ v e₀. let z : _≡_ {A = ℕ} 0 1 = cc in absurd (omega arith))
+      (λ v e₀. sym (rules-values (length (toks s)) (docs s) us a (omega arith) e₀ ∙ ap (λ (x : List Value). x ++ rulesValues us) b)) e
