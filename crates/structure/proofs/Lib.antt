@@ -14,3 +14,4 @@ pub mod Faults
 pub mod Cases
 pub mod Reasons
 pub mod Held
+pub mod Numerals
