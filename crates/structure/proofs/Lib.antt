@@ -4,6 +4,7 @@ pub mod Sizes
 pub mod Fuel
 pub mod Grammar
 pub mod Meaning
+pub mod Descent
 pub mod Bytes
 pub mod Wants
 pub mod Leaves
@@ -14,3 +15,5 @@ pub mod Bounds
 pub mod Faults
 pub mod Cases
 pub mod Reasons
+pub mod Held
+pub mod Numerals

@@ -5,3 +5,5 @@ pub mod Values
 pub mod Structure
 pub mod Answers
 pub mod Meaning
+pub mod Counts
+pub mod Held
