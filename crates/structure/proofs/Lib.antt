@@ -3,6 +3,7 @@ pub mod Steps
 pub mod Sizes
 pub mod Fuel
 pub mod Grammar
+pub mod Descent
 pub mod Bytes
 pub mod Wants
 pub mod Leaves
