@@ -4,7 +4,9 @@ pub mod Sizes
 pub mod Fuel
 pub mod Grammar
 pub mod Descent
+pub mod Insides
 pub mod Bytes
+pub mod Spelled
 pub mod Wants
 pub mod Leaves
 pub mod Checks
@@ -13,3 +15,4 @@ pub mod Rules
 pub mod Faults
 pub mod Cases
 pub mod Reasons
+pub mod Fine
