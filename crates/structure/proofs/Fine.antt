@@ -1,14 +1,12 @@
 -- What is read is fine: of a text of UTF-8 whose literals mean characters, every tree and every rule that is read passes the check of tables.
 -- By descent: a call hands on what is fine if what it was handed is (`Given`). No leaf but a word, a string and a range can be at fault.
-use Prim.Native.Nat.{ℕ, zero, suc, _+_, _-_, _<_, _≤_}
-use mathlib.Core.Path.{_≡_, refl, sym, ap, _∙_}
+use Prim.Native.Nat.{ℕ, _+_, _-_}
+use mathlib.Core.Path.{_≡_, refl, ap, _∙_}
 use mathlib.Core.Bool.{Bool, true, false, not}
-use mathlib.Core.List.{List, [], _∷_}
+use mathlib.Core.List.{List, _∷_}
 use mathlib.Core.Option.{Option, none, some}
 use native.Mathlib.Omega.{arith}
 use lib.Dec.{leb}
-use lib.ListN.{length}
-use borrow.Author.Tests.{le-leb}
 use Rattle.text.specs.Booleans.{choose, and, or}
 use Rattle.text.specs.Words.{isWord, begins, push, wordOf}
 use Rattle.text.specs.Utf8.{scalar, charOf, firstBad}
@@ -24,19 +22,20 @@ use Rattle.literal.specs.declared.Escape.{Escape}
 use Rattle.literal.specs.declared.Escape.the-variants as Escape
 use Rattle.literal.proofs.Escaped.{meant, good-scalar}
 use Rattle.literal.proofs.Meanings.{unescaped-utf8}
-use Rattle.token.specs.Table.{toks, start, end, is, word, label}
+use Rattle.token.specs.Table.{start, end, is, word, label}
 use Rattle.token.specs.Tokens.{pushLiteral}
-use Rattle.table.specs.Tree.{Span, Tree, leaf, one, two, Rule, plain, placed, startsAt, endsAt, text, range, peekSlice}
-use Rattle.table.specs.Check.{isThrough, isUtf8, isLabel, fineText, fine, fineRule, fineRules}
+use Rattle.table.specs.Tree.{Span, Tree, leaf, one, two, Rule, placed, startsAt, endsAt}
+use Rattle.table.specs.Check.{isThrough, isUtf8, isLabel, fine, fineRule, fineRules}
 use Rattle.table.specs.Check as Check
 use Rattle.table.specs.declared.Join.the-variants.{Seq}
 use Rattle.structure.specs.declared.Level.{Level}
 use Rattle.structure.specs.declared.Level.the-variants.{Tagged, Plain}
 use Rattle.structure.specs.Tokens.{spells}
 use Rattle.structure.specs.Values.{isInteger, literalBytes, string, rawChar, charBy, character}
-use Rattle.structure.specs.Structure.{Parsed, got, refused, next, want, opened, join, closed, prefixed, postfixed, inTag, Postfix, post, notPost, noPost, postfixAt, sliceTo, slice, pushed, ranged, slices, leafAt, postsBy, Call, expr, term, signed, node, chain, posts, body, Run, silent, isName, markAt, pastMark, pastBar, Ruled, rules, unruled, withRule, Ruling, ruling, noRule, ruleOf, thenRules, ruleFrom, rulesUpTo, docs, grammar}
+use Rattle.structure.specs.Structure.{Parsed, got, join, closed, prefixed, postfixed, inTag, postfixAt, sliceTo, slice, pushed, ranged, slices, leafAt, Call, expr, term, signed, node, chain, posts, body, Run, silent, markAt, rules, grammar}
 use Rattle.structure.proofs.Steps.{next-got, want-got, opened-got, posts-by, no-tree}
 use Rattle.structure.proofs.Descent.{descent}
+use Rattle.structure.proofs.Ruled.{RuleRead, all-rules}
 use Rattle.structure.proofs.Spelled.{word-spelled, no-push, label-spelled, string-inside, insens-inside}
 
 -- every literal of a text means characters
@@ -89,7 +88,7 @@ unfolding fine inTag prefixed
 fine-tag Tagged a b t l h = and-both (isLabel b) (fine t) l h
 fine-tag Plain a b t l h = h
 
-pub fine-got : {x t : Tree Span} {i n : ℕ} → got x i ≡ got t n → fine x ≡ true → fine t ≡ true
+fine-got : {x t : Tree Span} {i n : ℕ} → got x i ≡ got t n → fine x ≡ true → fine t ≡ true
 fine-got {x} {t} e h = let z : x ≡ t = cc in rw z at h
 
 module _ (s : List ℕ) (u : firstBad s ≡ Through) (scalars : Characters s) where
@@ -206,23 +205,6 @@ module _ (s : List ℕ) (u : firstBad s ≡ Through) (scalars : Characters s) wh
 
     -- ---- rules
 
-    abbrev Ruler : Ruling → Type 0
-    Ruler (ruling r n) = fineRule r ≡ true
-    Ruler (noRule r) = Unit {0}
-
-    abbrev Rules : Ruled → Type 0
-    Rules (rules us) = fineRules us ≡ true
-    Rules (unruled r) = Unit {0}
-
-    rule-want : (i k : ℕ) (f : ℕ → Ruling) → Ruler (f (i + 1)) → Ruler (want noRule s i k f)
-    unfolding want
-    rule-want i k f x = choose-by Ruler (is s i k) _ _ (λ e. x) (λ e. tt)
-
-    rule-of : (m : Parsed) (f : Tree Span → ℕ → Ruling) → ((t : Tree Span) (n : ℕ) → m ≡ got t n → Ruler (f t n)) → Ruler (ruleOf m f)
-    unfolding ruleOf
-    rule-of (got t n) f x = x t n refl
-    rule-of (refused r) f x = tt
-
     mark-fine : (i : ℕ) → leb (markAt s i) 4 ≡ true
     unfolding markAt
     mark-fine i =
@@ -234,38 +216,14 @@ module _ (s : List ℕ) (u : firstBad s ≡ Through) (scalars : Characters s) wh
     not-true false e = refl
     not-true true e = let z : _≡_ {A = ℕ} 0 1 = cc in absurd (omega arith)
 
-    rule-fine : (at : ℕ) → Ruler (ruleFrom level s at)
-    unfolding ruleFrom fineRule
-    rule-fine at =
-        choose-by Ruler (isName s at) _ _
-        (λ e.
-        let (a, b) = and-true (is s at 18) (not (begins push (word s at))) e in
-        rule-want (at + 1) 1 _ (rule-want (pastMark s (at + 1 + 1)) 2 _
-        (rule-of (Run level s (expr 0 (pastBar s (pastMark s (at + 1 + 1) + 1)))) _
-        (λ t n p. rule-want n 3 _
-        (and-both _ _ (name-fine (word s at) (word-spelled s at a) (not-true _ b)) (and-both _ _ (mark-fine (at + 1 + 1)) (tree-fine 0 (pastBar s (pastMark s (at + 1 + 1) + 1)) t n p))))))) (λ e. tt)
-
-    with-rule : (r : Rule Span) (m : Ruled) → fineRule r ≡ true → Rules m → Rules (withRule r m)
-    unfolding fineRules
-    with-rule r (rules us) f x = and-both (fineRule r) (fineRules us) f x
-    with-rule r (unruled y) f x = tt
-
-    then-rules : (m : Ruling) (f : Rule Span → ℕ → Ruled) → Ruler m → ((r : Rule Span) (n : ℕ) → fineRule r ≡ true → Rules (f r n)) → Rules (thenRules m f)
-    unfolding thenRules
-    then-rules (ruling r n) f x y = y r n x
-    then-rules (noRule r) f x y = tt
-
-    rules-fine : (k at : ℕ) → Rules (rulesUpTo level s k at)
-    unfolding rulesUpTo fineRules
-    rules-fine zero at = refl
-    rules-fine (suc k) at =
-        choose-by Rules (leb (length (toks s)) at) _ _ (λ e. refl)
-        (λ e. choose-by Rules (is s at 27) _ _ (λ e. rules-fine k (at + 1))
-        (λ e. then-rules (ruleFrom level s at) _ (rule-fine at) (λ r n f. with-rule r (rulesUpTo level s k n) f (rules-fine k n))))
-
-    all-fine : Rules (grammar level s)
-    unfolding grammar
-    all-fine = choose-by Rules (leb (length (toks s)) (docs s)) _ _ (λ e. tt) (λ e. rules-fine (length (toks s)) (docs s))
+    more-fine : (at : ℕ) (r : Rule Span) (n : ℕ) (us : List (Rule Span)) → RuleRead level s at r n → fineRules us ≡ true → fineRules (r ∷ us) ≡ true
+    unfolding fineRules fineRule
+    more-fine at r n us p h =
+        let (a, b) = and-true (is s at 18) (not (begins push (word s at))) (p .named) in
+        let f : Check.isName (r .name) ≡ true = rw (p .name-is) (name-fine (word s at) (word-spelled s at a) (not-true _ b)) in
+        let g : leb (r .mark) 4 ≡ true = rw (p .mark-is) (mark-fine (at + 1 + 1)) in
+        and-both _ (fineRules us) (and-both _ _ f (and-both _ _ g (tree-fine 0 (p .from) (r .tree) (p .to) (p .reads)))) h
 
     pub grammar-fine : (us : List (Rule Span)) → grammar level s ≡ rules us → fineRules us ≡ true
-    grammar-fine us e = rw e at all-fine
+    unfolding fineRules
+    grammar-fine us e = all-rules level s (λ at us. fineRules us ≡ true) (λ at. refl) (λ at us h. h) more-fine us e
