@@ -42,11 +42,12 @@ use Rattle.structure.specs.Structure as Structure
 use Rattle.structure.specs.Answers.{summaries}
 use Rattle.structure.proofs.Sizes as Sizes
 use Rattle.text.proofs.Tests.{lt-or-ge}
-use Rattle.text.proofs.Booleans.{and-left, choose-false, choose-true, or-first, or-second, split}
+use Rattle.text.proofs.Booleans.{and-left, choose-false, choose-true, or-by, or-first, or-second, split}
 use Rattle.text.specs.Limits.{maxText}
 use Rattle.token.specs.Table.{tokenSize, flat, roomOf, toks, kind, is, Lent}
 use Rattle.structure.proofs.Steps.{inside-is, another}
 use Rattle.structure.proofs.Rules.{rule-went, rules-end}
+use Rattle.structure.proofs.Fine.{Characters}
 use Rattle.reader.specs.declared.Reading.{Reading}
 use Rattle.reader.specs.declared.Reading.the-variants as Reading
 use Rattle.reader.specs.declared.Attempt.{Attempt}
@@ -145,11 +146,17 @@ module _ (level : Level) (s : List ℕ) where
       strings-good i k f (another s i (kind s i) x 18 refl w (λ m. omega arith)) (another s i (kind s i) x 20 refl w (λ m. omega arith))
       (another s i (kind s i) x 21 refl w (λ m. omega arith)) d
 
-  -- every string of a text whose values are sound means characters
+  -- every literal of a text whose values are sound means characters
+  pub sound-characters : faults level s ≡ Fault.Sound → Characters s
+  sound-characters e i d =
+      or-by (is s i 23) _ d (λ q. sound-literal e i 23 (omega arith) q d)
+      (λ f. or-by (is s i 24) _ f (λ q. sound-literal e i 24 (omega arith) q d) (λ q. sound-literal e i 25 (omega arith) q d))
+
+  -- and so does every string
   pub sound-scalars : faults level s ≡ Fault.Sound → Scalars s
   sound-scalars e = record {
-    strings = λ i q. sound-literal e i 23 (omega arith) q (or-first (is s i 23) (or (is s i 24) (is s i 25)) q);
-    insens = λ i q. sound-literal e i 24 (omega arith) q (or-second (is s i 23) (or (is s i 24) (is s i 25)) (or-first (is s i 24) (is s i 25) q));
+    strings = λ i q. sound-characters e i (or-first (is s i 23) (or (is s i 24) (is s i 25)) q);
+    insens = λ i q. sound-characters e i (or-second (is s i 23) (or (is s i 24) (is s i 25)) (or-first (is s i 24) (is s i 25) q));
   }
 
   -- ---- the texts of rules aren't large

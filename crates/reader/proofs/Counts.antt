@@ -1,4 +1,4 @@
--- A reading that succeeded: the grammar gave rules, no value was at fault, the counts are those of the rules, and they fit the room.
+-- A reading that succeeded: the text is one of tokens, the grammar gave rules, no value was at fault, the counts are those of the rules, and they fit the room.
 use Prim.Native.Nat.{ℕ, _≤_}
 use mathlib.Core.Path.{_≡_, refl}
 use mathlib.Core.List.{List}
@@ -36,6 +36,12 @@ pub record Counts (level : Level) (s : List ℕ) (n r b x y z : ℕ) : Type 0 wh
   pub rules-fit : length (rulesRead level s) ≤ r
   pub store-fits : length (rulesStored (rulesRead level s)) ≤ b
 
+-- a text of legal length, of UTF-8, and of tokens up to its end
+pub record Text (s : List ℕ) : Type 0 where
+  pub short : length s ≤ maxText
+  pub utf8 : firstBad s ≡ Scan.Through
+  pub lexed : tokensOf s .fault ≡ Scan.Through
+
 module _ {x y z : ℕ} where
   room-read : (k c w n r b : ℕ) → roomBy k c w n r b ≡ Reading.Read x y z → ((x ≡ c) × (c ≤ n)) × ((y ≡ k) × (k ≤ r)) × ((z ≡ w) × (w ≤ b))
   unfolding roomBy
@@ -56,9 +62,9 @@ module _ {x y z : ℕ} where
   ruled-read (rules us) f e = (refl, e)
   ruled-read (unruled r) f e = let z : _≡_ {A = ℕ} 0 1 = cc in absurd (omega arith)
 
-  checked-read : (w : Why) (c : Scan) (g : Unit {0} → Reading) → checkedBy c (refusedBy w) g ≡ Reading.Read x y z → g tt ≡ Reading.Read x y z
+  checked-read : (w : Why) (c : Scan) (g : Unit {0} → Reading) → checkedBy c (refusedBy w) g ≡ Reading.Read x y z → (c ≡ Scan.Through) × (g tt ≡ Reading.Read x y z)
   checked-read w (Scan.StopsAt p) g e = let z : _≡_ {A = ℕ} 0 1 = cc in absurd (omega arith)
-  checked-read w Scan.Through g e = e
+  checked-read w Scan.Through g e = (refl, e)
 
   module _ (level : Level) (s : List ℕ) (n r b : ℕ) where
     pub judged-counts : judgedOf level s n r b ≡ Reading.Read x y z → Counts level s n r b x y z
@@ -69,9 +75,18 @@ module _ {x y z : ℕ} where
         let ((p, h), (q, i), (o, j)) = room-read (length (rulesRead level s)) (counts (rulesRead level s)) (length (rulesStored (rulesRead level s))) n r b e₂ in
         record { read = m; sound = f; nodes-are = p; rules-are = q; store-is = o; nodes-fit = h; rules-fit = i; store-fits = j }
 
-    pub read-counts : readOf level s n r b ≡ Reading.Read x y z → Counts level s n r b x y z
+    read-through : readOf level s n r b ≡ Reading.Read x y z → Text s × (judgedOf level s n r b ≡ Reading.Read x y z)
     unfolding readOf listedOf
-    read-counts =
+    read-through =
         split (leb (length s) maxText) _ _
-        (λ h q. judged-counts (checked-read NoToken (tokensOf s .fault) _ (checked-read NotUtf8 (firstBad s) _ q)))
+        (λ h q.
+        let (u, e₁) = checked-read NotUtf8 (firstBad s) _ q in
+        let (t, e₂) = checked-read NoToken (tokensOf s .fault) _ e₁ in
+        (record { short = leb-true (length s) maxText h; utf8 = u; lexed = t }, e₂))
         (λ h q. let z : _≡_ {A = ℕ} 0 1 = cc in absurd (omega arith))
+
+    pub read-text : readOf level s n r b ≡ Reading.Read x y z → Text s
+    read-text e = read-through e .0
+
+    pub read-counts : readOf level s n r b ≡ Reading.Read x y z → Counts level s n r b x y z
+    read-counts e = judged-counts (read-through e .1)

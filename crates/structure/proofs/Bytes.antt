@@ -68,7 +68,7 @@ string-none s i z e q =
 
 -- ---- spelling
 
-begins-take : (p xs : List ℕ) (n : ℕ) → length p ≤ n → begins p (take n xs) ≡ begins p xs
+pub begins-take : (p xs : List ℕ) (n : ℕ) → length p ≤ n → begins p (take n xs) ≡ begins p xs
 unfolding begins
 begins-take [] xs n h = refl
 begins-take (p ∷ ps) xs zero h = absurd (omega arith)

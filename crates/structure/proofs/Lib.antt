@@ -5,7 +5,10 @@ pub mod Fuel
 pub mod Grammar
 pub mod Meaning
 pub mod Descent
+pub mod Descent
+pub mod Insides
 pub mod Bytes
+pub mod Spelled
 pub mod Wants
 pub mod Leaves
 pub mod Checks
@@ -17,3 +20,9 @@ pub mod Cases
 pub mod Reasons
 pub mod Held
 pub mod Numerals
+pub mod Ruled
+pub mod Stores
+pub mod Faults
+pub mod Cases
+pub mod Reasons
+pub mod Fine

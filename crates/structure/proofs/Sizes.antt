@@ -38,7 +38,7 @@ spelled-short p h zero (x ∷ xs) =
     let g = h x xs in
     omega (arith, length-append (p (x ∷ xs) .gives) (spelled p (p (x ∷ xs) .more) xs))
 
-encoded-short : (c : ℕ) → length (encoded c) ≤ 4
+pub encoded-short : (c : ℕ) → length (encoded c) ≤ 4
 unfolding encoded
 encoded-short c =
     choose-by (λ (l : List ℕ). length l ≤ 4) (ltb c 0x80) _ _ (λ e. omega arith)

@@ -43,7 +43,7 @@ use Rattle.token.proofs.Strings.{inside-quote, inside-bad, inside-escap
 
 -- ---- the byte at a place
 
-is-at : (s : List ℕ) (i b : ℕ) → nextIs b (drop i s) ≡ true → getD s i 0 ≡ b
+pub is-at : (s : List ℕ) (i b : ℕ) → nextIs b (drop i s) ≡ true → getD s i 0 ≡ b
 is-at s i b e = eqb-true (getD s i 0) b (sym (ap (nextIs b) (at-byte s i (some-next b i s e))) ∙ e)
 
 not-at : (s : List ℕ) (i b : ℕ) → i < length s → nextIs b (drop i s) ≡ false → getD s i 0 ≡ b → ⊥
