@@ -17,7 +17,7 @@ use Rattle.reader.specs.declared.Reading.the-variants as Reading
 use Rattle.reader.specs.Read.{numbered, readOf}
 use Rattle.reader.proofs.Counts.{read-counts}
 use Rattle.build.specs.Rules.{rulesRead}
-use Rattle.promises.specs.Twelve.{ascii, treesOf}
+use Rattle.promises.specs.Twelve.{ascii, treesIn, left}
 use Rattle.promises.proofs.Opened.{opened}
 
 -- two texts of one rule, and one of two rules
@@ -65,8 +65,8 @@ record Facts : Type 0 where
   short-nodes : nodesOf (rulesRead Tagged short) ≡ 4 ∷ 3 ∷ 4 ∷ 1 ∷ 1 ∷ 0 ∷ []
   long-nodes : nodesOf (rulesRead Tagged long) ≡ 4 ∷ 3 ∷ 4 ∷ 1 ∷ 1 ∷ 0 ∷ 11 ∷ 3 ∷ 5 ∷ 0 ∷ 0 ∷ 0 ∷ []
   both-read : numbered (readOf Tagged both maxNodes maxRules maxStore) .number ≡ 0
-  both-trees : map (count {P = Nowhere}) (treesOf Tagged both) ≡ 1 ∷ 2 ∷ []
-  both-repeated : getD (map (count {P = Nowhere}) (repeated (treesOf Tagged both))) 1 0 ≡ 1
+  both-trees : map (count {P = Nowhere}) (treesIn (left Tagged both)) ≡ 1 ∷ 2 ∷ []
+  both-repeated : getD (map (count {P = Nowhere}) (repeated (treesIn (left Tagged both)))) 1 0 ≡ 1
   short-prints : printIn Full (nodesOf (rulesRead Tagged short)) (recordsOf (rulesRead Tagged short)) (rulesStored (rulesRead Tagged short)) zeros
       (printOf Full (nodesOf (rulesRead Tagged short)) (recordsOf (rulesRead Tagged short)) (rulesStored (rulesRead Tagged short)) 10) ≡ ascii "r = { a }\n"
   label-full : getD (reprinted Full labelled twenty) 6 0 ≡ 40
@@ -105,7 +105,7 @@ fixed-tree ns same =
 
 -- ---- a reader that does the first rule and repeats it for the others
 
-pub repeats-first : ((s : List ℕ) → numbered (readOf Tagged s maxNodes maxRules maxStore) .number ≡ 0 → treesOf Tagged s ≡ repeated (treesOf Tagged s)) → ⊥
+pub repeats-first : ((s : List ℕ) → numbered (readOf Tagged s maxNodes maxRules maxStore) .number ≡ 0 → treesIn (left Tagged s) ≡ repeated (treesIn (left Tagged s))) → ⊥
 repeats-first same =
     let e = same both (facts .both-read) in
     let f = sym (facts .both-trees) ∙ ap (map (count {P = Nowhere})) e in
