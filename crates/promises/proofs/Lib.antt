@@ -37,6 +37,7 @@ pub mod Arrives
 -- the twelve examples, uniqueness, wrong programs
 pub mod Opened
 pub mod Sample
+pub mod Programs
 pub mod Twelve
 pub mod Unique
 pub mod Wrong

@@ -1,24 +1,25 @@
--- Wrong programs, each shut out by a promise.
+-- Wrong programs: none of them meets the promises. A program that does gives what the definitions give (`read-as`, `print-as`),
+-- and what those give for a few texts is computed.
 use Prim.Native.Nat.{ℕ}
-use mathlib.Core.Path.{_≡_, refl, sym, ap, _∙_}
+use mathlib.Core.Path.{_≡_, refl, sym, ap, subst, _∙_}
 use mathlib.Core.List.{List, [], _∷_, map}
 use native.Mathlib.Omega.{arith}
 use lib.ListN.{length, getD}
-use Rattle.text.specs.Limits.{maxNodes, maxRules, maxStore}
-use Rattle.table.specs.Tree.{Span, Tree, Rule, Nowhere, count, counts, rulesStored}
-use Rattle.table.specs.Flat.{nodesOf, recordsOf}
+use Rattle.table.specs.Tree.{Tree, Nowhere, count, counts, rulesStored}
 use Rattle.forms.specs.declared.Style.{Style}
 use Rattle.forms.specs.declared.Style.the-variants.{Full, Short}
-use Rattle.printer.specs.Answers.{printOf, printIn}
 use Rattle.structure.specs.declared.Level.{Level}
-use Rattle.structure.specs.declared.Level.the-variants.{Tagged}
-use Rattle.reader.specs.declared.Reading.{Reading}
+use Rattle.structure.specs.declared.Level.the-variants.{Tagged, Plain}
 use Rattle.reader.specs.declared.Reading.the-variants as Reading
-use Rattle.reader.specs.Read.{numbered, readOf}
+use Rattle.reader.specs.Read.{roomForNodes, roomForRules}
 use Rattle.reader.proofs.Counts.{read-counts}
 use Rattle.build.specs.Rules.{rulesRead}
-use Rattle.promises.specs.Twelve.{ascii, treesOf}
+use Rattle.promises.specs.Programs.{Tables, tablesOf, Readout, Printout, Program, Meets, defined, treesOf, Succeeds}
+use Rattle.promises.specs.Twelve.{ascii}
+use Rattle.promises.proofs.Programs.{read-as, print-as}
 use Rattle.promises.proofs.Opened.{opened}
+
+-- ---- what the definitions give
 
 -- two texts of one rule, and one of two rules
 abbrev short : List ℕ
@@ -37,108 +38,116 @@ labelled = ascii "r={#t=a}"
 abbrev right : List ℕ
 right = ascii "r={a~(b~c)}"
 
--- what printing in a style leaves in an output
-abbrev printedIn : Style → List ℕ → List ℕ → List ℕ → List ℕ → List ℕ
-printedIn style ns rs st o = printIn style ns rs st o (printOf style ns rs st (length o))
+-- the tables of a text
+abbrev tables : List ℕ → Tables
+tables s = tablesOf (rulesRead Tagged s)
 
--- the same of the rules of a text
-abbrev reprinted : Style → List ℕ → List ℕ → List ℕ
-reprinted style s o = printedIn style (nodesOf (rulesRead Tagged s)) (recordsOf (rulesRead Tagged s)) (rulesStored (rulesRead Tagged s)) o
-
--- ten bytes of output
-abbrev zeros : List ℕ
-zeros = 0 ∷ 0 ∷ 0 ∷ 0 ∷ 0 ∷ 0 ∷ 0 ∷ 0 ∷ 0 ∷ 0 ∷ []
-
--- and twenty
+-- lent buffers: twenty numbers or bytes
 abbrev twenty : List ℕ
-twenty = 0 ∷ 0 ∷ 0 ∷ 0 ∷ 0 ∷ 0 ∷ 0 ∷ 0 ∷ 0 ∷ 0 ∷ zeros
+twenty = 0 ∷ 0 ∷ 0 ∷ 0 ∷ 0 ∷ 0 ∷ 0 ∷ 0 ∷ 0 ∷ 0 ∷ 0 ∷ 0 ∷ 0 ∷ 0 ∷ 0 ∷ 0 ∷ 0 ∷ 0 ∷ 0 ∷ 0 ∷ []
+
+abbrev lent : Tables
+lent = record { nodes = twenty; rules = twenty; store = twenty }
+
+-- how many nodes each tree has
+abbrev sizes : List (Tree Nowhere) → List ℕ
+sizes ts = map (count {P = Nowhere}) ts
 
 -- the first tree in the place of each
 abbrev repeated : List (Tree Nowhere) → List (Tree Nowhere)
 repeated [] = []
 repeated (t ∷ ts) = t ∷ map (λ (u : Tree Nowhere). t) ts
 
--- what the definitions say of them
-record Facts : Type 0 where
-  short-read : numbered (readOf Tagged short maxNodes maxRules maxStore) .number ≡ 0
-  long-read : numbered (readOf Tagged long maxNodes maxRules maxStore) .number ≡ 0
-  short-nodes : nodesOf (rulesRead Tagged short) ≡ 4 ∷ 3 ∷ 4 ∷ 1 ∷ 1 ∷ 0 ∷ []
-  long-nodes : nodesOf (rulesRead Tagged long) ≡ 4 ∷ 3 ∷ 4 ∷ 1 ∷ 1 ∷ 0 ∷ 11 ∷ 3 ∷ 5 ∷ 0 ∷ 0 ∷ 0 ∷ []
-  both-read : numbered (readOf Tagged both maxNodes maxRules maxStore) .number ≡ 0
-  both-trees : map (count {P = Nowhere}) (treesOf Tagged both) ≡ 1 ∷ 2 ∷ []
-  both-repeated : getD (map (count {P = Nowhere}) (repeated (treesOf Tagged both))) 1 0 ≡ 1
-  short-prints : printIn Full (nodesOf (rulesRead Tagged short)) (recordsOf (rulesRead Tagged short)) (rulesStored (rulesRead Tagged short)) zeros
-      (printOf Full (nodesOf (rulesRead Tagged short)) (recordsOf (rulesRead Tagged short)) (rulesStored (rulesRead Tagged short)) 10) ≡ ascii "r = { a }\n"
-  label-full : getD (reprinted Full labelled twenty) 6 0 ≡ 40
-  label-short : getD (reprinted Short labelled twenty) 6 0 ≡ 35
-  right-short : reprinted Short right twenty ≡ ascii "r = { a ~ (b ~ c) }\n"
+record Readings (level : Level) : Type 0 where
+  short-read : Succeeds (defined .read level short lent)
+  long-read : Succeeds (defined .read level long lent)
+  both-read : Succeeds (defined .read level both lent)
+  short-trees : sizes (treesOf (defined .read level short lent)) ≡ 1 ∷ []
+  long-trees : sizes (treesOf (defined .read level long lent)) ≡ 2 ∷ []
+  both-trees : sizes (treesOf (defined .read level both lent)) ≡ 1 ∷ 2 ∷ []
+  both-repeated : sizes (repeated (treesOf (defined .read level both lent))) ≡ 1 ∷ 1 ∷ []
 
-facts : Facts
+readings : (level : Level) → Readings level
 unfolding opened
-facts =
-    record {
-      short-read = refl;
-      long-read = refl;
-      short-nodes = refl;
-      long-nodes = refl;
-      both-read = refl;
-      both-trees = refl;
-      both-repeated = refl;
-      short-prints = refl;
-      label-full = refl;
-      label-short = refl;
-      right-short = refl;
-    }
+readings Tagged = record { short-read = refl; long-read = refl; both-read = refl; short-trees = refl; long-trees = refl; both-trees = refl; both-repeated = refl }
+readings Plain = record { short-read = refl; long-read = refl; both-read = refl; short-trees = refl; long-trees = refl; both-trees = refl; both-repeated = refl }
 
--- ---- a reader that refuses everything
+-- a byte of the output: `r`, `(` and `#`
+abbrev byteOf : Printout → ℕ → ℕ
+byteOf o i = getD (o .output) i 0
 
-pub refuses-all : (f : List ℕ → Reading) → ((s : List ℕ) → f s ≡ readOf Tagged s maxNodes maxRules maxStore) → ((s : List ℕ) → numbered (f s) .number ≡ 0 → ⊥) → ⊥
-refuses-all f meets never = never short (ap (λ (r : Reading). numbered r .number) (meets short) ∙ facts .short-read)
+record Printings : Type 0 where
+  full-first : byteOf (defined .print Full (tables short) twenty) 0 ≡ 114
+  short-first : byteOf (defined .print Short (tables short) twenty) 0 ≡ 114
+  label-full : byteOf (defined .print Full (tables labelled) twenty) 6 ≡ 40
+  label-short : byteOf (defined .print Short (tables labelled) twenty) 6 ≡ 35
+  right-short : byteOf (defined .print Short (tables right) twenty) 10 ≡ 40
 
--- ---- a reader that gives one fixed tree
+printings : Printings
+unfolding opened
+printings = record { full-first = refl; short-first = refl; label-full = refl; label-short = refl; right-short = refl }
 
-pub fixed-tree : (ns : List ℕ) → ((s : List ℕ) → numbered (readOf Tagged s maxNodes maxRules maxStore) .number ≡ 0 → nodesOf (rulesRead Tagged s) ≡ ns) → ⊥
-fixed-tree ns same =
-    let e = sym (facts .short-nodes) ∙ same short (facts .short-read) ∙ sym (same long (facts .long-read)) ∙ facts .long-nodes in
-    let n : _≡_ {A = ℕ} 6 12 = ap length e in
-    absurd (omega arith)
+first-byte : (style : Style) → byteOf (defined .print style (tables short) twenty) 0 ≡ 114
+first-byte Full = printings .full-first
+first-byte Short = printings .short-first
 
--- ---- a reader that does the first rule and repeats it for the others
+-- ---- no program that meets the promises is one of these
 
-pub repeats-first : ((s : List ℕ) → numbered (readOf Tagged s maxNodes maxRules maxStore) .number ≡ 0 → treesOf Tagged s ≡ repeated (treesOf Tagged s)) → ⊥
-repeats-first same =
-    let e = same both (facts .both-read) in
-    let f = sym (facts .both-trees) ∙ ap (map (count {P = Nowhere})) e in
-    let g : _≡_ {A = ℕ} 2 1 = ap (λ (xs : List ℕ). getD xs 1 0) f ∙ facts .both-repeated in
-    absurd (omega arith)
+module _ (p : Program) (m : Meets p) where
+  -- what holds of the defined reading holds of the program's
+  moved : (level : Level) (s : List ℕ) (t : Tables) (P : Readout → Type 0) → P (defined .read level s t) → P (p .read level s t)
+  moved level s t P = subst P (sym (read-as p m level s t))
 
--- ---- a printer that writes nothing
+  printed : (style : Style) (s : List ℕ) (i b : ℕ) → byteOf (defined .print style (tables s) twenty) i ≡ b → byteOf (p .print style (tables s) twenty) i ≡ b
+  printed style s i b e = ap (λ (o : Printout). byteOf o i) (print-as p m style (tables s) twenty) ∙ e
 
-pub writes-nothing : ((ns rs st o : List ℕ) → printIn Full ns rs st o (printOf Full ns rs st (length o)) ≡ o) → ⊥
-writes-nothing same =
-    let us = rulesRead Tagged short in
-    let e = sym (facts .short-prints) ∙ same (nodesOf us) (recordsOf us) (rulesStored us) zeros in
-    let n : _≡_ {A = ℕ} 114 0 = ap (λ (xs : List ℕ). getD xs 0 0) e in
-    absurd (omega arith)
+  -- a reader that refuses everything
+  pub refuses-all : (level : Level) → ((s : List ℕ) (t : Tables) → Succeeds (p .read level s t) → ⊥) → ⊥
+  refuses-all level never = never short lent (moved level short lent Succeeds (readings level .short-read))
 
--- ---- a short text that brackets tags, as the full one does
+  -- a reader that gives one fixed tree
+  pub fixed-tree : (level : Level) (ts : List (Tree Nowhere)) → ((s : List ℕ) (t : Tables) → Succeeds (p .read level s t) → treesOf (p .read level s t) ≡ ts) → ⊥
+  fixed-tree level ts same =
+      let f = readings level in
+      let e = ap sizes (same short lent (moved level short lent Succeeds (f .short-read))) in
+      let g = ap sizes (same long lent (moved level long lent Succeeds (f .long-read))) in
+      let a = moved level short lent (λ (o : Readout). sizes (treesOf o) ≡ 1 ∷ []) (f .short-trees) in
+      let b = moved level long lent (λ (o : Readout). sizes (treesOf o) ≡ 2 ∷ []) (f .long-trees) in
+      let n : _≡_ {A = ℕ} 1 2 = ap (λ (xs : List ℕ). getD xs 0 0) (sym a ∙ e ∙ sym g ∙ b) in
+      omega arith
 
-pub short-as-full : ((ns rs st o : List ℕ) → printedIn Short ns rs st o ≡ printedIn Full ns rs st o) → ⊥
-short-as-full same =
-    let us = rulesRead Tagged labelled in
-    let e = ap (λ (xs : List ℕ). getD xs 6 0) (same (nodesOf us) (recordsOf us) (rulesStored us) twenty) in
-    let n : _≡_ {A = ℕ} 35 40 = sym (facts .label-short) ∙ e ∙ facts .label-full in
-    absurd (omega arith)
+  -- a reader that does the first rule and repeats it for the others
+  pub repeats-first : (level : Level) → ((s : List ℕ) (t : Tables) → Succeeds (p .read level s t) → treesOf (p .read level s t) ≡ repeated (treesOf (p .read level s t))) → ⊥
+  repeats-first level same =
+      let f = readings level in
+      let e = ap sizes (same both lent (moved level both lent Succeeds (f .both-read))) in
+      let a = moved level both lent (λ (o : Readout). sizes (treesOf o) ≡ 1 ∷ 2 ∷ []) (f .both-trees) in
+      let b = moved level both lent (λ (o : Readout). sizes (repeated (treesOf o)) ≡ 1 ∷ 1 ∷ []) (f .both-repeated) in
+      let n : _≡_ {A = ℕ} 2 1 = ap (λ (xs : List ℕ). getD xs 1 0) (sym a ∙ e ∙ b) in
+      omega arith
 
--- ---- a short text without brackets
+  -- a made-up number of used records: the counts are those of the defined rules
+  pub made-up : (level : Level) (s : List ℕ) (t : Tables) (x y z : ℕ) → p .read level s t .answer ≡ Reading.Read x y z
+      → (x ≡ counts (rulesRead level s)) × (y ≡ length (rulesRead level s)) × (z ≡ length (rulesStored (rulesRead level s)))
+  made-up level s t x y z e =
+      let a = sym (ap (λ (o : Readout). o .answer) (read-as p m level s t)) ∙ e in
+      let c = read-counts level s (roomForNodes (t .nodes)) (roomForRules (t .rules)) (length (t .store)) a in
+      (c .nodes-are, c .rules-are, c .store-is)
 
-pub never-brackets : ((ns rs st o : List ℕ) (i : ℕ) → getD (printedIn Short ns rs st o) i 0 ≡ 40 → ⊥) → ⊥
-never-brackets none =
-    let us = rulesRead Tagged right in
-    none (nodesOf us) (recordsOf us) (rulesStored us) twenty 10 (ap (λ (xs : List ℕ). getD xs 10 0) (facts .right-short))
+  -- a printer that writes nothing
+  pub writes-nothing : (style : Style) → ((t : Tables) (o : List ℕ) → p .print style t o .output ≡ o) → ⊥
+  writes-nothing style same =
+      let e = printed style short 0 114 (first-byte style) in
+      let n : _≡_ {A = ℕ} 114 0 = sym e ∙ ap (λ (o : List ℕ). getD o 0 0) (same (tables short) twenty) in
+      omega arith
 
--- ---- a made-up number of used records: the counts are those of the defined rules
+  -- a short text that brackets tags, as the full one does
+  pub short-as-full : ((t : Tables) (o : List ℕ) → p .print Short t o .output ≡ p .print Full t o .output) → ⊥
+  short-as-full same =
+      let e = ap (λ (o : List ℕ). getD o 6 0) (same (tables labelled) twenty) in
+      let n : _≡_ {A = ℕ} 35 40 = sym (printed Short labelled 6 35 (printings .label-short)) ∙ e ∙ printed Full labelled 6 40 (printings .label-full) in
+      omega arith
 
-pub made-up : (level : Level) (s : List ℕ) (n r b x y z : ℕ) → readOf level s n r b ≡ Reading.Read x y z
-    → (x ≡ counts (rulesRead level s)) × (y ≡ length (rulesRead level s)) × (z ≡ length (rulesStored (rulesRead level s)))
-made-up level s n r b x y z e = let c = read-counts level s n r b e in (c .nodes-are, c .rules-are, c .store-is)
+  -- a short text without brackets
+  pub never-brackets : ((t : Tables) (o : List ℕ) (i : ℕ) → byteOf (p .print Short t o) i ≡ 40 → ⊥) → ⊥
+  never-brackets none = none (tables right) twenty 10 (printed Short right 10 40 (printings .right-short))

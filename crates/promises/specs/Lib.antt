@@ -5,4 +5,5 @@ pub mod Round
 pub mod Marked
 pub mod Fewest
 pub mod Pairs
+pub mod Programs
 pub mod Twelve
