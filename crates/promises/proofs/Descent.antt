@@ -33,13 +33,13 @@ use Rattle.structure.proofs.Steps.{next-good, want-true, opened-false}
 use Rattle.structure.proofs.Grammar.{expr-law, chain-law, term-law, signed-law, node-law, posts-law}
 use Rattle.structure.proofs.Cycle.{finished}
 use Rattle.promises.specs.Pieces.{Piece, tok, closes, enclosed, atomPieces, unaryBefore, unaryAfter, joinKind, separator, pieces, Stand}
-use Rattle.promises.specs.Round.{unaryCounts, atomCounts, counted, unaryDepth, depth, sight}
+use Rattle.promises.specs.Round.{unaryCounts, atomCounts, counted, sight}
 use Rattle.promises.proofs.Values.{yes, no, spells-by, label-is}
 use Rattle.promises.proofs.Leaves.{gots, posted, posted-first, Ends, unposted, unsliced, leaf-of}
 use Rattle.promises.proofs.Shapes.{cut, stand-as, Begins, begins-atom, begin-by}
 use Rattle.promises.proofs.Shapes as Shapes
 use Rattle.forms.specs.Levels.{own}
-use Rattle.promises.specs.Marked.{least, stands, Fits, put, back, whole}
+use Rattle.promises.specs.Marked.{unaryDepth, depth, least, stands, Fits, put, back, whole}
 use Rattle.promises.proofs.Backs.{back-two, back-free, back-put, goes-seq, goes-choice, enclosed-none, Closes, closes-leaf, closes-one, closes-two}
 
 -- ---- what a level sees of a tree

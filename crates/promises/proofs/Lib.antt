@@ -12,6 +12,7 @@ pub mod Leaves
 pub mod Shapes
 pub mod Enough
 pub mod Backs
+pub mod Depths
 pub mod Descent
 pub mod Styles
 pub mod Rules
