@@ -169,7 +169,7 @@ module _ (s : List ℕ) where
 
   -- ---- marked rules
 
-  rises-mark : (m : ℕ) → leb m 4 ≡ true → RisesOf (markPieces m) 0
+  pub rises-mark : (m : ℕ) → leb m 4 ≡ true → RisesOf (markPieces m) 0
   unfolding markPieces
   rises-mark zero l = rises-none
   rises-mark (suc zero) l = rises-tok refl refl rises-none

@@ -16,6 +16,7 @@ pub mod Depths
 pub mod Descent
 pub mod Styles
 pub mod Rules
+pub mod Sinks
 pub mod Text
 -- from tables to tables
 pub mod Spread
