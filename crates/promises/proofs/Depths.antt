@@ -6,9 +6,10 @@ use mathlib.Core.Bool.{Bool, true, false}
 use mathlib.Core.List.{List, [], _∷_, _++_}
 use native.Mathlib.Omega.{arith}
 use native.Mathlib.Numerals.{add-one}
+use native.Mathlib.Decide.{decLe}
 use lib.Dec.{leb, eqb, ltb}
 use lib.ListN.{length}
-use borrow.Author.Tests.{leb-true}
+use borrow.Author.Tests.{leb-true, eqb-true}
 use Rattle.text.specs.Booleans.{choose}
 use Rattle.text.proofs.Booleans.{and-true}
 use Rattle.literal.specs.Literals.{literal}
@@ -21,10 +22,10 @@ use Rattle.table.specs.declared.End.{End}
 use Rattle.table.specs.declared.End.the-variants.{Open, At}
 use Rattle.table.specs.Tree.{Atom, text, range, peekSlice, Wrap, plain, nodeTag, Tree, leaf, one, two, Rule}
 use Rattle.table.specs.Check.{isName, fine, fineRule, fineRules}
-use Rattle.promises.specs.Open.{one?, openAt, mostTo, mostOpen}
+use Rattle.promises.specs.Open.{one?, openAt, mostTo, mostOpen, FirstOver}
 use Rattle.promises.specs.Pieces.{Piece, gap, tok, signedKind, endPieces, enclosed, atomPieces, piecesBefore, piecesAfter, separator, pieces, markPieces, rulePieces, rulesPieces, Stand}
 use Rattle.promises.specs.Marked.{atomDepth, wrapDepth, depth, depths}
-use Rattle.promises.proofs.Values.{yes, no}
+use Rattle.promises.proofs.Values as Values
 use Rattle.promises.proofs.Shapes.{cut, closed, stand-as}
 use Rattle.promises.proofs.Backs.{enclosed-none}
 
@@ -52,20 +53,37 @@ module _ (s : List ℕ) where
   open-most zero = omega arith
   open-most (suc n) = omega arith
 
+  pub most-more : (i n : ℕ) → i ≤ n → mostTo s i ≤ mostTo s n
+  unfolding mostTo
+  most-more i zero h = let e : i ≡ 0 = omega arith in omega (arith, ap (mostTo s) e)
+  most-more i (suc n) h = go (decLe i n) (λ l. most-more i n l)
+    where
+      go : Dec (i ≤ n) → (i ≤ n → mostTo s i ≤ mostTo s n) → mostTo s i ≤ mostTo s (suc n)
+      go (yes l) f = omega (arith, f l)
+      go (no l) f = let e : i ≡ suc n = omega arith in omega (arith, ap (mostTo s) e)
+
   past-by : (n : ℕ) (b c : Bool) → is s n 6 ≡ b → is s n 7 ≡ c → openAt s (n + 1) ≡ openAt s n + one? b - one? c
   past-by n b c p q = open-step n ∙ ap (λ (z : Bool). openAt s n + one? z - one? (is s n 7)) p ∙ ap (λ (z : Bool). openAt s n + one? b - one? z) q
 
   pub past-open : (n : ℕ) → kind s n ≡ 6 → (openAt s (n + 1) ≡ openAt s n + 1) × (mostTo s (n + 1) ≡ max (mostTo s n) (openAt s n + 1))
   past-open n k =
-      let e = past-by n true false (yes s n 6 k) (no s n 6 7 k refl) in
+      let e = past-by n true false (Values.yes s n 6 k) (Values.no s n 6 7 k refl) in
       (omega arith, omega (arith, most-step n))
 
   pub past-other : (n k : ℕ) → kind s n ≡ k → eqb k 6 ≡ false → eqb k 7 ≡ false → (openAt s (n + 1) ≡ openAt s n) × (mostTo s (n + 1) ≡ mostTo s n)
   past-other n k e p q =
-      let x = past-by n false false (no s n k 6 e p) (no s n k 7 e q) in
+      let x = past-by n false false (Values.no s n k 6 e p) (Values.no s n k 7 e q) in
       (omega arith, omega (arith, most-step n, open-most n))
 
   -- ---- what rises by d between two tokens
+
+  -- the first one too many is one token
+  no-first : (n i j : ℕ) → FirstOver s n i → FirstOver s n j → i + 1 ≤ j → ⊥
+  unfolding is
+  no-first n i j p q l = omega (arith, most-more (i + 1) j l, past-open i (eqb-true (kind s i) 6 (p .opens)) .1, p .full, q .before)
+
+  pub first-once : (n i j : ℕ) → FirstOver s n i → FirstOver s n j → i ≡ j
+  first-once n i j p q = omega (arith, no-first n i j p q, no-first n j i q p)
 
   pub record Rises (i n d : ℕ) : Type 0 where
     pub level : openAt s n ≡ openAt s i
@@ -111,7 +129,7 @@ module _ (s : List ℕ) where
         let c = closed s i n x h in
         let p = past-open i (c .opens) in
         let q = f .by (i + 1) (c .stop) (c .inner) in
-        let e = past-by (c .stop) false true (no s (c .stop) 7 6 (c .closing) refl) (yes s (c .stop) 7 (c .closing)) in
+        let e = past-by (c .stop) false true (Values.no s (c .stop) 7 6 (c .closing) refl) (Values.yes s (c .stop) 7 (c .closing)) in
         let z = c .past in
         record {
           level = omega (arith, ap (openAt s) z, p .0, q .level);

@@ -99,7 +99,7 @@ module _ (level : Level) (s : List ℕ) where
     pub same : aside tree ≡ sight level e
 
   -- what a term does after its node t, which ends at n
-  abbrev pub finish : ℕ → Tree Span → ℕ → Parsed
+  abbrev finish : ℕ → Tree Span → ℕ → Parsed
   finish at t n = next (Run level s (posts t n)) (λ v m. got (finished s at v) m)
 
   -- a chain so far, with one more link
@@ -116,25 +116,25 @@ module _ (level : Level) (s : List ℕ) where
   -- ---- the five levels: what was read from `at` to n, and how it begins
 
   -- 4: a node, postfixes may follow
-  pub record NodeAt (o at n : ℕ) (e : Tree Nowhere) : Type 0 where
-    pub tree : Tree Span
-    pub goes : Run level s (signed o at) ≡ finish at tree n
-    pub same : aside tree ≡ sight level e
-    pub first : Begins s at
+  record NodeAt (o at n : ℕ) (e : Tree Nowhere) : Type 0 where
+    tree : Tree Span
+    goes : Run level s (signed o at) ≡ finish at tree n
+    same : aside tree ≡ sight level e
+    first : Begins s at
 
   -- 3
-  pub record SignAt (o at n : ℕ) (e : Tree Nowhere) : Type 0 where
-    pub tree : Tree Span
-    pub goes : Run level s (signed o at) ≡ got tree n
-    pub same : aside tree ≡ sight level e
-    pub first : Begins s at
+  record SignAt (o at n : ℕ) (e : Tree Nowhere) : Type 0 where
+    tree : Tree Span
+    goes : Run level s (signed o at) ≡ got tree n
+    same : aside tree ≡ sight level e
+    first : Begins s at
 
   -- 2
-  pub record TermAt (o at n : ℕ) (e : Tree Nowhere) : Type 0 where
-    pub tree : Tree Span
-    pub goes : Run level s (term o at) ≡ got tree n
-    pub same : aside tree ≡ sight level e
-    pub first : is s at 11 ≡ false
+  record TermAt (o at n : ℕ) (e : Tree Nowhere) : Type 0 where
+    tree : Tree Span
+    goes : Run level s (term o at) ≡ got tree n
+    same : aside tree ≡ sight level e
+    first : is s at 11 ≡ false
 
   -- 1: the sequence so far, acc, and what it has become at n
   pub record SeqAt (o at n : ℕ) (c acc : Option (Tree Span)) (e : Tree Nowhere) : Type 0 where
@@ -151,13 +151,13 @@ module _ (level : Level) (s : List ℕ) where
     pub same : aside (closed choices last) ≡ sight level e
     pub first : is s at 11 ≡ false
 
-  abbrev pub NodeOf : List Piece → ℕ → Tree Nowhere → Type 0
+  abbrev NodeOf : List Piece → ℕ → Tree Nowhere → Type 0
   NodeOf x d e = (o at n : ℕ) → Stand s at x n → o + d ≤ maxOpen → is s n 4 ≡ false → NodeAt o at n e
 
-  abbrev pub SignOf : List Piece → ℕ → Tree Nowhere → Type 0
+  abbrev SignOf : List Piece → ℕ → Tree Nowhere → Type 0
   SignOf x d e = (o at n : ℕ) → Stand s at x n → o + d ≤ maxOpen → Ends s n → SignAt o at n e
 
-  abbrev pub TermOf : List Piece → ℕ → Tree Nowhere → Type 0
+  abbrev TermOf : List Piece → ℕ → Tree Nowhere → Type 0
   TermOf x d e = (o at n : ℕ) → Stand s at x n → o + d ≤ maxOpen → Ends s n → TermAt o at n e
 
   abbrev pub SeqOf : List Piece → ℕ → (Option (Tree Nowhere) → Tree Nowhere) → Type 0
@@ -273,9 +273,9 @@ module _ (level : Level) (s : List ℕ) where
   -- ---- a marked tree, at each level that it reaches
 
   pub record Good (m : Tree Bool) : Type 0 where
-    pub node-of : 4 ≤ stands m → NodeOf (pieces m) (depth m) (whole m)
-    pub sign-of : 3 ≤ stands m → SignOf (pieces m) (depth m) (whole m)
-    pub term-of : 2 ≤ stands m → TermOf (pieces m) (depth m) (whole m)
+    node-of : 4 ≤ stands m → NodeOf (pieces m) (depth m) (whole m)
+    sign-of : 3 ≤ stands m → SignOf (pieces m) (depth m) (whole m)
+    term-of : 2 ≤ stands m → TermOf (pieces m) (depth m) (whole m)
     pub seq-of : 1 ≤ stands m → SeqOf (pieces m) (depth m) (λ a. back Seq a m)
     pub choice-of : ChoiceOf (pieces m) (depth m) (λ a. back Choice a m)
 

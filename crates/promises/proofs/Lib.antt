@@ -23,6 +23,7 @@ pub mod Spread
 pub mod Narrow
 pub mod Asides
 pub mod Round
+pub mod Deep
 -- the short text
 pub mod Needs
 pub mod Least

@@ -31,17 +31,17 @@ use Rattle.structure.specs.declared.Refusal.{Refusal}
 use Rattle.structure.specs.declared.Why.the-variants.{TooDeep}
 use Rattle.structure.specs.Refusals.{because}
 use Rattle.structure.specs.Tokens.{spells}
-use Rattle.structure.specs.Structure.{Parsed, got, refused, next, opened, prefixed, pushed, leafAt, expr, term, signed, node, chain, Run, pastBar, Ruled, unruled, withRule, Ruling, noRule, ruleOf, thenRules, ruleFrom, rulesUpTo, closed, grammar}
+use Rattle.structure.specs.Structure.{Parsed, got, refused, next, opened, prefixed, pushed, leafAt, expr, term, signed, node, chain, Run, pastBar, unruled, withRule, Ruling, noRule, ruleOf, thenRules, ruleFrom, rulesUpTo, closed, grammar}
 use Rattle.structure.proofs.Steps.{inside-is, next-bad, want-true, opened-false, opened-true}
 use Rattle.structure.proofs.Grammar.{expr-law, term-law, signed-law, node-law}
 use Rattle.structure.proofs.Rules.{rule-then}
 use Rattle.promises.specs.Open.{openAt, mostTo, FirstOver}
-use Rattle.promises.specs.Pieces.{Piece, gap, tok, closes, rbrace, space, enclosed, atomPieces, unaryAfter, separator, pieces, markPieces, rulePieces, rulesPieces, Stand}
+use Rattle.promises.specs.Pieces.{Piece, gap, tok, closes, rbrace, space, atomPieces, unaryAfter, separator, pieces, markPieces, rulePieces, rulesPieces, Stand}
 use Rattle.promises.specs.Marked.{depth, depths, least, stands, Fits, back, FitRules}
 use Rattle.promises.specs.Round.{unaryCounts, counted, countedRules}
 use Rattle.promises.proofs.Values as Values
 use Rattle.promises.proofs.Values.{spells-by}
-use Rattle.promises.proofs.Shapes.{cut, stand-as, Begins, begins-atom, begin-by}
+use Rattle.promises.proofs.Shapes.{cut, stand-as, Begins, begin-by}
 use Rattle.promises.proofs.Shapes as Shapes
 use Rattle.promises.proofs.Backs.{enclosed-none, Closes, closes-leaf, closes-one, closes-two}
 use Rattle.promises.proofs.Depths.{Rises, open-most, past-open, past-other, rises-tree, rises-mark, rises-rule}

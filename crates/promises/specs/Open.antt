@@ -1,10 +1,14 @@
 -- How many brackets of a text are open at once, by its tokens.
-use Prim.Native.Nat.{ℕ, zero, suc, _+_, _-_, _≤_, max}
+use Prim.Native.Nat.{ℕ, zero, suc, _+_, _-_, _≤_, _<_, max}
 use mathlib.Core.Path.{_≡_}
 use mathlib.Core.Bool.{Bool, true, false}
 use mathlib.Core.List.{List}
 use lib.ListN.{length}
-use Rattle.token.specs.Table.{toks, is}
+use Rattle.text.specs.Limits.{maxOpen}
+use Rattle.token.specs.Table.{toks, start, is}
+use Rattle.structure.specs.declared.Level.{Level}
+use Rattle.structure.specs.declared.Why.the-variants.{TooDeep}
+use Rattle.reader.specs.Read.{refusedBy, readOf}
 
 -- one for yes, none for no
 abbrev pub one? : Bool → ℕ
@@ -29,3 +33,8 @@ pub record FirstOver (s : List ℕ) (n j : ℕ) : Type 0 where
   pub opens : is s j 6 ≡ true
   pub full : openAt s j ≡ n
   pub before : mostTo s j ≤ n
+
+-- a text is refused as too deep exactly if more than the limit are open at once, whatever room is lent; at the first one too many
+pub record Limited (level : Level) (s : List ℕ) : Type 0 where
+  pub deep : maxOpen < mostOpen s → (n r b : ℕ) → (j : ℕ) × FirstOver s maxOpen j × (readOf level s n r b ≡ refusedBy TooDeep (start s j))
+  pub only : (n r b p : ℕ) → readOf level s n r b ≡ refusedBy TooDeep p → maxOpen < mostOpen s
