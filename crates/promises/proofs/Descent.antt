@@ -40,7 +40,7 @@ use Rattle.promises.proofs.Shapes.{cut, stand-as, Begins, begins-atom, 
 use Rattle.promises.proofs.Shapes as Shapes
 use Rattle.forms.specs.Levels.{own}
 use Rattle.promises.specs.Marked.{unaryDepth, depth, least, stands, Fits, put, back, whole}
-use Rattle.promises.proofs.Backs.{back-two, back-free, back-put, goes-seq, goes-choice, enclosed-none, Closes, closes-leaf, closes-one, closes-two}
+use Rattle.promises.proofs.Backs.{back-two, back-free, back-put, goes-seq, goes-choice, enclosed-none, Closes, rooted-leaf, rooted-one, rooted-two}
 
 -- ---- what a level sees of a tree
 
@@ -350,8 +350,7 @@ module _ (level : Level) (s : List ℕ) where
         go (peekSlice x e) = omega arith
 
     good-leaf : (b : Bool) → Good (leaf b a)
-    good-leaf false = good-node (leaf false a) leaf-high node-leaf
-    good-leaf true = good-closed (leaf false a) (leaf true a) (closes-leaf a) (good-node (leaf false a) leaf-high node-leaf)
+    good-leaf b = rooted-leaf good-closed b a (good-node (leaf false a) leaf-high node-leaf)
 
   -- ---- one child
 
@@ -481,27 +480,19 @@ module _ (level : Level) (s : List ℕ) where
 
   -- ---- every tree
 
-  rooted-one : (b : Bool) (o : Wrap) (t : Tree Bool) → Good (one false o t) → Good (one b o t)
-  rooted-one true o t g = good-closed (one false o t) (one true o t) (closes-one o t) g
-  rooted-one false o t g = g
-
-  rooted-two : (b : Bool) (j : Join) (x y : Tree Bool) → Good (two false j x y) → Good (two b j x y)
-  rooted-two true j x y g = good-closed (two false j x y) (two true j x y) (closes-two j x y) g
-  rooted-two false j x y g = g
-
   pub every : (m : Tree Bool) → Fits m → fine m ≡ true → counted m ≡ true → Good m
   unfolding Fits fine counted
   every (leaf b a) k f c = good-leaf a f c b
-  every (one b (plain u) t) k f c = let d = and-true (unaryCounts u) (counted t) c in rooted-one b (plain u) t (good-unary u t (every t (k .1) f (d .1)) (d .0) (k .0))
-  every (one b (nodeTag n) t) k f c = rooted-one b (nodeTag n) t (good-tag t (every t (k .1) (and-true (fineWrap (nodeTag n)) (fine t) f .1) c) n (k .0))
+  every (one b (plain u) t) k f c = let d = and-true (unaryCounts u) (counted t) c in rooted-one good-closed b (plain u) t (good-unary u t (every t (k .1) f (d .1)) (d .0) (k .0))
+  every (one b (nodeTag n) t) k f c = rooted-one good-closed b (nodeTag n) t (good-tag t (every t (k .1) (and-true (fineWrap (nodeTag n)) (fine t) f .1) c) n (k .0))
   every (two b Seq x y) k f c =
       let p = and-true (fine x) (fine y) f in
       let q = and-true (counted x) (counted y) c in
-      rooted-two b Seq x y (good-seqs x y (every x (k .2) (p .0) (q .0)) (every y (k .3) (p .1) (q .1)) (k .0) (k .1))
+      rooted-two good-closed b Seq x y (good-seqs x y (every x (k .2) (p .0) (q .0)) (every y (k .3) (p .1) (q .1)) (k .0) (k .1))
   every (two b Choice x y) k f c =
       let p = and-true (fine x) (fine y) f in
       let q = and-true (counted x) (counted y) c in
-      rooted-two b Choice x y (good-choices x y (every x (k .2) (p .0) (q .0)) (every y (k .3) (p .1) (q .1)))
+      rooted-two good-closed b Choice x y (good-choices x y (every x (k .2) (p .0) (q .0)) (every y (k .3) (p .1) (q .1)))
 
   -- a marked tree before `}`: what is read, and that no `|` begins it
   pub record Read (at n : ℕ) (e : Tree Nowhere) : Type 0 where

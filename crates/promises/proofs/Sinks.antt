@@ -43,7 +43,7 @@ use Rattle.promises.proofs.Values as Values
 use Rattle.promises.proofs.Values.{spells-by}
 use Rattle.promises.proofs.Shapes.{cut, stand-as, Begins, begin-by}
 use Rattle.promises.proofs.Shapes as Shapes
-use Rattle.promises.proofs.Backs.{enclosed-none, Closes, closes-leaf, closes-one, closes-two}
+use Rattle.promises.proofs.Backs.{enclosed-none, Closes, rooted-leaf, rooted-one, rooted-two}
 use Rattle.promises.proofs.Depths.{Rises, open-most, past-open, past-other, rises-tree, rises-mark, rises-rule}
 use Rattle.promises.proofs.Descent.{Matches, grown, Good, every, unbefore, ends-at, chain-seq, chain-choice, pos-law, neg-law, alone}
 use Rattle.promises.proofs.Rules.{braced, rule-on, marked, named, rule-opens, rule-of, rules-on, grammar-is}
@@ -291,31 +291,19 @@ module _ (level : Level) (s : List ℕ) where
 
   -- ---- every tree
 
-  rooted-leaf : (b : Bool) (a : Atom) → Sunk (leaf b a)
-  rooted-leaf true a = sunk-closed (leaf false a) (leaf true a) (closes-leaf a) (sunk-leaf a)
-  rooted-leaf false a = sunk-leaf a
-
-  rooted-one : (b : Bool) (o : Wrap) (t : Tree Bool) → Sunk (one false o t) → Sunk (one b o t)
-  rooted-one true o t g = sunk-closed (one false o t) (one true o t) (closes-one o t) g
-  rooted-one false o t g = g
-
-  rooted-two : (b : Bool) (j : Join) (x y : Tree Bool) → Sunk (two false j x y) → Sunk (two b j x y)
-  rooted-two true j x y g = sunk-closed (two false j x y) (two true j x y) (closes-two j x y) g
-  rooted-two false j x y g = g
-
   sunk : (m : Tree Bool) → Fits m → fine m ≡ true → counted m ≡ true → Sunk m
   unfolding Fits fine counted
-  sunk (leaf b a) k f c = rooted-leaf b a
-  sunk (one b (plain u) t) k f c = rooted-one b (plain u) t (sunk-unary u t (sunk t (k .1) f (and-true (unaryCounts u) (counted t) c .1)) (k .0))
-  sunk (one b (nodeTag n) t) k f c = rooted-one b (nodeTag n) t (sunk-tag t (sunk t (k .1) (and-true (fineWrap (nodeTag n)) (fine t) f .1) c) n (k .0))
+  sunk (leaf b a) k f c = rooted-leaf sunk-closed b a (sunk-leaf a)
+  sunk (one b (plain u) t) k f c = rooted-one sunk-closed b (plain u) t (sunk-unary u t (sunk t (k .1) f (and-true (unaryCounts u) (counted t) c .1)) (k .0))
+  sunk (one b (nodeTag n) t) k f c = rooted-one sunk-closed b (nodeTag n) t (sunk-tag t (sunk t (k .1) (and-true (fineWrap (nodeTag n)) (fine t) f .1) c) n (k .0))
   sunk (two b Seq x y) k f c =
       let p = and-true (fine x) (fine y) f in
       let q = and-true (counted x) (counted y) c in
-      rooted-two b Seq x y (sunk-seqs x y (every level s x (k .2) (p .0) (q .0)) (sunk x (k .2) (p .0) (q .0)) (sunk y (k .3) (p .1) (q .1)) (k .0) (k .1))
+      rooted-two sunk-closed b Seq x y (sunk-seqs x y (every level s x (k .2) (p .0) (q .0)) (sunk x (k .2) (p .0) (q .0)) (sunk y (k .3) (p .1) (q .1)) (k .0) (k .1))
   sunk (two b Choice x y) k f c =
       let p = and-true (fine x) (fine y) f in
       let q = and-true (counted x) (counted y) c in
-      rooted-two b Choice x y (sunk-choices x y (every level s x (k .2) (p .0) (q .0)) (sunk x (k .2) (p .0) (q .0)) (sunk y (k .3) (p .1) (q .1)))
+      rooted-two sunk-closed b Choice x y (sunk-choices x y (every level s x (k .2) (p .0) (q .0)) (sunk x (k .2) (p .0) (q .0)) (sunk y (k .3) (p .1) (q .1)))
 
   -- ---- rules
 
