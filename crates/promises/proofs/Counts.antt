@@ -18,10 +18,10 @@ use Rattle.table.specs.declared.End.the-variants.{Open, At}
 use Rattle.table.specs.Tree.{Atom, text, range, peekSlice, Wrap, plain, nodeTag, Tree, leaf, one, two, Rule}
 use Rattle.table.specs.Check.{isName, fine, fineRule, fineRules}
 use Rattle.promises.specs.Pieces.{Piece, gap, tok, lbrace, rbrace, space, signedKind, endPieces, enclosed, closes, atomPieces, piecesBefore, piecesAfter, separator, pieces, markPieces, rulePieces, rulesPieces, Stand}
-use Rattle.promises.specs.Round.{one?, atomDepth, wrapDepth}
+use Rattle.promises.specs.Open.{one?}
 use Rattle.forms.specs.declared.Style.the-variants.{Short}
 use Rattle.promises.specs.Styled.{markedRules}
-use Rattle.promises.specs.Marked.{opens}
+use Rattle.promises.specs.Marked.{atomDepth, wrapDepth, opens}
 use Rattle.promises.specs.Fewest.{opensTo, needs}
 use Rattle.promises.proofs.Needs.{opens-step}
 

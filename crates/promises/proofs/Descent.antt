@@ -33,14 +33,14 @@ use Rattle.structure.proofs.Steps.{next-good, want-true, opened-false}
 use Rattle.structure.proofs.Grammar.{expr-law, chain-law, term-law, signed-law, node-law, posts-law}
 use Rattle.structure.proofs.Cycle.{finished}
 use Rattle.promises.specs.Pieces.{Piece, tok, closes, enclosed, atomPieces, unaryBefore, unaryAfter, joinKind, separator, pieces, Stand}
-use Rattle.promises.specs.Round.{unaryCounts, atomCounts, counted, unaryDepth, depth, sight}
+use Rattle.promises.specs.Round.{unaryCounts, atomCounts, counted, sight}
 use Rattle.promises.proofs.Values.{yes, no, spells-by, label-is}
 use Rattle.promises.proofs.Leaves.{gots, posted, posted-first, Ends, unposted, unsliced, leaf-of}
 use Rattle.promises.proofs.Shapes.{cut, stand-as, Begins, begins-atom, begin-by}
 use Rattle.promises.proofs.Shapes as Shapes
 use Rattle.forms.specs.Levels.{own}
-use Rattle.promises.specs.Marked.{least, stands, Fits, put, back, whole}
-use Rattle.promises.proofs.Backs.{back-two, back-free, back-put, goes-seq, goes-choice, enclosed-none, Closes, closes-leaf, closes-one, closes-two}
+use Rattle.promises.specs.Marked.{unaryDepth, depth, least, stands, Fits, put, back, whole}
+use Rattle.promises.proofs.Backs.{back-two, back-free, back-put, goes-seq, goes-choice, enclosed-none, Closes, rooted-leaf, rooted-one, rooted-two}
 
 -- ---- what a level sees of a tree
 
@@ -79,7 +79,7 @@ aside-finished s at t = go (is s at 6)
     go false = refl
 
 -- nothing stands before what a postfix stands behind
-unbefore : (u : Unary) → unaryForm u ≡ Form.Postfix → (unaryBefore u ≡ []) × (unaryDepth u ≡ 0)
+pub unbefore : (u : Unary) → unaryForm u ≡ Form.Postfix → (unaryBefore u ≡ []) × (unaryDepth u ≡ 0)
 unbefore PosPred h = let z : _≡_ {A = ℕ} 0 1 = cc in absurd (omega arith)
 unbefore NegPred h = let z : _≡_ {A = ℕ} 0 1 = cc in absurd (omega arith)
 unbefore Push h = let z : _≡_ {A = ℕ} 0 1 = cc in absurd (omega arith)
@@ -103,11 +103,11 @@ module _ (level : Level) (s : List ℕ) where
   finish at t n = next (Run level s (posts t n)) (λ v m. got (finished s at v) m)
 
   -- a chain so far, with one more link
-  abbrev grown : Join → Option (Tree Span) → Tree Span → Tree Span
+  abbrev pub grown : Join → Option (Tree Span) → Tree Span → Tree Span
   grown j none t = t
   grown j (some a) t = join j a t
 
-  abbrev Matches : Option (Tree Span) → Option (Tree Nowhere) → Type 0
+  abbrev pub Matches : Option (Tree Span) → Option (Tree Nowhere) → Type 0
   Matches none none = Unit {0}
   Matches none (some b) = ⊥
   Matches (some a) none = ⊥
@@ -137,19 +137,19 @@ module _ (level : Level) (s : List ℕ) where
     first : is s at 11 ≡ false
 
   -- 1: the sequence so far, acc, and what it has become at n
-  record SeqAt (o at n : ℕ) (c acc : Option (Tree Span)) (e : Tree Nowhere) : Type 0 where
-    tree : Tree Span
-    goes : next (Run level s (term o at)) (λ t m. Run level s (chain o c (grown Seq acc t) m)) ≡ Run level s (chain o c tree n)
-    same : aside tree ≡ sight level e
-    first : is s at 11 ≡ false
+  pub record SeqAt (o at n : ℕ) (c acc : Option (Tree Span)) (e : Tree Nowhere) : Type 0 where
+    pub tree : Tree Span
+    pub goes : next (Run level s (term o at)) (λ t m. Run level s (chain o c (grown Seq acc t) m)) ≡ Run level s (chain o c tree n)
+    pub same : aside tree ≡ sight level e
+    pub first : is s at 11 ≡ false
 
   -- 0: the choices so far, acc, and what they and the last sequence have become at n
-  record ChoiceAt (o at n : ℕ) (acc : Option (Tree Span)) (e : Tree Nowhere) : Type 0 where
-    choices : Option (Tree Span)
-    last : Tree Span
-    goes : next (Run level s (term o at)) (λ t m. Run level s (chain o acc t m)) ≡ Run level s (chain o choices last n)
-    same : aside (closed choices last) ≡ sight level e
-    first : is s at 11 ≡ false
+  pub record ChoiceAt (o at n : ℕ) (acc : Option (Tree Span)) (e : Tree Nowhere) : Type 0 where
+    pub choices : Option (Tree Span)
+    pub last : Tree Span
+    pub goes : next (Run level s (term o at)) (λ t m. Run level s (chain o acc t m)) ≡ Run level s (chain o choices last n)
+    pub same : aside (closed choices last) ≡ sight level e
+    pub first : is s at 11 ≡ false
 
   abbrev NodeOf : List Piece → ℕ → Tree Nowhere → Type 0
   NodeOf x d e = (o at n : ℕ) → Stand s at x n → o + d ≤ maxOpen → is s n 4 ≡ false → NodeAt o at n e
@@ -160,25 +160,25 @@ module _ (level : Level) (s : List ℕ) where
   abbrev TermOf : List Piece → ℕ → Tree Nowhere → Type 0
   TermOf x d e = (o at n : ℕ) → Stand s at x n → o + d ≤ maxOpen → Ends s n → TermAt o at n e
 
-  abbrev SeqOf : List Piece → ℕ → (Option (Tree Nowhere) → Tree Nowhere) → Type 0
+  abbrev pub SeqOf : List Piece → ℕ → (Option (Tree Nowhere) → Tree Nowhere) → Type 0
   SeqOf x d f = (o at n : ℕ) → Stand s at x n → o + d ≤ maxOpen → Ends s n → (c acc : Option (Tree Span)) (a : Option (Tree Nowhere)) → Matches acc a → SeqAt o at n c acc (f a)
 
-  abbrev ChoiceOf : List Piece → ℕ → (Option (Tree Nowhere) → Tree Nowhere) → Type 0
+  abbrev pub ChoiceOf : List Piece → ℕ → (Option (Tree Nowhere) → Tree Nowhere) → Type 0
   ChoiceOf x d f = (o at n : ℕ) → Stand s at x n → o + d ≤ maxOpen → Ends s n → (acc : Option (Tree Span)) (a : Option (Tree Nowhere)) → Matches acc a → ChoiceAt o at n acc (f a)
 
   -- ---- steps of the descent
 
-  ends-at : (n k : ℕ) → kind s n ≡ k → among (2 ∷ 4 ∷ 12 ∷ 13 ∷ 14 ∷ []) k ≡ false → Ends s n
+  pub ends-at : (n k : ℕ) → kind s n ≡ k → among (2 ∷ 4 ∷ 12 ∷ 13 ∷ 14 ∷ []) k ≡ false → Ends s n
   ends-at n k e h = ap (among (2 ∷ 4 ∷ 12 ∷ 13 ∷ 14 ∷ [])) e ∙ h
 
   chain-ends : (o : ℕ) (c : Option (Tree Span)) (l : Tree Span) (m k : ℕ) → kind s m ≡ k → eqb k 10 ≡ false → eqb k 11 ≡ false → Run level s (chain o c l m) ≡ got (closed c l) m
   chain-ends o c l m k e h g = chain-law level s o c l m ∙ choose-false (is s m 10) _ _ (no s m k 10 e h) ∙ choose-false (is s m 11) _ _ (no s m k 11 e g)
 
-  chain-seq : (o : ℕ) (c : Option (Tree Span)) (l : Tree Span) (m : ℕ) → kind s m ≡ 10
+  pub chain-seq : (o : ℕ) (c : Option (Tree Span)) (l : Tree Span) (m : ℕ) → kind s m ≡ 10
       → Run level s (chain o c l m) ≡ next (Run level s (term o (m + 1))) (λ t n. Run level s (chain o c (join Seq l t) n))
   chain-seq o c l m k = chain-law level s o c l m ∙ choose-true (is s m 10) _ _ (yes s m 10 k)
 
-  chain-choice : (o : ℕ) (c : Option (Tree Span)) (l : Tree Span) (m : ℕ) → kind s m ≡ 11
+  pub chain-choice : (o : ℕ) (c : Option (Tree Span)) (l : Tree Span) (m : ℕ) → kind s m ≡ 11
       → Run level s (chain o c l m) ≡ next (Run level s (term o (m + 1))) (λ t n. Run level s (chain o (some (closed c l)) t n))
   chain-choice o c l m k = chain-law level s o c l m ∙ choose-false (is s m 10) _ _ (no s m 11 10 k refl) ∙ choose-true (is s m 11) _ _ (yes s m 11 k)
 
@@ -272,12 +272,12 @@ module _ (level : Level) (s : List ℕ) where
 
   -- ---- a marked tree, at each level that it reaches
 
-  record Good (m : Tree Bool) : Type 0 where
+  pub record Good (m : Tree Bool) : Type 0 where
     node-of : 4 ≤ stands m → NodeOf (pieces m) (depth m) (whole m)
     sign-of : 3 ≤ stands m → SignOf (pieces m) (depth m) (whole m)
     term-of : 2 ≤ stands m → TermOf (pieces m) (depth m) (whole m)
-    seq-of : 1 ≤ stands m → SeqOf (pieces m) (depth m) (λ a. back Seq a m)
-    choice-of : ChoiceOf (pieces m) (depth m) (λ a. back Choice a m)
+    pub seq-of : 1 ≤ stands m → SeqOf (pieces m) (depth m) (λ a. back Seq a m)
+    pub choice-of : ChoiceOf (pieces m) (depth m) (λ a. back Choice a m)
 
   module _ (m : Tree Bool) where
     good-choice : stands m ≡ 0 → ChoiceOf (pieces m) (depth m) (λ a. back Choice a m) → Good m
@@ -350,8 +350,7 @@ module _ (level : Level) (s : List ℕ) where
         go (peekSlice x e) = omega arith
 
     good-leaf : (b : Bool) → Good (leaf b a)
-    good-leaf false = good-node (leaf false a) leaf-high node-leaf
-    good-leaf true = good-closed (leaf false a) (leaf true a) (closes-leaf a) (good-node (leaf false a) leaf-high node-leaf)
+    good-leaf b = rooted-leaf good-closed b a (good-node (leaf false a) leaf-high node-leaf)
 
   -- ---- one child
 
@@ -359,7 +358,7 @@ module _ (level : Level) (s : List ℕ) where
   stand-at at x h e = subst (λ (i : ℕ). Stand s at x i) e h
 
   -- x behind the first of two lists of pieces, the second of which is none
-  alone : (x : List Piece) (at n : ℕ) → Stand s at (x ++ []) n → Stand s at x n
+  pub alone : (x : List Piece) (at n : ℕ) → Stand s at (x ++ []) n → Stand s at x n
   alone x at n h = let c = cut s x [] at n h in stand-at at x (c .1) (c .2)
 
   module _ (t : Tree Bool) (g : Good t) where
@@ -433,10 +432,10 @@ module _ (level : Level) (s : List ℕ) where
         })
         (λ h. absurd (omega arith)) (λ h. absurd (omega arith))
 
-  pos-law : (o at : ℕ) → kind s at ≡ 8 → Run level s (signed o at) ≡ next (Run level s (signed o (at + 1))) (λ t n. got (prefixed (start s at) (plain PosPred) t) n)
+  pub pos-law : (o at : ℕ) → kind s at ≡ 8 → Run level s (signed o at) ≡ next (Run level s (signed o (at + 1))) (λ t n. got (prefixed (start s at) (plain PosPred) t) n)
   pos-law o at k = signed-law level s o at ∙ choose-true (is s at 8) _ _ (yes s at 8 k)
 
-  neg-law : (o at : ℕ) → kind s at ≡ 9 → Run level s (signed o at) ≡ next (Run level s (signed o (at + 1))) (λ t n. got (prefixed (start s at) (plain NegPred) t) n)
+  pub neg-law : (o at : ℕ) → kind s at ≡ 9 → Run level s (signed o at) ≡ next (Run level s (signed o (at + 1))) (λ t n. got (prefixed (start s at) (plain NegPred) t) n)
   neg-law o at k = signed-law level s o at ∙ choose-false (is s at 8) _ _ (no s at 9 8 k refl) ∙ choose-true (is s at 9) _ _ (yes s at 9 k)
 
   good-unary : (u : Unary) (t : Tree Bool) → Good t → unaryCounts u ≡ true → least (under (unaryForm u)) ≤ stands t → Good (one false (plain u) t)
@@ -481,27 +480,19 @@ module _ (level : Level) (s : List ℕ) where
 
   -- ---- every tree
 
-  rooted-one : (b : Bool) (o : Wrap) (t : Tree Bool) → Good (one false o t) → Good (one b o t)
-  rooted-one true o t g = good-closed (one false o t) (one true o t) (closes-one o t) g
-  rooted-one false o t g = g
-
-  rooted-two : (b : Bool) (j : Join) (x y : Tree Bool) → Good (two false j x y) → Good (two b j x y)
-  rooted-two true j x y g = good-closed (two false j x y) (two true j x y) (closes-two j x y) g
-  rooted-two false j x y g = g
-
-  every : (m : Tree Bool) → Fits m → fine m ≡ true → counted m ≡ true → Good m
+  pub every : (m : Tree Bool) → Fits m → fine m ≡ true → counted m ≡ true → Good m
   unfolding Fits fine counted
   every (leaf b a) k f c = good-leaf a f c b
-  every (one b (plain u) t) k f c = let d = and-true (unaryCounts u) (counted t) c in rooted-one b (plain u) t (good-unary u t (every t (k .1) f (d .1)) (d .0) (k .0))
-  every (one b (nodeTag n) t) k f c = rooted-one b (nodeTag n) t (good-tag t (every t (k .1) (and-true (fineWrap (nodeTag n)) (fine t) f .1) c) n (k .0))
+  every (one b (plain u) t) k f c = let d = and-true (unaryCounts u) (counted t) c in rooted-one good-closed b (plain u) t (good-unary u t (every t (k .1) f (d .1)) (d .0) (k .0))
+  every (one b (nodeTag n) t) k f c = rooted-one good-closed b (nodeTag n) t (good-tag t (every t (k .1) (and-true (fineWrap (nodeTag n)) (fine t) f .1) c) n (k .0))
   every (two b Seq x y) k f c =
       let p = and-true (fine x) (fine y) f in
       let q = and-true (counted x) (counted y) c in
-      rooted-two b Seq x y (good-seqs x y (every x (k .2) (p .0) (q .0)) (every y (k .3) (p .1) (q .1)) (k .0) (k .1))
+      rooted-two good-closed b Seq x y (good-seqs x y (every x (k .2) (p .0) (q .0)) (every y (k .3) (p .1) (q .1)) (k .0) (k .1))
   every (two b Choice x y) k f c =
       let p = and-true (fine x) (fine y) f in
       let q = and-true (counted x) (counted y) c in
-      rooted-two b Choice x y (good-choices x y (every x (k .2) (p .0) (q .0)) (every y (k .3) (p .1) (q .1)))
+      rooted-two good-closed b Choice x y (good-choices x y (every x (k .2) (p .0) (q .0)) (every y (k .3) (p .1) (q .1)))
 
   -- a marked tree before `}`: what is read, and that no `|` begins it
   pub record Read (at n : ℕ) (e : Tree Nowhere) : Type 0 where

@@ -26,6 +26,7 @@ use Rattle.forms.specs.declared.Place.the-variants.{Alone}
 use Rattle.forms.specs.Printing.{brackets, enclosed, character, rangeText, sortText, tagText, printed}
 use Rattle.structure.specs.Tokens.{spells}
 use Rattle.structure.proofs.Steps.{inside-is}
+use Rattle.promises.specs.Open.{openAt, mostTo, mostOpen}
 use Rattle.promises.specs.Pairs.{here, past-close, past-open, past-other, Pair, without, cut}
 use Rattle.promises.specs.Fewest.{opensTo}
 use Rattle.promises.specs.Twelve.{ascii, name, over, seq}
@@ -118,6 +119,11 @@ pairs = record {
   push-spelled = refl;
   push-literal-spelled = refl;
 }
+
+-- how many are open before tokens, and the most at once; a `)` that closes none leaves none open
+pub open-at-once : (map (openAt nested) (5 ∷ 6 ∷ 8 ∷ 9 ∷ 12 ∷ 13 ∷ 14 ∷ []) ≡ 0 ∷ 1 ∷ 1 ∷ 2 ∷ 2 ∷ 1 ∷ 0 ∷ []) × (mostOpen nested ≡ 2) × (mostOpen (ascii "r = { a))(b) }") ≡ 1)
+unfolding openAt mostTo classOf begins sought run openerBlank blankBy allowed wordToken oneKind tokenBy Token.tokenOf tokenAt tokensIn tokensFrom tokensOf tokOf kind start end is between word
+open-at-once = (refl, refl, refl)
 
 -- there is no other
 module _ (i j : ℕ) (p : Pair nested i j) where

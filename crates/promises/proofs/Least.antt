@@ -27,11 +27,11 @@ use Rattle.structure.specs.Values.{number, isInteger, integer, string, characte
 use Rattle.structure.specs.Structure.{Parsed, got, refused, next, want, join, closed, prefixed, postfixed, inTag, post, fromNumber, fromComma, postfixAt, sliceTo, slice, pushed, ranged, slices, leafAt, Call, expr, term, signed, node, chain, posts, body, place, weight, run, Run}
 use Rattle.structure.proofs.Steps.{no-tree, next-got, want-got, want-post, opened-got, posts-by}
 use Rattle.structure.proofs.Fuel.{postfix-past, leaf-went}
-use Rattle.promises.specs.Round.{one?, atomDepth, unaryDepth}
+use Rattle.promises.specs.Open.{one?}
 use Rattle.forms.specs.Printing.{brackets}
 use Rattle.forms.specs.Levels.{asked}
 use Rattle.promises.specs.Styled.{marked}
-use Rattle.promises.specs.Marked.{opens}
+use Rattle.promises.specs.Marked.{atomDepth, unaryDepth, opens}
 use Rattle.promises.specs.Fewest.{opensTo, need}
 use Rattle.promises.proofs.Needs.{need-more, need-one, need-placed, opens-step, opens-here, opens-more}
 

@@ -12,15 +12,18 @@ pub mod Leaves
 pub mod Shapes
 pub mod Enough
 pub mod Backs
+pub mod Depths
 pub mod Descent
 pub mod Styles
 pub mod Rules
+pub mod Sinks
 pub mod Text
 -- from tables to tables
 pub mod Spread
 pub mod Narrow
 pub mod Asides
 pub mod Round
+pub mod Deep
 -- the short text
 pub mod Needs
 pub mod Least

@@ -18,10 +18,10 @@ use Rattle.forms.specs.Printing.{atomForm, wrapForm, under}
 use Rattle.forms.specs.Levels.{own, asked}
 use Rattle.forms.proofs.Levels.{short-by-level}
 use Rattle.structure.proofs.Steps.{inside-is}
-use Rattle.promises.specs.Round.{one?, atomDepth, wrapDepth}
+use Rattle.promises.specs.Open.{one?}
 use Rattle.forms.specs.declared.Style.the-variants.{Short}
 use Rattle.promises.specs.Styled.{marked}
-use Rattle.promises.specs.Marked.{formOf, opens}
+use Rattle.promises.specs.Marked.{atomDepth, wrapDepth, formOf, opens}
 use Rattle.promises.specs.Fewest.{opensTo, opensIn, need}
 use Rattle.promises.proofs.Styles.{marked-aside}
 

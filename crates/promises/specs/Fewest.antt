@@ -6,7 +6,7 @@ use Rattle.token.specs.Table.{toks, is}
 use Rattle.table.specs.Tree.{Tree, Rule}
 use Rattle.forms.specs.declared.Place.{Place}
 use Rattle.forms.specs.declared.Place.the-variants.{Alone}
-use Rattle.promises.specs.Round.{one?}
+use Rattle.promises.specs.Open.{one?}
 use Rattle.forms.specs.declared.Style.the-variants.{Short}
 use Rattle.promises.specs.Styled.{marked}
 use Rattle.promises.specs.Marked.{opens}

@@ -1,4 +1,5 @@
 -- The promises: the definitions that the theorems of this crate cite.
+pub mod Open
 pub mod Pieces
 pub mod Styled
 pub mod Round

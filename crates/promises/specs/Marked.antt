@@ -1,12 +1,16 @@
--- Marked trees: the levels of the grammar, brackets enough, how many there are, and what is read back.
-use Prim.Native.Nat.{ℕ, _+_, _≤_}
+-- Marked trees: how deep their brackets are, the levels of the grammar, brackets enough, how many there are, and what is read back.
+use Prim.Native.Nat.{ℕ, _+_, _≤_, max}
 use mathlib.Core.Bool.{Bool, true, false, not}
 use mathlib.Core.Option.{Option, none, some}
 use mathlib.Core.List.{List, [], _∷_}
 use Rattle.text.specs.Booleans.{choose, and}
 use Rattle.table.specs.declared.Join.{Join}
 use Rattle.table.specs.declared.Join.the-variants.{Seq, Choice}
-use Rattle.table.specs.Tree.{Tree, leaf, one, two, Nowhere, Rule}
+use Rattle.table.specs.declared.Unary.{Unary}
+use Rattle.table.specs.declared.Unary.the-variants.{PosPred, NegPred, Opt, Rep, RepOnce, RepExact, RepMin, RepMax, RepMinMax, Push}
+use Rattle.table.specs.declared.Sort.{Sort}
+use Rattle.table.specs.declared.Sort.the-variants.{Str, Insens, Ident, PushLiteral}
+use Rattle.table.specs.Tree.{Atom, text, range, peekSlice, Wrap, plain, nodeTag, Tree, leaf, one, two, Nowhere, Rule}
 use Rattle.table.specs.Regroup.{sameJoin}
 use Rattle.forms.specs.declared.Place.{Place}
 use Rattle.forms.specs.declared.Place.the-variants.{Alone, Prefixed, Operand, LeftOf, RightOf}
@@ -14,7 +18,48 @@ use Rattle.forms.specs.declared.Form.{Form}
 use Rattle.forms.specs.declared.Form.the-variants.{Joined}
 use Rattle.forms.specs.Printing.{atomForm, wrapForm, under}
 use Rattle.forms.specs.Levels.{own}
-use Rattle.promises.specs.Round.{one?, atomDepth, wrapDepth}
+use Rattle.promises.specs.Open.{one?}
+
+-- ---- how many brackets are open at once in what a marked tree prints, those of PUSH and PUSH_LITERAL too
+
+-- those of a leaf: only PUSH_LITERAL has its own
+abbrev pub sortDepth : Sort → ℕ
+sortDepth Str = 0
+sortDepth Insens = 0
+sortDepth Ident = 0
+sortDepth PushLiteral = 1
+
+abbrev pub atomDepth : Atom → ℕ
+atomDepth (text k b) = sortDepth k
+atomDepth (range x y) = 0
+atomDepth (peekSlice x e) = 0
+
+-- those of an operator: only PUSH has its own
+abbrev pub unaryDepth : Unary → ℕ
+unaryDepth PosPred = 0
+unaryDepth NegPred = 0
+unaryDepth Opt = 0
+unaryDepth Rep = 0
+unaryDepth RepOnce = 0
+unaryDepth (RepExact n) = 0
+unaryDepth (RepMin n) = 0
+unaryDepth (RepMax n) = 0
+unaryDepth (RepMinMax n m) = 0
+unaryDepth Push = 1
+
+abbrev pub wrapDepth : Wrap → ℕ
+wrapDepth (plain u) = unaryDepth u
+wrapDepth (nodeTag b) = 0
+
+-- those of a tree, the marked ones too, and of rules
+unfoldable pub depth : Tree Bool → ℕ
+depth (leaf b a) = one? b + atomDepth a
+depth (one b o t) = one? b + (wrapDepth o + depth t)
+depth (two b j x y) = one? b + max (depth x) (depth y)
+
+unfoldable pub depths : List (Rule Bool) → ℕ
+depths [] = 0
+depths (r ∷ rs) = max (depth (r .tree)) (depths rs)
 
 -- ---- the five levels of the grammar (printer/specs/Levels), and brackets enough
 

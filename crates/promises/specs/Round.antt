@@ -1,5 +1,5 @@
 -- The way back: what the premises of printing and reading back say.
-use Prim.Native.Nat.{ℕ, _+_, _≤_, max}
+use Prim.Native.Nat.{ℕ, _≤_}
 use mathlib.Core.Path.{_≡_}
 use mathlib.Core.Bool.{Bool, true, false, not}
 use mathlib.Core.List.{List, [], _∷_, map}
@@ -9,7 +9,6 @@ use Rattle.text.specs.Booleans.{and, or}
 use Rattle.text.specs.Limits.{maxNodes, maxRules, maxText, maxOpen}
 use Rattle.table.specs.declared.Unary.{Unary}
 use Rattle.table.specs.declared.Unary.the-variants.{PosPred, NegPred, Opt, Rep, RepOnce, RepExact, RepMin, RepMax, RepMinMax, Push}
-use Rattle.table.specs.declared.Sort.{Sort}
 use Rattle.table.specs.declared.Sort.the-variants.{Str, Insens, Ident, PushLiteral}
 use Rattle.table.specs.declared.End.{End}
 use Rattle.table.specs.declared.End.the-variants.{Open, At}
@@ -20,7 +19,7 @@ use Rattle.table.specs.declared.TableCheck.the-variants as Table
 use Rattle.forms.specs.declared.Style.{Style}
 use Rattle.forms.specs.declared.Style.the-variants.{Full, Short}
 use Rattle.printer.specs.Answers.{tableText}
-use Rattle.promises.specs.Styled.{markedRules}
+use Rattle.promises.specs.Open.{mostOpen}
 use Rattle.reader.specs.declared.Reading.the-variants as Reading
 use Rattle.reader.specs.Read as Read
 use Rattle.build.specs.Rules as Built
@@ -106,48 +105,6 @@ unfoldable pub countedRules : {P : Type 0} → List (Rule P) → Bool
 countedRules [] = true
 countedRules (r ∷ rs) = and (counted (r .tree)) (countedRules rs)
 
--- ---- how many brackets are open at once in printed text, those of Range, tags, PUSH and PUSH_LITERAL too
-
-abbrev pub one? : Bool → ℕ
-one? true = 1
-one? false = 0
-
-abbrev pub sortDepth : Sort → ℕ
-sortDepth Str = 0
-sortDepth Insens = 0
-sortDepth Ident = 0
-sortDepth PushLiteral = 1
-
-abbrev pub atomDepth : Atom → ℕ
-atomDepth (text k b) = sortDepth k
-atomDepth (range x y) = 0
-atomDepth (peekSlice x e) = 0
-
-abbrev pub unaryDepth : Unary → ℕ
-unaryDepth PosPred = 0
-unaryDepth NegPred = 0
-unaryDepth Opt = 0
-unaryDepth Rep = 0
-unaryDepth RepOnce = 0
-unaryDepth (RepExact n) = 0
-unaryDepth (RepMin n) = 0
-unaryDepth (RepMax n) = 0
-unaryDepth (RepMinMax n m) = 0
-unaryDepth Push = 1
-
-abbrev pub wrapDepth : Wrap → ℕ
-wrapDepth (plain u) = unaryDepth u
-wrapDepth (nodeTag b) = 0
-
-unfoldable pub depth : Tree Bool → ℕ
-depth (leaf b a) = one? b + atomDepth a
-depth (one b o t) = one? b + (wrapDepth o + depth t)
-depth (two b j x y) = one? b + max (depth x) (depth y)
-
-unfoldable pub depths : List (Rule Bool) → ℕ
-depths [] = 0
-depths (r ∷ rs) = max (depth (r .tree)) (depths rs)
-
 -- ---- PUSH_LITERAL, which plain refuses
 
 abbrev pub isPushing : Atom → Bool
@@ -190,7 +147,7 @@ pub record Printable (style : Style) (ns rs st : List ℕ) : Type 0 where
   pub some : 1 ≤ rulesIn rs
   pub nonzeros : nonzeroRules (rulesOf ns rs st) ≡ true
   pub short : length (tableText style ns rs st) ≤ maxText
-  pub shallow : depths (markedRules style (rulesOf ns rs st)) ≤ maxOpen
+  pub shallow : mostOpen (tableText style ns rs st) ≤ maxOpen
 
 -- a text is read as these rules, spans aside, given room for them and no more; the limits leave room, and so does a
 -- store as long as the text
