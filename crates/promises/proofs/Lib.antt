@@ -20,6 +20,7 @@ pub mod Text
 pub mod Spread
 pub mod Narrow
 pub mod Asides
+pub mod Readings
 pub mod Round
 -- the short text
 pub mod Needs

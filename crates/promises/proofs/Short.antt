@@ -6,7 +6,7 @@ use mathlib.Core.List.{List, [], _∷_, map}
 use native.Mathlib.Omega.{arith}
 use lib.ListN.{length}
 use Rattle.token.specs.Table.{toks}
-use Rattle.table.specs.Tree.{Rule, Nowhere, ruleBy, asideRule}
+use Rattle.table.specs.Tree.{Rule, Nowhere, ruleBy, asideRule, Same}
 use Rattle.table.specs.Record as Record
 use Rattle.table.specs.Regroup.{regroup, untagged, regroupRules, untaggedRules}
 use Rattle.table.specs.Check.{fineRules}
@@ -29,6 +29,7 @@ use Rattle.promises.proofs.Fewest.{fewest}
 use Rattle.promises.proofs.Bared.{BaredRules, bared-fewer, bared-rules}
 use Rattle.promises.proofs.Pairs.{unpaired, every-pair}
 use Rattle.promises.proofs.Cuts.{pair-cut, cut-shorter}
+use Rattle.promises.proofs.Readings.{asides-nowhere, read-same}
 use Rattle.promises.proofs.Round.{printedOnes, is-fine, is-counted, is-text, tagged, plain}
 
 same-rules : (us : List (Rule Nowhere)) → seen Short Tagged us ≡ us
@@ -63,8 +64,8 @@ module _ (ns rs st : List ℕ) (p : Printable Short ns rs st) where
   marks-counted = marked-rules-counted Short ones ∙ is-counted Short ns rs st p
 
   -- the tagged reader returns the very same rules, spans aside
-  pub short-tagged : ReadAs Tagged (tableText Short ns rs st) ones
-  short-tagged = rw (same-rules ones) at (tagged Short ns rs st p)
+  pub short-tagged : ReadAs Tagged (tableText Short ns rs st) (Record.rulesOf ns rs st)
+  short-tagged = read-same (seen Short Tagged ones) (Record.rulesOf ns rs st) (asides-nowhere (seen Short Tagged ones) ∙ same-rules ones) (tagged Short ns rs st p)
 
   -- the plain reader returns them with every tag removed
   pub short-plain : holdsPushLiteral (Record.rulesOf ns rs st) ≡ false → ReadAs Plain (tableText Short ns rs st) (untaggedRules ones)
@@ -79,7 +80,7 @@ module _ (ns rs st : List ℕ) (p : Printable Short ns rs st) where
   short-opens = ap opensIn (sym short-pieces) ∙ opens-marked marks marks-fine marks-counted ∙ needs-marked ones
 
   -- every text that is read as these rules, at either level, has at least as many
-  pub short-fewest : (level : Level) (x : List ℕ) → map asideRule (rulesRead level x) ≡ ones → opensIn (tableText Short ns rs st) ≤ opensIn x
+  pub short-fewest : (level : Level) (x : List ℕ) → Same (rulesRead level x) (Record.rulesOf ns rs st) → opensIn (tableText Short ns rs st) ≤ opensIn x
   short-fewest level x e = omega (arith, short-opens, fewest level x ones e)
 
   -- with one mark fewer other rules are read
@@ -90,7 +91,7 @@ module _ (ns rs st : List ℕ) (p : Printable Short ns rs st) where
       omega (arith, fewest level (spelled (rulesPieces ms)) ones e, bared-fewer b, needs-marked ones)
 
   -- no pair of brackets but those of PUSH and PUSH_LITERAL can be taken away and the same rules still be read
-  pub pair-needed : (level : Level) (i j : ℕ) → Pair (tableText Short ns rs st) i j → map asideRule (rulesRead level (cut (tableText Short ns rs st) i j)) ≡ ones → ⊥
+  pub pair-needed : (level : Level) (i j : ℕ) → Pair (tableText Short ns rs st) i j → Same (rulesRead level (cut (tableText Short ns rs st) i j)) (Record.rulesOf ns rs st) → ⊥
   pair-needed level i j q e =
       let (k, f) = pair-cut (tableText Short ns rs st) (rulesPieces marks) (sym short-pieces) (held-rules marks marks-fine marks-counted 0) i j q in
       let z : unpaired k false (rulesPieces marks) ≡ rulesPieces marks → ⊥ =
