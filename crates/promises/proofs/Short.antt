@@ -12,6 +12,7 @@ use Rattle.table.specs.Regroup.{regroup, untagged, regroupRules, untaggedRules}
 use Rattle.table.specs.Check.{fineRules}
 use Rattle.forms.specs.declared.Style.the-variants.{Full, Short}
 use Rattle.printer.specs.Answers.{tableText}
+use Rattle.printer.specs.Bounds.{Narrow}
 use Rattle.structure.specs.declared.Level.{Level}
 use Rattle.structure.specs.declared.Level.the-variants.{Tagged, Plain}
 use Rattle.build.specs.Rules.{rulesRead}
@@ -50,30 +51,30 @@ opens-marked ms f c =
 
 -- ---- tables
 
-module _ (ns rs st : List ℕ) (p : Printable Short ns rs st) where
+module _ (ns rs st : List ℕ) (w : Narrow ns) (p : Printable Short ns rs st) where
   abbrev ones : List (Rule Nowhere)
-  ones = printedOnes Short ns rs st p
+  ones = printedOnes Short ns rs st w p
 
   abbrev marks : List (Rule Bool)
   marks = markedRules Short ones
 
   marks-fine : fineRules marks ≡ true
-  marks-fine = marked-rules-fine Short ones ∙ is-fine Short ns rs st p
+  marks-fine = marked-rules-fine Short ones ∙ is-fine Short ns rs st w p
 
   marks-counted : countedRules marks ≡ true
-  marks-counted = marked-rules-counted Short ones ∙ is-counted Short ns rs st p
+  marks-counted = marked-rules-counted Short ones ∙ is-counted Short ns rs st w p
 
   -- the tagged reader returns the very same rules, spans aside
   pub short-tagged : ReadAs Tagged (tableText Short ns rs st) (Record.rulesOf ns rs st)
-  short-tagged = read-same (seen Short Tagged ones) (Record.rulesOf ns rs st) (asides-nowhere (seen Short Tagged ones) ∙ same-rules ones) (tagged Short ns rs st p)
+  short-tagged = read-same (seen Short Tagged ones) (Record.rulesOf ns rs st) (asides-nowhere (seen Short Tagged ones) ∙ same-rules ones) (tagged Short ns rs st w p)
 
   -- the plain reader returns them with every tag removed
   pub short-plain : holdsPushLiteral (Record.rulesOf ns rs st) ≡ false → ReadAs Plain (tableText Short ns rs st) (untaggedRules ones)
-  short-plain h = plain Short ns rs st p h
+  short-plain h = plain Short ns rs st w p h
 
   -- its pieces
   short-pieces : spelled (rulesPieces marks) ≡ tableText Short ns rs st
-  short-pieces = spelled-printed Short ones ∙ is-text Short ns rs st p
+  short-pieces = spelled-printed Short ones ∙ is-text Short ns rs st w p
 
   -- the short text has the brackets that are needed
   pub short-opens : opensIn (tableText Short ns rs st) ≡ needs ones
@@ -101,9 +102,9 @@ module _ (ns rs st : List ℕ) (p : Printable Short ns rs st) where
 
 -- ---- demand 3 as it was, of the full text
 
-module _ (ns rs st : List ℕ) (p : Printable Full ns rs st) where
-  pub full-tagged : ReadAs Tagged (tableText Full ns rs st) (regroupRules (printedOnes Full ns rs st p))
-  full-tagged = tagged Full ns rs st p
+module _ (ns rs st : List ℕ) (w : Narrow ns) (p : Printable Full ns rs st) where
+  pub full-tagged : ReadAs Tagged (tableText Full ns rs st) (regroupRules (printedOnes Full ns rs st w p))
+  full-tagged = tagged Full ns rs st w p
 
-  pub full-plain : holdsPushLiteral (Record.rulesOf ns rs st) ≡ false → ReadAs Plain (tableText Full ns rs st) (untaggedRules (regroupRules (printedOnes Full ns rs st p)))
-  full-plain h = rw (plain-twice (printedOnes Full ns rs st p)) at (plain Full ns rs st p h)
+  pub full-plain : holdsPushLiteral (Record.rulesOf ns rs st) ≡ false → ReadAs Plain (tableText Full ns rs st) (untaggedRules (regroupRules (printedOnes Full ns rs st w p)))
+  full-plain h = rw (plain-twice (printedOnes Full ns rs st w p)) at (plain Full ns rs st w p h)

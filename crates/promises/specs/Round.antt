@@ -4,7 +4,7 @@ use mathlib.Core.Path.{_≡_}
 use mathlib.Core.Bool.{Bool, true, false, not}
 use mathlib.Core.List.{List, [], _∷_, map}
 use lib.Dec.{leb, eqb}
-use lib.ListN.{length, getD, take}
+use lib.ListN.{length, take}
 use Rattle.text.specs.Booleans.{and, or}
 use Rattle.text.specs.Limits.{maxNodes, maxRules, maxText, maxOpen}
 use Rattle.table.specs.declared.Unary.{Unary}
@@ -62,10 +62,6 @@ nonzero (two s j a b) = and (nonzero a) (nonzero b)
 unfoldable pub nonzeroRules : {P : Type 0} → List (Rule P) → Bool
 nonzeroRules [] = true
 nonzeroRules (r ∷ rs) = and (nonzero (r .tree)) (nonzeroRules rs)
-
--- every number of a table is of 32 bits
-pub record Narrow (ns : List ℕ) : Type 0 where
-  pub at : (k : ℕ) → getD ns k 0 ≤ 4294967295
 
 -- no zeros, and each number is of 32 bits
 abbrev pub positive : ℕ → Bool
@@ -185,7 +181,6 @@ seen style level us = map (ruleBy (λ t. sight level (readBack style t))) us
 -- reader's limits
 pub record Printable (style : Style) (ns rs st : List ℕ) : Type 0 where
   pub good : tables ns rs st ≡ Table.Good
-  pub narrow : Narrow ns
   pub some : 1 ≤ rulesIn rs
   pub nonzeros : nonzeroRules (rulesOf ns rs st) ≡ true
   pub short : length (tableText style ns rs st) ≤ maxText
