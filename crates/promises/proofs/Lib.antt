@@ -38,6 +38,7 @@ pub mod Arrives
 -- the twelve examples, uniqueness, wrong programs
 pub mod Opened
 pub mod Sample
+pub mod Witness
 pub mod Twelve
 pub mod Unique
 pub mod Wrong

@@ -6,3 +6,4 @@ pub mod Marked
 pub mod Fewest
 pub mod Pairs
 pub mod Twelve
+pub mod Witness
