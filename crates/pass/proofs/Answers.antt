@@ -26,7 +26,7 @@ use Rattle.reader.specs.Read.{roomForNodes, roomForRules, readOf, leftIn}
 use Rattle.build.specs.Rules.{rulesRead}
 use Rattle.pass.specs.declared.Passed.{Passed}
 use Rattle.pass.specs.declared.Passed.the-variants as Passed
-use Rattle.pass.specs.Pass.{backBy, passBy, passOf, textIn, newIn, numbered, reported}
+use Rattle.pass.specs.Pass.{backBy, passBy, passOf, textIn, newIn, numbered, reported, Passes}
 
 -- ---- the printed text
 
@@ -72,15 +72,6 @@ unfolding leftIn newIn
 back-left k (Reading.Read n r b) x o = refl
 back-left k (Reading.Refused f) x o = refl
 
--- what `pass` promises of its answer, of the text and of the new tables
-pub record Meets (style : Style) (level : Level) (ns rs st o ns₀ rs₀ st₀ : List ℕ) (a : Passed) (o′ ns′ rs′ st′ : List ℕ) : Type 0 where
-  pub answer : a ≡ passOf style level ns rs st (length o) (roomForNodes ns₀) (roomForRules rs₀) (length st₀)
-  pub report : numbered a ≡ reported style level ns rs st (length o) (roomForNodes ns₀) (roomForRules rs₀) (length st₀)
-  pub text : o′ ≡ textIn style ns rs st o
-  pub nodes : ns′ ≡ newIn a (nodesOf (rulesRead level (tableText style ns rs st))) ns₀
-  pub rules : rs′ ≡ newIn a (recordsOf (rulesRead level (tableText style ns rs st))) rs₀
-  pub store : st′ ≡ newIn a (rulesStored (rulesRead level (tableText style ns rs st))) st₀
-
 module _ (style : Style) (level : Level) (ns rs st o ns₀ rs₀ st₀ : List ℕ) {printed : Printed} {o′ : List ℕ} (e : printed ≡ printOf style ns rs st (length o)) (h : o′ ≡ printIn style ns rs st o printed) where
   answered : {p : Printed} {a : Passed} {r : Reading} → printed ≡ p → a ≡ passBy p r → r ≡ readOf level (tableText style ns rs st) (roomForNodes ns₀) (roomForRules rs₀) (length st₀)
       → a ≡ passOf style level ns rs st (length o) (roomForNodes ns₀) (roomForRules rs₀) (length st₀)
@@ -88,7 +79,7 @@ module _ (style : Style) (level : Level) (ns rs st o ns₀ rs₀ st₀ : List �
   answered {p} {a} {r} u v w = v ∙ ap (λ x. passBy x r) (sym u ∙ e) ∙ ap (passBy (printOf style ns rs st (length o))) w
 
   -- nothing was printed
-  pub unprinted : (p : Printed) (a : Passed) → printed ≡ p → ((r : Reading) → a ≡ passBy p r) → ((x y : List ℕ) → y ≡ newIn a x y) → Meets style level ns rs st o ns₀ rs₀ st₀ a o′ ns₀ rs₀ st₀
+  pub unprinted : (p : Printed) (a : Passed) → printed ≡ p → ((r : Reading) → a ≡ passBy p r) → ((x y : List ℕ) → y ≡ newIn a x y) → Passes style level ns rs st o ns₀ rs₀ st₀ a o′ ns₀ rs₀ st₀
   unfolding reported
   unprinted p a u v w =
       let f = answered u (v (readOf level (tableText style ns rs st) (roomForNodes ns₀) (roomForRules rs₀) (length st₀))) refl in
@@ -97,7 +88,7 @@ module _ (style : Style) (level : Level) (ns rs st o ns₀ rs₀ st₀ : List �
   -- the text was read, or refused
   pub passed : {k : ℕ} {r : Reading} (q : Reading) {ns′ rs′ st′ : List ℕ} → printed ≡ Printed.Used k → r ≡ readOf level (take k o′) (roomForNodes ns₀) (roomForRules rs₀) (length st₀)
       → ns′ ≡ leftIn r (nodesOf (rulesRead level (take k o′))) ns₀ → rs′ ≡ leftIn r (recordsOf (rulesRead level (take k o′))) rs₀ → st′ ≡ leftIn r (rulesStored (rulesRead level (take k o′))) st₀
-      → r ≡ q → Meets style level ns rs st o ns₀ rs₀ st₀ (backBy k q) o′ ns′ rs′ st′
+      → r ≡ q → Passes style level ns rs st o ns₀ rs₀ st₀ (backBy k q) o′ ns′ rs′ st′
   unfolding reported
   passed {k} {r} q u f n m b w =
       let t = front-text style ns rs st o e h u in

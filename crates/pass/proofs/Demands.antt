@@ -25,8 +25,7 @@ use Rattle.promises.specs.Round.{seen, Printable, ReadAs}
 use Rattle.promises.proofs.Round.{tagged, plain, plain-refused}
 use Rattle.pass.specs.declared.Passed.{Passed}
 use Rattle.pass.specs.declared.Passed.the-variants as Passed
-use Rattle.pass.specs.Pass.{backBy, passBy, passOf, newIn, barred, rulesHeld, Back, Demand}
-use Rattle.pass.proofs.Answers.{Meets}
+use Rattle.pass.specs.Pass.{backBy, passBy, passOf, newIn, Passes, barred, rulesHeld, Back, Demand}
 
 -- only a reading is passed on as one
 back-read : (m : ℕ) (a : Reading) {k n r b : ℕ} → backBy m a ≡ Passed.Read k n r b → a ≡ Reading.Read n r b
@@ -51,7 +50,7 @@ module _ (style : Style) (ns rs st : List ℕ) (w : Narrow ns) (p : Printable st
 
 -- demand 3, of any call that meets the promises on its answer and its buffers
 pub demand : (style : Style) (level : Level) (ns rs st o ns₀ rs₀ st₀ : List ℕ) {a : Passed} {o′ ns′ rs′ st′ : List ℕ} → Narrow ns
-    → Meets style level ns rs st o ns₀ rs₀ st₀ a o′ ns′ rs′ st′ → Demand style level ns rs st o ns₀ rs₀ st₀ a ns′ rs′ st′
+    → Passes style level ns rs st o ns₀ rs₀ st₀ a o′ ns′ rs′ st′ → Demand style level ns rs st o ns₀ rs₀ st₀ a ns′ rs′ st′
 unfolding newIn leftIn
 demand style level ns rs st o ns₀ rs₀ st₀ {a} {o′} {ns′} {rs′} {st′} w m p l =
     let t = tableText style ns rs st in

@@ -9,17 +9,15 @@ use Rattle.printer.specs.Answers.{tableText}
 use Rattle.build.specs.Rules.{rulesRead}
 use Rattle.structure.specs.declared.Level.{Level}
 use Rattle.pass.specs.declared.Passed.{Passed}
-use Rattle.pass.specs.Pass.{newIn}
-use Rattle.pass.proofs.Answers.{Meets}
+use Rattle.pass.specs.Pass.{newIn, Passes}
 use Rattle.promises.proofs.Unique.{one, kept}
 
 pub pass-unique : (style : Style) (level : Level) (ns rs st o ns₀ rs₀ st₀ : List ℕ) {a b : Passed} {o₁ n₁ r₁ s₁ o₂ n₂ r₂ s₂ : List ℕ}
-    → Meets style level ns rs st o ns₀ rs₀ st₀ a o₁ n₁ r₁ s₁ → Meets style level ns rs st o ns₀ rs₀ st₀ b o₂ n₂ r₂ s₂ → (a ≡ b) × (o₁ ≡ o₂) × (n₁ ≡ n₂) × (r₁ ≡ r₂) × (s₁ ≡ s₂)
+    → Passes style level ns rs st o ns₀ rs₀ st₀ a o₁ n₁ r₁ s₁ → Passes style level ns rs st o ns₀ rs₀ st₀ b o₂ n₂ r₂ s₂ → (a ≡ b) × (o₁ ≡ o₂) × (n₁ ≡ n₂) × (r₁ ≡ r₂) × (s₁ ≡ s₂)
 pass-unique style level ns rs st o ns₀ rs₀ st₀ x y =
     let us = rulesRead level (tableText style ns rs st) in
     let e = x .answer in
-    let f = y .answer in
-    (
+    let f = y .answer in (
       one e f,
       one (x .text) (y .text),
       kept e f (λ a. newIn a (nodesOf us) ns₀) (x .nodes) (y .nodes),

@@ -7,6 +7,7 @@ use lib.ListN.{length}
 use Rattle.text.specs.Splice.{fronted}
 use Rattle.table.specs.Tree.{Rule, Nowhere, asideRule, counts, rulesStored, Same}
 use Rattle.table.specs.Record.{rulesOf}
+use Rattle.table.specs.Flat.{nodesOf, recordsOf}
 use Rattle.forms.specs.declared.Style.{Style}
 use Rattle.structure.specs.declared.Level.{Level}
 use Rattle.structure.specs.declared.Level.the-variants.{Tagged, Plain}
@@ -20,6 +21,7 @@ use Rattle.reader.specs.declared.Reading.{Reading}
 use Rattle.reader.specs.declared.Reading.the-variants as Reading
 use Rattle.reader.specs.Read as Reader
 use Rattle.reader.specs.Read.{roomForNodes, roomForRules, roomBy, readOf}
+use Rattle.build.specs.Rules.{rulesRead}
 use Rattle.promises.specs.Pieces.{rulesPieces, firstPushLiteral}
 use Rattle.promises.specs.Styled.{markedRules}
 use Rattle.promises.specs.Round.{holdsPushLiteral, seen, rulesLeft, Printable, ReadAs}
@@ -83,6 +85,15 @@ numbered Passed.NoRoom = ofPrinter (Printer.numbered Printed.NoRoom)
 -- what is to be answered, in those numbers
 unfoldable pub reported : Style → Level → List ℕ → List ℕ → List ℕ → ℕ → ℕ → ℕ → ℕ → Numbered
 reported style level ns rs st m n r b = numbered (passOf style level ns rs st m n r b)
+
+-- what `pass` promises of its answer, of where the text goes, and of the new tables
+pub record Passes (style : Style) (level : Level) (ns rs st o ns₀ rs₀ st₀ : List ℕ) (a : Passed) (o′ ns′ rs′ st′ : List ℕ) : Type 0 where
+  pub answer : a ≡ passOf style level ns rs st (length o) (roomForNodes ns₀) (roomForRules rs₀) (length st₀)
+  pub report : numbered a ≡ reported style level ns rs st (length o) (roomForNodes ns₀) (roomForRules rs₀) (length st₀)
+  pub text : o′ ≡ textIn style ns rs st o
+  pub nodes : ns′ ≡ newIn a (nodesOf (rulesRead level (tableText style ns rs st))) ns₀
+  pub rules : rs′ ≡ newIn a (recordsOf (rulesRead level (tableText style ns rs st))) rs₀
+  pub store : st′ ≡ newIn a (rulesStored (rulesRead level (tableText style ns rs st))) st₀
 
 -- ---- demand 3
 

@@ -8,14 +8,7 @@ use printer::Printed;
 use reader::Reading;
 use structure::Level;
 use structure::Refusal;
-ghost use mathlib.Core.Path.{_≡_};
-ghost use lib.ListN.{length};
-ghost use Rattle.table.specs.Tree.{rulesStored};
-ghost use Rattle.table.specs.Flat.{nodesOf, recordsOf};
-ghost use Rattle.printer.specs.Answers.{tableText};
-ghost use Rattle.build.specs.Rules.{rulesRead};
-ghost use Rattle.reader.specs.Read.{roomForNodes, roomForRules};
-ghost use Rattle.pass.specs.Pass.{passOf, textIn, newIn, numbered, reported, Demand};
+ghost use Rattle.pass.specs.Pass.{Passes, Demand};
 
 // The bytes of the text, and the nodes, rules and store bytes that were read from it; or the bytes of a text that was printed, and why
 // it was not read, and where; or why nothing was printed, as the printer says it.
@@ -40,12 +33,7 @@ pub fn pass(
     new_rules: &mut [u32],
     new_store: &mut [u8],
 ) -> Passed
-    ensures answer { λ r. ⌜ r ≡ passOf style level (now (nodes .entry)) (now (rules .entry)) (now (store .entry)) (length (now (text .entry))) (roomForNodes (now («new_nodes» .entry))) (roomForRules (now («new_rules» .entry))) (length (now («new_store» .entry))) ⌝ }
-    ensures report { λ r. ⌜ numbered r ≡ reported style level (now (nodes .entry)) (now (rules .entry)) (now (store .entry)) (length (now (text .entry))) (roomForNodes (now («new_nodes» .entry))) (roomForRules (now («new_rules» .entry))) (length (now («new_store» .entry))) ⌝ }
-    ensures text { λ r. ⌜ now (text .exit) ≡ textIn style (now (nodes .entry)) (now (rules .entry)) (now (store .entry)) (now (text .entry)) ⌝ }
-    ensures nodes { λ r. ⌜ now («new_nodes» .exit) ≡ newIn r (nodesOf (rulesRead level (tableText style (now (nodes .entry)) (now (rules .entry)) (now (store .entry))))) (now («new_nodes» .entry)) ⌝ }
-    ensures rules { λ r. ⌜ now («new_rules» .exit) ≡ newIn r (recordsOf (rulesRead level (tableText style (now (nodes .entry)) (now (rules .entry)) (now (store .entry))))) (now («new_rules» .entry)) ⌝ }
-    ensures store { λ r. ⌜ now («new_store» .exit) ≡ newIn r (rulesStored (rulesRead level (tableText style (now (nodes .entry)) (now (rules .entry)) (now (store .entry))))) (now («new_store» .entry)) ⌝ }
+    ensures passes { λ r. ⌜ Passes style level (now (nodes .entry)) (now (rules .entry)) (now (store .entry)) (now (text .entry)) (now («new_nodes» .entry)) (now («new_rules» .entry)) (now («new_store» .entry)) r (now (text .exit)) (now («new_nodes» .exit)) (now («new_rules» .exit)) (now («new_store» .exit)) ⌝ }
     ensures demand { λ r. ⌜ Demand style level (now (nodes .entry)) (now (rules .entry)) (now (store .entry)) (now (text .entry)) (now («new_nodes» .entry)) (now («new_rules» .entry)) (now («new_store» .entry)) r (now («new_nodes» .exit)) (now («new_rules» .exit)) (now («new_store» .exit)) ⌝ }
 {
     let printed = printer::print(style, nodes, rules, store, text);
