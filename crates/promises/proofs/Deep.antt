@@ -23,6 +23,7 @@ use Rattle.table.proofs.Rules.{rules-many}
 use Rattle.table.proofs.Tables.{tables-valid, valid-fine}
 use Rattle.forms.specs.declared.Style.{Style}
 use Rattle.forms.specs.Printing.{printedRules}
+use Rattle.printer.specs.Bounds.{Narrow}
 use Rattle.printer.specs.Answers.{tableText}
 use Rattle.structure.specs.declared.Level.{Level}
 use Rattle.structure.specs.declared.Fault.{Fault}
@@ -39,7 +40,7 @@ use Rattle.reader.specs.Read.{roomBy, faulty, judgedOf, listedOf, readOf}
 use Rattle.promises.specs.Open.{mostOpen, Limited}
 use Rattle.promises.specs.Styled.{markedRule, markedRules}
 use Rattle.promises.specs.Marked.{depths}
-use Rattle.promises.specs.Round.{countedRules, nonzeroRules, Narrow}
+use Rattle.promises.specs.Round.{countedRules, nonzeroRules}
 use Rattle.promises.proofs.Narrow.{tables-counted}
 use Rattle.promises.proofs.Rules.{reads}
 use Rattle.promises.proofs.Sinks.{grammar-deep}
@@ -119,7 +120,7 @@ module _ (v : Style) (ns rs st : List ℕ) (g : tables ns rs st ≡ Table.Good) 
   valid = tables-valid ns rs st g
 
   is-counted : countedRules (rulesOf ns rs st) ≡ true
-  is-counted = tables-counted ns st w rs valid z
+  is-counted = tables-counted ns rs st w valid z
 
   -- as many brackets are open at once in their text as its marks say
   pub table-most : mostOpen (tableText v ns rs st) ≡ depths (markedRules v (rulesOf ns rs st))

@@ -22,6 +22,7 @@ pub mod Text
 pub mod Spread
 pub mod Narrow
 pub mod Asides
+pub mod Readings
 pub mod Round
 pub mod Deep
 -- the short text
@@ -41,6 +42,7 @@ pub mod Arrives
 pub mod Opened
 pub mod Sample
 pub mod Programs
+pub mod Witness
 pub mod Twelve
 pub mod Unique
 pub mod Wrong

@@ -6,12 +6,13 @@ use mathlib.Core.List.{List, [], _∷_, map}
 use native.Mathlib.Omega.{arith}
 use lib.ListN.{length}
 use Rattle.token.specs.Table.{toks}
-use Rattle.table.specs.Tree.{Rule, Nowhere, ruleBy, asideRule}
+use Rattle.table.specs.Tree.{Rule, Nowhere, ruleBy, asideRule, Same}
 use Rattle.table.specs.Record as Record
 use Rattle.table.specs.Regroup.{regroup, untagged, regroupRules, untaggedRules}
 use Rattle.table.specs.Check.{fineRules}
 use Rattle.forms.specs.declared.Style.the-variants.{Full, Short}
 use Rattle.printer.specs.Answers.{tableText}
+use Rattle.printer.specs.Bounds.{Narrow}
 use Rattle.structure.specs.declared.Level.{Level}
 use Rattle.structure.specs.declared.Level.the-variants.{Tagged, Plain}
 use Rattle.build.specs.Rules.{rulesRead}
@@ -29,6 +30,7 @@ use Rattle.promises.proofs.Fewest.{fewest}
 use Rattle.promises.proofs.Bared.{BaredRules, bared-fewer, bared-rules}
 use Rattle.promises.proofs.Pairs.{unpaired, every-pair}
 use Rattle.promises.proofs.Cuts.{pair-cut, cut-shorter}
+use Rattle.promises.proofs.Readings.{asides-nowhere, read-same}
 use Rattle.promises.proofs.Round.{printedOnes, is-fine, is-counted, is-text, tagged, plain}
 
 same-rules : (us : List (Rule Nowhere)) → seen Short Tagged us ≡ us
@@ -49,37 +51,37 @@ opens-marked ms f c =
 
 -- ---- tables
 
-module _ (ns rs st : List ℕ) (p : Printable Short ns rs st) where
+module _ (ns rs st : List ℕ) (w : Narrow ns) (p : Printable Short ns rs st) where
   abbrev ones : List (Rule Nowhere)
-  ones = printedOnes Short ns rs st p
+  ones = printedOnes Short ns rs st w p
 
   abbrev marks : List (Rule Bool)
   marks = markedRules Short ones
 
   marks-fine : fineRules marks ≡ true
-  marks-fine = marked-rules-fine Short ones ∙ is-fine Short ns rs st p
+  marks-fine = marked-rules-fine Short ones ∙ is-fine Short ns rs st w p
 
   marks-counted : countedRules marks ≡ true
-  marks-counted = marked-rules-counted Short ones ∙ is-counted Short ns rs st p
+  marks-counted = marked-rules-counted Short ones ∙ is-counted Short ns rs st w p
 
   -- the tagged reader returns the very same rules, spans aside
-  pub short-tagged : ReadAs Tagged (tableText Short ns rs st) ones
-  short-tagged = rw (same-rules ones) at (tagged Short ns rs st p)
+  pub short-tagged : ReadAs Tagged (tableText Short ns rs st) (Record.rulesOf ns rs st)
+  short-tagged = read-same (seen Short Tagged ones) (Record.rulesOf ns rs st) (asides-nowhere (seen Short Tagged ones) ∙ same-rules ones) (tagged Short ns rs st w p)
 
   -- the plain reader returns them with every tag removed
   pub short-plain : holdsPushLiteral (Record.rulesOf ns rs st) ≡ false → ReadAs Plain (tableText Short ns rs st) (untaggedRules ones)
-  short-plain h = plain Short ns rs st p h
+  short-plain h = plain Short ns rs st w p h
 
   -- its pieces
   short-pieces : spelled (rulesPieces marks) ≡ tableText Short ns rs st
-  short-pieces = spelled-printed Short ones ∙ is-text Short ns rs st p
+  short-pieces = spelled-printed Short ones ∙ is-text Short ns rs st w p
 
   -- the short text has the brackets that are needed
   pub short-opens : opensIn (tableText Short ns rs st) ≡ needs ones
   short-opens = ap opensIn (sym short-pieces) ∙ opens-marked marks marks-fine marks-counted ∙ needs-marked ones
 
   -- every text that is read as these rules, at either level, has at least as many
-  pub short-fewest : (level : Level) (x : List ℕ) → map asideRule (rulesRead level x) ≡ ones → opensIn (tableText Short ns rs st) ≤ opensIn x
+  pub short-fewest : (level : Level) (x : List ℕ) → Same (rulesRead level x) (Record.rulesOf ns rs st) → opensIn (tableText Short ns rs st) ≤ opensIn x
   short-fewest level x e = omega (arith, short-opens, fewest level x ones e)
 
   -- with one mark fewer other rules are read
@@ -90,7 +92,7 @@ module _ (ns rs st : List ℕ) (p : Printable Short ns rs st) where
       omega (arith, fewest level (spelled (rulesPieces ms)) ones e, bared-fewer b, needs-marked ones)
 
   -- no pair of brackets but those of PUSH and PUSH_LITERAL can be taken away and the same rules still be read
-  pub pair-needed : (level : Level) (i j : ℕ) → Pair (tableText Short ns rs st) i j → map asideRule (rulesRead level (cut (tableText Short ns rs st) i j)) ≡ ones → ⊥
+  pub pair-needed : (level : Level) (i j : ℕ) → Pair (tableText Short ns rs st) i j → Same (rulesRead level (cut (tableText Short ns rs st) i j)) (Record.rulesOf ns rs st) → ⊥
   pair-needed level i j q e =
       let (k, f) = pair-cut (tableText Short ns rs st) (rulesPieces marks) (sym short-pieces) (held-rules marks marks-fine marks-counted 0) i j q in
       let z : unpaired k false (rulesPieces marks) ≡ rulesPieces marks → ⊥ =
@@ -100,9 +102,9 @@ module _ (ns rs st : List ℕ) (p : Printable Short ns rs st) where
 
 -- ---- demand 3 as it was, of the full text
 
-module _ (ns rs st : List ℕ) (p : Printable Full ns rs st) where
-  pub full-tagged : ReadAs Tagged (tableText Full ns rs st) (regroupRules (printedOnes Full ns rs st p))
-  full-tagged = tagged Full ns rs st p
+module _ (ns rs st : List ℕ) (w : Narrow ns) (p : Printable Full ns rs st) where
+  pub full-tagged : ReadAs Tagged (tableText Full ns rs st) (regroupRules (printedOnes Full ns rs st w p))
+  full-tagged = tagged Full ns rs st w p
 
-  pub full-plain : holdsPushLiteral (Record.rulesOf ns rs st) ≡ false → ReadAs Plain (tableText Full ns rs st) (untaggedRules (regroupRules (printedOnes Full ns rs st p)))
-  full-plain h = rw (plain-twice (printedOnes Full ns rs st p)) at (plain Full ns rs st p h)
+  pub full-plain : holdsPushLiteral (Record.rulesOf ns rs st) ≡ false → ReadAs Plain (tableText Full ns rs st) (untaggedRules (regroupRules (printedOnes Full ns rs st w p)))
+  full-plain h = rw (plain-twice (printedOnes Full ns rs st w p)) at (plain Full ns rs st w p h)

@@ -8,3 +8,4 @@ pub mod Fewest
 pub mod Pairs
 pub mod Programs
 pub mod Twelve
+pub mod Witness

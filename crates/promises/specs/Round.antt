@@ -1,10 +1,10 @@
 -- The way back: what the premises of printing and reading back say.
-use Prim.Native.Nat.{ℕ, _≤_}
+use Prim.Native.Nat.{ℕ, _*_, _≤_}
 use mathlib.Core.Path.{_≡_}
 use mathlib.Core.Bool.{Bool, true, false, not}
 use mathlib.Core.List.{List, [], _∷_, map}
 use lib.Dec.{leb, eqb}
-use lib.ListN.{length, getD}
+use lib.ListN.{length, take}
 use Rattle.text.specs.Booleans.{and, or}
 use Rattle.text.specs.Limits.{maxNodes, maxRules, maxText, maxOpen}
 use Rattle.table.specs.declared.Unary.{Unary}
@@ -12,8 +12,8 @@ use Rattle.table.specs.declared.Unary.the-variants.{PosPred, NegPred, Opt, Rep,
 use Rattle.table.specs.declared.Sort.the-variants.{Str, Insens, Ident, PushLiteral}
 use Rattle.table.specs.declared.End.{End}
 use Rattle.table.specs.declared.End.the-variants.{Open, At}
-use Rattle.table.specs.Tree.{Atom, text, range, peekSlice, Wrap, plain, nodeTag, Tree, leaf, one, two, Rule, Nowhere, ruleBy, asideRule, counts, rulesStored}
-use Rattle.table.specs.Record.{rulesIn, rulesOf}
+use Rattle.table.specs.Tree.{Span, Atom, text, range, peekSlice, Wrap, plain, nodeTag, Tree, leaf, one, two, Rule, Nowhere, ruleBy, counts, rulesStored, Same}
+use Rattle.table.specs.Record.{nodeSize, ruleSize, rulesIn, rulesOf}
 use Rattle.table.specs.Check.{tables}
 use Rattle.table.specs.declared.TableCheck.the-variants as Table
 use Rattle.forms.specs.declared.Style.{Style}
@@ -21,9 +21,8 @@ use Rattle.forms.specs.declared.Style.the-variants.{Full, Short}
 use Rattle.printer.specs.Answers.{tableText}
 use Rattle.promises.specs.Open.{mostOpen}
 use Rattle.reader.specs.declared.Reading.the-variants as Reading
-use Rattle.reader.specs.Read as Read
+use Rattle.reader.specs.Read.{roomBy, readOf, Leaves}
 use Rattle.build.specs.Rules as Built
-use Rattle.reader.specs.Read.{readOf}
 use Rattle.table.specs.Regroup.{regroup, untagged}
 use Rattle.structure.specs.declared.Level.{Level}
 use Rattle.structure.specs.declared.Level.the-variants.{Tagged, Plain}
@@ -62,10 +61,6 @@ nonzero (two s j a b) = and (nonzero a) (nonzero b)
 unfoldable pub nonzeroRules : {P : Type 0} → List (Rule P) → Bool
 nonzeroRules [] = true
 nonzeroRules (r ∷ rs) = and (nonzero (r .tree)) (nonzeroRules rs)
-
--- every number of a table is of 32 bits
-pub record Narrow (ns : List ℕ) : Type 0 where
-  pub at : (k : ℕ) → getD ns k 0 ≤ 4294967295
 
 -- no zeros, and each number is of 32 bits
 abbrev pub positive : ℕ → Bool
@@ -143,17 +138,21 @@ seen style level us = map (ruleBy (λ t. sight level (readBack style t))) us
 -- reader's limits
 pub record Printable (style : Style) (ns rs st : List ℕ) : Type 0 where
   pub good : tables ns rs st ≡ Table.Good
-  pub narrow : Narrow ns
   pub some : 1 ≤ rulesIn rs
   pub nonzeros : nonzeroRules (rulesOf ns rs st) ≡ true
   pub short : length (tableText style ns rs st) ≤ maxText
   pub shallow : mostOpen (tableText style ns rs st) ≤ maxOpen
 
--- a text is read as these rules, spans aside, given room for them and no more; the limits leave room, and so does a
--- store as long as the text
-pub record ReadAs (level : Level) (s : List ℕ) (us : List (Rule Nowhere)) : Type 0 where
-  pub rules : map asideRule (Built.rulesRead level s) ≡ us
-  pub answer : (n r b : ℕ) → counts us ≤ n → length us ≤ r → length (rulesStored us) ≤ b → readOf level s n r b ≡ Reading.Read (counts us) (length us) (length (rulesStored us))
+-- the rules that the used parts of three buffers stand for: so many nodes, rules and store bytes are used
+abbrev pub rulesLeft : ℕ → ℕ → ℕ → List ℕ → List ℕ → List ℕ → List (Rule Span)
+rulesLeft n r b ns rs st = rulesOf (take (nodeSize * n) ns) (take (ruleSize * r) rs) (take b st)
+
+-- a text is read as these rules, spans aside: with any room only room can be missing, and where it is read, the used parts
+-- of the buffers stand for these rules; the limits leave room, and so does a store as long as the text
+pub record ReadAs {P : Type 0} (level : Level) (s : List ℕ) (us : List (Rule P)) : Type 0 where
+  pub rules : Same (Built.rulesRead level s) us
+  pub answer : (n r b : ℕ) → readOf level s n r b ≡ roomBy (length us) (counts us) (length (rulesStored us)) n r b
+  pub tables : (n r b x y z : ℕ) → readOf level s n r b ≡ Reading.Read x y z → (ns rs st ns′ rs′ st′ : List ℕ) → Leaves level s (Reading.Read x y z) ns rs st ns′ rs′ st′ → Same (rulesLeft x y z ns′ rs′ st′) us
   pub few-nodes : counts us ≤ maxNodes
   pub few-rules : length us ≤ maxRules
   pub short : length (rulesStored us) ≤ length s

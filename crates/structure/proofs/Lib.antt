@@ -5,7 +5,6 @@ pub mod Fuel
 pub mod Grammar
 pub mod Meaning
 pub mod Descent
-pub mod Descent
 pub mod Insides
 pub mod Bytes
 pub mod Spelled
@@ -22,7 +21,4 @@ pub mod Held
 pub mod Numerals
 pub mod Ruled
 pub mod Stores
-pub mod Faults
-pub mod Cases
-pub mod Reasons
 pub mod Fine

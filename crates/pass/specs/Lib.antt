@@ -1,0 +1,2 @@
+-- A pass: the definitions that its contract cites.
+pub mod Pass

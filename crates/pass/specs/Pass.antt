@@ -1,0 +1,121 @@
+-- What a pass answers, what it leaves in the lent buffers, and what demand 3 says of it.
+use Prim.Native.Nat.{ℕ, _≤_}
+use mathlib.Core.Path.{_≡_}
+use mathlib.Core.Bool.{Bool, true, false}
+use mathlib.Core.List.{List, map}
+use lib.ListN.{length}
+use Rattle.text.specs.Splice.{fronted}
+use Rattle.table.specs.Tree.{Rule, Nowhere, asideRule, counts, rulesStored, Same}
+use Rattle.table.specs.Record.{rulesOf}
+use Rattle.table.specs.Flat.{nodesOf, recordsOf}
+use Rattle.forms.specs.declared.Style.{Style}
+use Rattle.structure.specs.declared.Level.{Level}
+use Rattle.structure.specs.declared.Level.the-variants.{Tagged, Plain}
+use Rattle.structure.specs.declared.Why.the-variants.{NotPlain}
+use Rattle.structure.specs.Refusals.{because}
+use Rattle.printer.specs.declared.Printed.{Printed}
+use Rattle.printer.specs.declared.Printed.the-variants as Printed
+use Rattle.printer.specs.Answers as Printer
+use Rattle.printer.specs.Answers.{tableText, printOf, printIn}
+use Rattle.reader.specs.declared.Reading.{Reading}
+use Rattle.reader.specs.declared.Reading.the-variants as Reading
+use Rattle.reader.specs.Read as Reader
+use Rattle.reader.specs.Read.{roomForNodes, roomForRules, roomBy, readOf}
+use Rattle.build.specs.Rules.{rulesRead}
+use Rattle.promises.specs.Pieces.{rulesPieces, firstPushLiteral}
+use Rattle.promises.specs.Styled.{markedRules}
+use Rattle.promises.specs.Round.{holdsPushLiteral, seen, rulesLeft, Printable, ReadAs}
+use Rattle.pass.specs.declared.Passed.{Passed}
+use Rattle.pass.specs.declared.Passed.the-variants as Passed
+
+-- what the reader says of a text of k bytes
+abbrev pub backBy : ℕ → Reading → Passed
+backBy k (Reading.Read n r b) = Passed.Read k n r b
+backBy k (Reading.Refused f) = Passed.Unread k f
+
+-- what the printer says, and where it printed, what the reader does
+abbrev pub passBy : Printed → Reading → Passed
+passBy (Printed.Used k) a = backBy k a
+passBy Printed.Shape a = Passed.Shape
+passBy (Printed.Node i) a = Passed.Node i
+passBy (Printed.Rule i) a = Passed.Rule i
+passBy Printed.NoRoom a = Passed.NoRoom
+
+-- the answer for a text of at most m bytes and room for n nodes, r rules and b store bytes
+unfoldable pub passOf : Style → Level → List ℕ → List ℕ → List ℕ → ℕ → ℕ → ℕ → ℕ → Passed
+passOf style level ns rs st m n r b = passBy (printOf style ns rs st m) (readOf level (tableText style ns rs st) n r b)
+
+-- what it leaves where the text goes: what the printer leaves there, so the printed text even where the reader refuses it
+unfoldable pub textIn : Style → List ℕ → List ℕ → List ℕ → List ℕ → List ℕ
+textIn style ns rs st o = printIn style ns rs st o (printOf style ns rs st (length o))
+
+-- what it leaves where a new table goes: it is changed only where the text was read, and only in the used part
+unfoldable pub newIn : Passed → List ℕ → List ℕ → List ℕ
+newIn (Passed.Read k n r b) x o = fronted x o
+newIn (Passed.Unread k f) x o = o
+newIn Passed.Shape x o = o
+newIn (Passed.Node i) x o = o
+newIn (Passed.Rule i) x o = o
+newIn Passed.NoRoom x o = o
+
+-- an answer in the paper's numbers: number, place, the bytes of the text, and the records and bytes used of the new tables
+pub record Numbered : Type 0 where
+  pub number : ℕ
+  pub place : ℕ
+  pub text : ℕ
+  pub nodes : ℕ
+  pub rules : ℕ
+  pub store : ℕ
+
+-- the printer's numbers, and the reader's of a text of k bytes
+abbrev pub ofPrinter : Printer.Numbered → Numbered
+ofPrinter x = record { number = x .number; place = x .place; text = x .used; nodes = 0; rules = 0; store = 0 }
+
+abbrev pub ofReader : ℕ → Reader.Numbered → Numbered
+ofReader k x = record { number = x .number; place = x .place; text = k; nodes = x .nodes; rules = x .rules; store = x .store }
+
+unfoldable pub numbered : Passed → Numbered
+numbered (Passed.Read k n r b) = ofReader k (Reader.numbered (Reading.Read n r b))
+numbered (Passed.Unread k f) = ofReader k (Reader.numbered (Reading.Refused f))
+numbered Passed.Shape = ofPrinter (Printer.numbered Printed.Shape)
+numbered (Passed.Node i) = ofPrinter (Printer.numbered (Printed.Node i))
+numbered (Passed.Rule i) = ofPrinter (Printer.numbered (Printed.Rule i))
+numbered Passed.NoRoom = ofPrinter (Printer.numbered Printed.NoRoom)
+
+-- what is to be answered, in those numbers
+unfoldable pub reported : Style → Level → List ℕ → List ℕ → List ℕ → ℕ → ℕ → ℕ → ℕ → Numbered
+reported style level ns rs st m n r b = numbered (passOf style level ns rs st m n r b)
+
+-- what `pass` promises of its answer, of where the text goes, and of the new tables
+pub record Passes (style : Style) (level : Level) (ns rs st o ns₀ rs₀ st₀ : List ℕ) (a : Passed) (o′ ns′ rs′ st′ : List ℕ) : Type 0 where
+  pub answer : a ≡ passOf style level ns rs st (length o) (roomForNodes ns₀) (roomForRules rs₀) (length st₀)
+  pub report : numbered a ≡ reported style level ns rs st (length o) (roomForNodes ns₀) (roomForRules rs₀) (length st₀)
+  pub text : o′ ≡ textIn style ns rs st o
+  pub nodes : ns′ ≡ newIn a (nodesOf (rulesRead level (tableText style ns rs st))) ns₀
+  pub rules : rs′ ≡ newIn a (recordsOf (rulesRead level (tableText style ns rs st))) rs₀
+  pub store : st′ ≡ newIn a (rulesStored (rulesRead level (tableText style ns rs st))) st₀
+
+-- ---- demand 3
+
+-- the plain reader refuses these rules, since they hold a PUSH_LITERAL
+abbrev pub barred : {P : Type 0} → Level → List (Rule P) → Bool
+barred Tagged us = false
+barred Plain us = holdsPushLiteral us
+
+-- the rules of tables, spans aside
+abbrev pub rulesHeld : List ℕ → List ℕ → List ℕ → List (Rule Nowhere)
+rulesHeld ns rs st = map asideRule (rulesOf ns rs st)
+
+-- what comes back of tables that are printed in a style: unless the level bars them the answer is that of the rules as the style and the
+-- level have them, whatever room there is, and the used parts of the new tables stand for these rules; else the first
+-- PUSH_LITERAL is refused
+pub record Back (style : Style) (level : Level) (ns rs st ns₀ rs₀ st₀ : List ℕ) (a : Passed) (ns′ rs′ st′ : List ℕ) : Type 0 where
+  pub text : barred level (rulesOf ns rs st) ≡ false → ReadAs level (tableText style ns rs st) (seen style level (rulesHeld ns rs st))
+  pub answer : barred level (rulesOf ns rs st) ≡ false
+      → a ≡ backBy (length (tableText style ns rs st)) (roomBy (length (seen style level (rulesHeld ns rs st))) (counts (seen style level (rulesHeld ns rs st))) (length (rulesStored (seen style level (rulesHeld ns rs st)))) (roomForNodes ns₀) (roomForRules rs₀) (length st₀))
+  pub tables : barred level (rulesOf ns rs st) ≡ false → (k n r b : ℕ) → a ≡ Passed.Read k n r b → Same (rulesLeft n r b ns′ rs′ st′) (seen style level (rulesHeld ns rs st))
+  pub refused : barred level (rulesOf ns rs st) ≡ true → a ≡ Passed.Unread (length (tableText style ns rs st)) (because NotPlain (firstPushLiteral (rulesPieces (markedRules style (rulesHeld ns rs st)))))
+
+-- demand 3 of a call: so it is for printable tables whose text has room
+abbrev pub Demand : Style → Level → (ns rs st o ns₀ rs₀ st₀ : List ℕ) → Passed → (ns′ rs′ st′ : List ℕ) → Type 0
+Demand style level ns rs st o ns₀ rs₀ st₀ a ns′ rs′ st′ = Printable style ns rs st → length (tableText style ns rs st) ≤ length o → Back style level ns rs st ns₀ rs₀ st₀ a ns′ rs′ st′
