@@ -15,3 +15,5 @@ pub mod Cases
 pub mod Reasons
 pub mod Held
 pub mod Numerals
+pub mod Judged
+pub mod Fair
