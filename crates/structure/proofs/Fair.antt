@@ -3,31 +3,27 @@
 use Prim.Native.Nat.{ℕ, zero, suc, _≤_, _<_}
 use mathlib.Core.Path.{_≡_, refl, sym, ap, _∙_}
 use mathlib.Core.Bool.{Bool, true, not}
-use mathlib.Core.Logic.{_⊎_, inl, inr, ⊎-elim}
+use mathlib.Core.Logic.{⊎-elim}
 use mathlib.Core.List.{List, [], _∷_, _++_}
 use native.Mathlib.Omega.{arith}
-use lib.Dec.{eqb}
 use lib.ListN.{length}
 use borrow.Author.Tests.{le-leb, ne-eqb}
-use Rattle.text.specs.Booleans.{choose, and, or}
-use Rattle.text.specs.Digits.{decimalOf}
+use Rattle.text.specs.Booleans.{choose, and}
 use Rattle.text.specs.declared.Decimal.the-variants as Decimal
 use Rattle.text.proofs.Booleans.{and-true, and-both, and-one, and-assoc, choose-by, split}
-use Rattle.token.specs.Table.{toks, kind, is, trimmed, word}
-use Rattle.token.specs.Tokens.{pushLiteral}
+use Rattle.token.specs.Table.{toks, is, trimmed, word}
 use Rattle.table.specs.Tree.{Span, Atom, text, range, peekSlice, Wrap, plain, nodeTag, Tree, leaf, one, two, Rule}
 use Rattle.table.specs.declared.Unary.{Unary}
 use Rattle.table.specs.declared.Unary.the-variants.{PosPred, NegPred, Opt, Rep, RepOnce, RepExact, RepMin, RepMax, RepMinMax, Push}
 use Rattle.table.specs.declared.End.the-variants as End
 use Rattle.structure.specs.declared.Level.{Level}
 use Rattle.structure.specs.declared.Fault.the-variants.{Sound}
-use Rattle.structure.specs.Tokens.{spells}
 use Rattle.structure.specs.Values.{negated, integerOf, faults}
 use Rattle.structure.specs.Structure.{rules, grammar}
 use Rattle.structure.specs.Counts.{small, isZero, positive, unaryCounts, wrapCounts, atomCounts, counted, countedRules}
-use Rattle.structure.specs.Held.{Value, exact, least, most, peeked, single, bytes, pushes, unaryValues, wrapValues, atomValues, treeValues, rulesValues, before, valueBy, valueAt, valuesTo, Counts, Right, RightTo}
+use Rattle.structure.specs.Held.{Value, exact, least, most, peeked, single, bytes, pushes, unaryValues, wrapValues, atomValues, treeValues, rulesValues, valueAt, valuesTo, Counts, Right, RightTo}
 use Rattle.structure.proofs.Numerals.{decimal-most}
-use Rattle.structure.proofs.Held.{grammar-values}
+use Rattle.structure.proofs.Held.{at-most-one, grammar-values}
 use Rattle.structure.proofs.Judged.{sound-right}
 
 -- a count that may be printed
@@ -81,21 +77,6 @@ fair-append : (vs ws : List Value) → allFair (vs ++ ws) ≡ and (allFair vs) (
 unfolding allFair
 fair-append [] ws = refl
 fair-append (v ∷ vs) ws = ap (and (fair v)) (fair-append vs ws) ∙ and-assoc (fair v) (allFair vs) (allFair ws)
-
-module _ (s : List ℕ) (i : ℕ) where
-  -- a token has no value, or one
-  abbrev AtMostOne : List Value → Type 0
-  AtMostOne vs = (vs ≡ []) ⊎ ((v : Value) × (vs ≡ v ∷ []))
-
-  at-most-one : AtMostOne (valueAt s i)
-  unfolding valueBy
-  at-most-one =
-      let k = kind s i in
-      choose-by AtMostOne (eqb k 18) _ _ (λ a. choose-by AtMostOne (spells pushLiteral s i) _ _ (λ b. inr (_, refl)) (λ b. inl refl))
-      (λ a. choose-by AtMostOne (eqb k 20) _ _ (λ b. inr (_, refl))
-      (λ b. choose-by AtMostOne (eqb k 21) _ _ (λ c. inr (_, refl))
-      (λ c. choose-by AtMostOne (eqb k 22) _ _ (λ d. choose-by AtMostOne (eqb (before s i) 4) _ _ (λ f. inr (_, refl)) (λ f. inl refl))
-      (λ d. choose-by AtMostOne (or (eqb k 23) (eqb k 24)) _ _ (λ f. inr (_, refl)) (λ f. choose-by AtMostOne (eqb k 25) _ _ (λ g. inr (_, refl)) (λ g. inl refl))))))
 
 values-fair : (level : Level) (s : List ℕ) (n : ℕ) → RightTo level s n → allFair (valuesTo s n) ≡ true
 unfolding valuesTo allFair

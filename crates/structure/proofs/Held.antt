@@ -3,6 +3,7 @@
 use Prim.Native.Nat.{ℕ, zero, suc, _+_, _-_, _≤_, _<_}
 use mathlib.Core.Path.{_≡_, refl, sym, ap, _∙_}
 use mathlib.Core.Bool.{Bool, true, false, not}
+use mathlib.Core.Logic.{_⊎_, inl, inr}
 use mathlib.Core.List.{List, [], _∷_, _++_, append-assoc, append-nil}
 use mathlib.Core.Option.{Option, none, some}
 use native.Mathlib.Numerals.{add-one}
@@ -86,6 +87,20 @@ module _ (s : List ℕ) (i : ℕ) where
 
   values-other : (p : List ℕ) → (length p ≡ 12 → ⊥) → spells p s i ≡ true → valuesTo s (i + 1) ≡ valuesTo s i
   values-other p n e = let (a, b) = other-word p n e in values-word a b
+
+-- a token has no value, or one
+abbrev pub AtMostOne : List Value → Type 0
+AtMostOne vs = (vs ≡ []) ⊎ ((v : Value) × (vs ≡ v ∷ []))
+
+pub at-most-one : (s : List ℕ) (i : ℕ) → AtMostOne (valueAt s i)
+unfolding valueBy
+at-most-one s i =
+    let k = kind s i in
+    choose-by AtMostOne (eqb k 18) _ _ (λ a. choose-by AtMostOne (spells pushLiteral s i) _ _ (λ b. inr (_, refl)) (λ b. inl refl))
+    (λ a. choose-by AtMostOne (eqb k 20) _ _ (λ b. inr (_, refl))
+    (λ b. choose-by AtMostOne (eqb k 21) _ _ (λ c. inr (_, refl))
+    (λ c. choose-by AtMostOne (eqb k 22) _ _ (λ d. choose-by AtMostOne (eqb (before s i) 4) _ _ (λ f. inr (_, refl)) (λ f. inl refl))
+    (λ d. choose-by AtMostOne (or (eqb k 23) (eqb k 24)) _ _ (λ f. inr (_, refl)) (λ f. choose-by AtMostOne (eqb k 25) _ _ (λ g. inr (_, refl)) (λ g. inl refl))))))
 
 spells-word : (p s : List ℕ) (i : ℕ) → spells p s i ≡ true → is s i 18 ≡ true
 unfolding spells

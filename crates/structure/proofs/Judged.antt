@@ -3,8 +3,8 @@
 use Prim.Native.Nat.{ℕ, zero, suc, _+_, _≤_, _<_}
 use mathlib.Core.Path.{_≡_, refl, sym, ap, _∙_, subst}
 use mathlib.Core.Bool.{Bool, true, false}
-use mathlib.Core.Logic.{inl, inr, ⊎-elim}
-use mathlib.Core.List.{List, [], _∷_, _++_, append-assoc, append-nil}
+use mathlib.Core.Logic.{_⊎_, inl, inr, ⊎-elim}
+use mathlib.Core.List.{List, [], _∷_, _++_, append-assoc, append-nil, List·Memᴰ, List·Memᴰ·not-nil, List·Memᴰ·append-cases, List·Memᴰ·eq-of-singleton}
 use native.Mathlib.Omega.{arith}
 use lib.Dec.{eqb}
 use lib.ListN.{length}
@@ -30,9 +30,9 @@ use Rattle.structure.specs.declared.Why.the-variants.{Over, Zero, NotSca
 use Rattle.structure.specs.Refusals.{because}
 use Rattle.structure.specs.Tokens.{spells}
 use Rattle.structure.specs.Values.{valueOf, number, negated, isInteger, integerOf, integer, opening, literalBytes, string, character, repeatFault, peekFault, literalFault, wordFault, numberFault, faultAt, orFault, faultsFrom, faults}
-use Rattle.structure.specs.Held.{Value, exact, least, most, peeked, single, bytes, pushes, before, repeatValue, numberValue, valueBy, valueAt, valuesTo, Counts, Peeks, NoCharacter, Right, Wrong, RightTo, FirstWrong}
+use Rattle.structure.specs.Held.{Value, exact, least, most, peeked, single, bytes, pushes, before, repeatValue, numberValue, valueBy, valueAt, valuesTo, rulesValues, Counts, TooMany, NoTimes, NoCharacter, Right, Wrong, RightTo, FirstWrong}
 use Rattle.structure.specs.Structure.{rules, grammar}
-use Rattle.structure.proofs.Held.{before-next, values-next, grammar-values}
+use Rattle.structure.proofs.Held.{is-kind, at-most-one, before-next, values-next, grammar-values}
 use Rattle.structure.proofs.Numerals.{number-digits, integer-digits}
 
 -- what holds of both branches of two choices by one test
@@ -60,7 +60,7 @@ module _ (level : Level) (s : List ℕ) (i : ℕ) where
 
   peek-judged : isInteger s i ≡ true → (d : Decimal) → integerOf s i ≡ d → Judged (peekFault s i d) (peeked (integer s i) ∷ [])
   peek-judged o (Decimal.Is m) e = is-right (peeked (integer s i)) (inr (m, e, integer-is m e))
-  peek-judged o Decimal.Over e = (peeked (integer s i), refl, (e, refl))
+  peek-judged o Decimal.Over e = (peeked (integer s i), refl, (o, e, refl))
   peek-judged o Decimal.NotDigits e = absurd (integer-digits s i o e)
 
   -- ---- counts
@@ -135,6 +135,23 @@ module _ (level : Level) (s : List ℕ) (i : ℕ) where
       let (x, y) = or-false (is s i 23) (is s i 24) f in
       literal-none (or-neither (is s i 23) _ x (or-neither (is s i 24) (is s i 25) y g)) [] has-none))))))
 
+  positive-not : (n : ℕ) {r : Refusal} → Counts s i n → 1 ≤ n → TooMany s i r ⊎ NoTimes s i r → ⊥
+  positive-not n e h (inl (f, q)) = let z : _≡_ {A = ℕ} 0 1 = cc in omega arith
+  positive-not n e h (inr (f, q)) = let z : n ≡ 0 = cc in omega arith
+
+  -- no value is both
+  right-not-wrong : (v : Value) (r : Refusal) → Right level s i v → Wrong level s i v r → ⊥
+  right-not-wrong (exact n) r (e, h) w = positive-not n e h w
+  right-not-wrong (least n) r e (f, q) = let z : _≡_ {A = ℕ} 0 1 = cc in omega arith
+  right-not-wrong (most n) r (e, h) w = positive-not n e h w
+  right-not-wrong (peeked n) r (inl (d, z)) (o, f, q) =
+      let k = is-kind s i 22 d in
+      or-by (is s i 20) (is s i 21) o (λ a. omega (arith, is-kind s i 20 a)) (λ a. omega (arith, is-kind s i 21 a))
+  right-not-wrong (peeked n) r (inr (m, e, z)) (o, f, q) = let y : _≡_ {A = ℕ} 0 1 = cc in omega arith
+  right-not-wrong (single c) r e (k, f, q) = let z : _≡_ {A = ℕ} 0 1 = cc in omega arith
+  right-not-wrong (bytes b) r e (k, f, q) = let z : _≡_ {A = ℕ} 0 1 = cc in omega arith
+  right-not-wrong pushes r e (f, q) = let z : _≡_ {A = ℕ} 0 1 = cc in omega arith
+
 -- ---- a text
 
 module _ (level : Level) (s : List ℕ) where
@@ -173,6 +190,31 @@ module _ (level : Level) (s : List ℕ) where
   -- where no fault is found, every token's value is what its bytes say, and allowed
   pub sound-right : faults level s ≡ Sound → RightTo level s (length (toks s))
   sound-right e i h v q = right-at i (first-fault Sound e i (omega arith) (omega arith)) v q
+
+  -- and where every value is, none is found
+  pub right-sound : RightTo level s (length (toks s)) → faults level s ≡ Sound
+  right-sound h = go (faults level s) refl
+    where
+      go : (f : Fault) → faults level s ≡ f → f ≡ Sound
+      go Sound e = refl
+      go (At r) e =
+          let (i, a, b, f, g) = first-fault (At r) e in
+          let (v, q, w) = subst (λ (f : Fault). Judged level s i f (valueAt s i)) f (judged level s i) in
+          absurd (right-not-wrong level s i v r (h i (omega arith) v q) w)
+
+  token-of : (n : ℕ) (v : Value) → List·Memᴰ v (valuesTo s n) → (i : ℕ) × (i < n) × (valueAt s i ≡ v ∷ [])
+  unfolding valuesTo
+  token-of zero v m = absurd (List·Memᴰ·not-nil m)
+  token-of (suc n) v m =
+      ⊎-elim (λ l. let (i, h, e) = token-of n v l in (i, omega arith, e))
+      (λ l. ⊎-elim (λ e. absurd (List·Memᴰ·not-nil (rw e at l))) (λ a. let (w, e) = a in let z : v ≡ w = List·Memᴰ·eq-of-singleton (rw e at l) in (n, omega arith, e ∙ ap (λ (x : Value). x ∷ []) (sym z))) (at-most-one s n))
+      (List·Memᴰ·append-cases (valuesTo s n) m)
+
+  -- so every value of the trees is what the bytes of a token say, and allowed
+  pub each-right : (us : List (Rule Span)) → grammar level s ≡ rules us → faults level s ≡ Sound → (v : Value) → List·Memᴰ v (rulesValues us) → (i : ℕ) × (valueAt s i ≡ v ∷ []) × Right level s i v
+  each-right us g e v m =
+      let (i, h, q) = token-of (length (toks s)) v (rw (grammar-values level s us g) at m) in
+      (i, q, sound-right e i h v q)
 
   values-split : (i n : ℕ) → i ≤ n → (vs : List Value) × (valuesTo s n ≡ valuesTo s i ++ vs)
   unfolding valuesTo
