@@ -1,6 +1,6 @@
 -- Where no fault is found, the counts of the trees are those that can be printed and read back: each value of a token is fair since it is right,
 -- and the trees have no others.
-use Prim.Native.Nat.{ℕ, zero, suc, _≤_, _<_}
+use Prim.Native.Nat.{ℕ, zero, suc, _≤_}
 use mathlib.Core.Path.{_≡_, refl, sym, ap, _∙_}
 use mathlib.Core.Bool.{Bool, true, not}
 use mathlib.Core.Logic.{⊎-elim}

@@ -11,14 +11,13 @@ use native.Mathlib.Omega.{arith}
 use lib.Dec.{leb, eqb}
 use lib.ListN.{length}
 use borrow.Author.Tests.{leb-true, eqb-true, eq-eqb, ne-eqb}
-use Rattle.text.specs.Booleans.{choose, and, or}
+use Rattle.text.specs.Booleans.{choose, or}
 use Rattle.text.specs.Words.{begins, push}
 use Rattle.text.proofs.Booleans.{and-true, and-both, and-first, and-second, or-by, choose-by, choose-false, choose-true, split}
 use Rattle.token.specs.Table.{toks, kind, start, end, is, word, label}
 use Rattle.token.specs.Tokens.{pushLiteral}
 use Rattle.table.specs.Tree.{Span, Atom, peekSlice, Wrap, plain, nodeTag, Tree, leaf, one, two, Rule, placed, endsAt, startsAt}
-use Rattle.table.specs.declared.Join.{Join}
-use Rattle.table.specs.declared.Join.the-variants.{Seq, Choice}
+use Rattle.table.specs.declared.Join.the-variants.{Seq}
 use Rattle.table.specs.declared.Unary.{Unary}
 use Rattle.table.specs.declared.Unary.the-variants.{PosPred, NegPred, Push}
 use Rattle.structure.specs.declared.Level.{Level}
@@ -26,9 +25,9 @@ use Rattle.structure.specs.declared.Level.the-variants.{Tagged, Plain}
 use Rattle.table.specs.declared.End.the-variants.{Open, At}
 use Rattle.structure.specs.Tokens.{across, same, spells, peek}
 use Rattle.structure.specs.Values.{number, isInteger, integer, string, character}
-use Rattle.structure.specs.Structure.{Parsed, got, refused, next, want, join, closed, prefixed, postfixed, inTag, post, postfixAt, sliceTo, slice, slices, leafAt, Call, expr, term, signed, node, chain, posts, body, place, Run, isName, silent, markAt, pastMark, pastBar, Ruled, rules, unruled, withRule, Ruling, ruling, noRule, thenRules, ruleFrom, rulesUpTo, docsIn, docs, grammar}
-use Rattle.structure.specs.Held.{Value, exact, least, most, peeked, single, bytes, pushes, unaryValues, wrapValues, atomValues, treeValues, rulesValues, before, repeatValue, numberValue, valueBy, valueAt, valuesTo, valuesIn}
-use Rattle.structure.proofs.Steps.{inside-is, no-tree, next-got, want-got, opened-got, posts-by}
+use Rattle.structure.specs.Structure.{Parsed, got, refused, next, want, join, closed, prefixed, postfixed, inTag, post, postfixAt, sliceTo, slice, leafAt, Call, expr, term, signed, node, chain, posts, body, place, Run, isName, silent, markAt, pastMark, pastBar, Ruled, rules, unruled, withRule, Ruling, ruling, noRule, thenRules, ruleFrom, rulesUpTo, docsIn, docs, grammar}
+use Rattle.structure.specs.Held.{Value, exact, least, most, peeked, single, bytes, pushes, unaryValues, wrapValues, atomValues, treeValues, rulesValues, before, numberValue, valueBy, valueAt, valuesTo, valuesIn}
+use Rattle.structure.proofs.Steps.{inside-is, next-got, want-got, opened-got, posts-by}
 use Rattle.structure.proofs.Cases.{PostfixRead, opt, rep, once, both, greatest, postfix-read, LeafRead, literal, sliced, ident, str, insens, ranges, leaf-read, rule-read}
 use Rattle.structure.proofs.Cases as Cases
 use Rattle.structure.proofs.Fuel.{went}
@@ -433,12 +432,11 @@ module _ (level : Level) (s : List ℕ) where
       let b = past-bar-on s j in
       let q : n ≡ c .past + 1 = c .next in
       let start : valuesTo s (pastBar s j) ≡ valuesTo s at =
-          values-bar s j ∙ values-kind s (pastMark s i) 2 (c .braced) refl ∙ values-mark s i ∙ values-kind s (at + 1) 1 (c .tied) refl ∙ values-name s at (c .named) in
-      (
+      values-bar s j ∙ values-kind s (pastMark s i) 2 (c .braced) refl ∙ values-mark s i ∙ values-kind s (at + 1) 1 (c .tied) refl ∙ values-name s at (c .named) in (
         omega arith,
         omega arith,
         ap (valuesTo s) q ∙ values-kind s (c .past) 3 (c .shut) refl ∙ expr-values level s 0 (pastBar s j) (c .body) (c .past) (c .read) ∙ ap (λ (x : List Value). x ++ treeValues (c .body)) start
-        ∙ ap (λ (x : Rule Span). valuesTo s at ++ treeValues (x .tree)) (sym (c .rule)),
+            ∙ ap (λ (x : Rule Span). valuesTo s at ++ treeValues (x .tree)) (sym (c .rule)),
       )
 
   rules-end : (at : ℕ) (us : List (Rule Span)) → at ≤ length (toks s) → length (toks s) ≤ at → rules [] ≡ rules us → valuesIn s ≡ valuesTo s at ++ rulesValues us
