@@ -40,7 +40,8 @@ use Rattle.reader.specs.Read.{roomBy, faulty, judgedOf, listedOf, readOf}
 use Rattle.promises.specs.Open.{mostOpen, Limited}
 use Rattle.promises.specs.Styled.{markedRule, markedRules}
 use Rattle.promises.specs.Marked.{depths}
-use Rattle.promises.specs.Round.{countedRules, nonzeroRules}
+use Rattle.structure.specs.Counts.{countedRules}
+use Rattle.promises.specs.Round.{nonzeroRules}
 use Rattle.promises.proofs.Narrow.{tables-counted}
 use Rattle.promises.proofs.Rules.{reads}
 use Rattle.promises.proofs.Sinks.{grammar-deep}

@@ -38,7 +38,7 @@ use Rattle.structure.proofs.Rules.{rule-then}
 use Rattle.promises.specs.Open.{openAt, mostTo, FirstOver}
 use Rattle.promises.specs.Pieces.{Piece, gap, tok, closes, rbrace, space, atomPieces, unaryAfter, separator, pieces, markPieces, rulePieces, rulesPieces, Stand}
 use Rattle.promises.specs.Marked.{depth, depths, least, stands, Fits, back, FitRules}
-use Rattle.promises.specs.Round.{unaryCounts, counted, countedRules}
+use Rattle.structure.specs.Counts.{unaryCounts, counted, countedRules}
 use Rattle.promises.proofs.Values as Values
 use Rattle.promises.proofs.Values.{spells-by}
 use Rattle.promises.proofs.Shapes.{cut, stand-as, Begins, begin-by}

@@ -14,7 +14,8 @@ use Rattle.forms.specs.declared.Style.the-variants.{Full, Short}
 use Rattle.printer.specs.Bounds.{Narrow}
 use Rattle.promises.specs.Styled.{marked}
 use Rattle.promises.specs.Marked.{depth, depths}
-use Rattle.promises.specs.Round.{small, nonzero, nonzeroRules, pushing, holdsPushLiteral, Printable}
+use Rattle.structure.specs.Counts.{small}
+use Rattle.promises.specs.Round.{nonzero, nonzeroRules, pushing, holdsPushLiteral, Printable}
 use Rattle.promises.specs.Witness.{every, unpushed, nodesHeld, rulesHeld, storeHeld, everyKind, everyMark}
 use Rattle.promises.proofs.Opened.{opened}
 use Rattle.promises.proofs.Deep.{table-most}

@@ -3,6 +3,7 @@
 use Prim.Native.Nat.{ℕ, zero, suc, _+_, _-_, _≤_, _<_}
 use mathlib.Core.Path.{_≡_, refl, sym, ap, _∙_}
 use mathlib.Core.Bool.{Bool, true, false, not}
+use mathlib.Core.Logic.{_⊎_, inl, inr}
 use mathlib.Core.List.{List, [], _∷_, _++_, append-assoc, append-nil}
 use mathlib.Core.Option.{Option, none, some}
 use native.Mathlib.Numerals.{add-one}
@@ -10,14 +11,13 @@ use native.Mathlib.Omega.{arith}
 use lib.Dec.{leb, eqb}
 use lib.ListN.{length}
 use borrow.Author.Tests.{leb-true, eqb-true, eq-eqb, ne-eqb}
-use Rattle.text.specs.Booleans.{choose, and, or}
+use Rattle.text.specs.Booleans.{choose, or}
 use Rattle.text.specs.Words.{begins, push}
 use Rattle.text.proofs.Booleans.{and-true, and-both, and-first, and-second, or-by, choose-by, choose-false, choose-true, split}
 use Rattle.token.specs.Table.{toks, kind, start, end, is, word, label}
 use Rattle.token.specs.Tokens.{pushLiteral}
 use Rattle.table.specs.Tree.{Span, Atom, peekSlice, Wrap, plain, nodeTag, Tree, leaf, one, two, Rule, placed, endsAt, startsAt}
-use Rattle.table.specs.declared.Join.{Join}
-use Rattle.table.specs.declared.Join.the-variants.{Seq, Choice}
+use Rattle.table.specs.declared.Join.the-variants.{Seq}
 use Rattle.table.specs.declared.Unary.{Unary}
 use Rattle.table.specs.declared.Unary.the-variants.{PosPred, NegPred, Push}
 use Rattle.structure.specs.declared.Level.{Level}
@@ -25,9 +25,9 @@ use Rattle.structure.specs.declared.Level.the-variants.{Tagged, Plain}
 use Rattle.table.specs.declared.End.the-variants.{Open, At}
 use Rattle.structure.specs.Tokens.{across, same, spells, peek}
 use Rattle.structure.specs.Values.{number, isInteger, integer, string, character}
-use Rattle.structure.specs.Structure.{Parsed, got, refused, next, want, join, closed, prefixed, postfixed, inTag, post, postfixAt, sliceTo, slice, slices, leafAt, Call, expr, term, signed, node, chain, posts, body, place, Run, isName, silent, markAt, pastMark, pastBar, Ruled, rules, unruled, withRule, Ruling, ruling, noRule, thenRules, ruleFrom, rulesUpTo, docsIn, docs, grammar}
-use Rattle.structure.specs.Held.{Value, exact, least, most, peeked, single, bytes, pushes, unaryValues, wrapValues, atomValues, treeValues, rulesValues, before, repeatValue, numberValue, valueBy, valueAt, valuesTo, valuesIn}
-use Rattle.structure.proofs.Steps.{inside-is, no-tree, next-got, want-got, opened-got, posts-by}
+use Rattle.structure.specs.Structure.{Parsed, got, refused, next, want, join, closed, prefixed, postfixed, inTag, post, postfixAt, sliceTo, slice, leafAt, Call, expr, term, signed, node, chain, posts, body, place, Run, isName, silent, markAt, pastMark, pastBar, Ruled, rules, unruled, withRule, Ruling, ruling, noRule, thenRules, ruleFrom, rulesUpTo, docsIn, docs, grammar}
+use Rattle.structure.specs.Held.{Value, exact, least, most, peeked, single, bytes, pushes, unaryValues, wrapValues, atomValues, treeValues, rulesValues, before, numberValue, valueBy, valueAt, valuesTo, valuesIn}
+use Rattle.structure.proofs.Steps.{inside-is, next-got, want-got, opened-got, posts-by}
 use Rattle.structure.proofs.Cases.{PostfixRead, opt, rep, once, both, greatest, postfix-read, LeafRead, literal, sliced, ident, str, insens, ranges, leaf-read, rule-read}
 use Rattle.structure.proofs.Cases as Cases
 use Rattle.structure.proofs.Fuel.{went}
@@ -86,6 +86,20 @@ module _ (s : List ℕ) (i : ℕ) where
 
   values-other : (p : List ℕ) → (length p ≡ 12 → ⊥) → spells p s i ≡ true → valuesTo s (i + 1) ≡ valuesTo s i
   values-other p n e = let (a, b) = other-word p n e in values-word a b
+
+-- a token has no value, or one
+abbrev pub AtMostOne : List Value → Type 0
+AtMostOne vs = (vs ≡ []) ⊎ ((v : Value) × (vs ≡ v ∷ []))
+
+pub at-most-one : (s : List ℕ) (i : ℕ) → AtMostOne (valueAt s i)
+unfolding valueBy
+at-most-one s i =
+    let k = kind s i in
+    choose-by AtMostOne (eqb k 18) _ _ (λ a. choose-by AtMostOne (spells pushLiteral s i) _ _ (λ b. inr (_, refl)) (λ b. inl refl))
+    (λ a. choose-by AtMostOne (eqb k 20) _ _ (λ b. inr (_, refl))
+    (λ b. choose-by AtMostOne (eqb k 21) _ _ (λ c. inr (_, refl))
+    (λ c. choose-by AtMostOne (eqb k 22) _ _ (λ d. choose-by AtMostOne (eqb (before s i) 4) _ _ (λ f. inr (_, refl)) (λ f. inl refl))
+    (λ d. choose-by AtMostOne (or (eqb k 23) (eqb k 24)) _ _ (λ f. inr (_, refl)) (λ f. choose-by AtMostOne (eqb k 25) _ _ (λ g. inr (_, refl)) (λ g. inl refl))))))
 
 spells-word : (p s : List ℕ) (i : ℕ) → spells p s i ≡ true → is s i 18 ≡ true
 unfolding spells
@@ -418,12 +432,11 @@ module _ (level : Level) (s : List ℕ) where
       let b = past-bar-on s j in
       let q : n ≡ c .past + 1 = c .next in
       let start : valuesTo s (pastBar s j) ≡ valuesTo s at =
-          values-bar s j ∙ values-kind s (pastMark s i) 2 (c .braced) refl ∙ values-mark s i ∙ values-kind s (at + 1) 1 (c .tied) refl ∙ values-name s at (c .named) in
-      (
+      values-bar s j ∙ values-kind s (pastMark s i) 2 (c .braced) refl ∙ values-mark s i ∙ values-kind s (at + 1) 1 (c .tied) refl ∙ values-name s at (c .named) in (
         omega arith,
         omega arith,
         ap (valuesTo s) q ∙ values-kind s (c .past) 3 (c .shut) refl ∙ expr-values level s 0 (pastBar s j) (c .body) (c .past) (c .read) ∙ ap (λ (x : List Value). x ++ treeValues (c .body)) start
-        ∙ ap (λ (x : Rule Span). valuesTo s at ++ treeValues (x .tree)) (sym (c .rule)),
+            ∙ ap (λ (x : Rule Span). valuesTo s at ++ treeValues (x .tree)) (sym (c .rule)),
       )
 
   rules-end : (at : ℕ) (us : List (Rule Span)) → at ≤ length (toks s) → length (toks s) ≤ at → rules [] ≡ rules us → valuesIn s ≡ valuesTo s at ++ rulesValues us

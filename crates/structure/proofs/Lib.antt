@@ -22,3 +22,5 @@ pub mod Numerals
 pub mod Ruled
 pub mod Stores
 pub mod Fine
+pub mod Judged
+pub mod Fair

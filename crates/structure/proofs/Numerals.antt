@@ -1,15 +1,15 @@
 -- What the tokens of numbers are spelled by: digits, one at least, behind a `-` in a negative one. So what they are worth is a number, or too large.
 -- Each rule for tokens hands on `Spelled`; those that give no number are `Other`.
-use Prim.Native.Nat.{ℕ, zero, suc, _+_, _-_, _*_, _≤_, _<_}
+use Prim.Native.Nat.{ℕ, suc, _+_, _-_, _*_, _≤_, _<_}
 use mathlib.Core.Path.{_≡_, refl, sym, _∙_, subst}
-use mathlib.Core.Bool.{Bool, true, false}
+use mathlib.Core.Bool.{true}
 use mathlib.Core.List.{List, [], _∷_}
 use native.Mathlib.Omega.{arith}
 use lib.Dec.{leb, ltb, eqb}
-use lib.ListN.{length, take, drop, getD, length-take}
+use lib.ListN.{length, take, drop, length-take}
 use lib.Seq.{drop-drop}
 use borrow.Author.Tests.{leb-true, ltb-true, eqb-true}
-use Rattle.text.specs.Booleans.{choose, and, all, among, nextIs}
+use Rattle.text.specs.Booleans.{all, among, nextIs}
 use Rattle.text.specs.Classes.{blanks, letter, digit, ones, openers, classOf}
 use Rattle.text.specs.Words.{startsWord}
 use Rattle.text.specs.Digits.{decimalFrom, decimalOf}

@@ -26,7 +26,7 @@ use Rattle.structure.specs.declared.Refusal.{Refusal}
 use Rattle.structure.specs.declared.Why.the-variants.{Over, Zero, PeekRange, NotScalar, NotPlain}
 use Rattle.structure.specs.Refusals.{because}
 use Rattle.structure.specs.Tokens.{spells}
-use Rattle.structure.specs.Values.{number, negated, integerOf, integer, opening, literalBytes, string, character}
+use Rattle.structure.specs.Values.{number, negated, isInteger, integerOf, integer, opening, literalBytes, string, character}
 
 -- an exact count, a minimum, a maximum, a number of a PEEK slice, a character, a string, the word PUSH_LITERAL
 pub data Value : Type 0 where
@@ -152,7 +152,7 @@ abbrev pub Wrong : Level → List ℕ → ℕ → Value → Refusal → Type 0
 Wrong level s i (exact n) r = TooMany s i r ⊎ NoTimes s i r
 Wrong level s i (least n) r = TooMany s i r
 Wrong level s i (most n) r = TooMany s i r ⊎ NoTimes s i r
-Wrong level s i (peeked n) r = (integerOf s i ≡ Decimal.Over) × (r ≡ because PeekRange (start s i))
+Wrong level s i (peeked n) r = (isInteger s i ≡ true) × (integerOf s i ≡ Decimal.Over) × (r ≡ because PeekRange (start s i))
 Wrong level s i (single c) r = NoCharacter s i r
 Wrong level s i (bytes b) r = NoCharacter s i r
 Wrong level s i pushes r = (level ≡ Plain) × (r ≡ because NotPlain (start s i))
