@@ -13,7 +13,7 @@ use Rattle.text.specs.Limits.{maxNodes, maxRules, maxStore}
 use Rattle.text.specs.Splice.{fronted}
 use Rattle.text.proofs.Booleans.{split}
 use Rattle.table.specs.Tree.{rulesStored}
-use Rattle.table.specs.Flat.{nodesOf, recordsOf}
+use Rattle.table.specs.Flat.{recordsOf}
 use Rattle.table.specs.Check.{tables}
 use Rattle.table.specs.declared.TableCheck.the-variants as Table
 use Rattle.table.specs.declared.Named.{Named}

@@ -12,9 +12,9 @@ pub mod Leaves
 pub mod Checks
 pub mod Cycle
 pub mod Rules
-pub mod Ruled
-pub mod Stores
 pub mod Faults
 pub mod Cases
+pub mod Ruled
+pub mod Stores
 pub mod Reasons
 pub mod Fine
