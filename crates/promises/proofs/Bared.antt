@@ -9,7 +9,7 @@ use Rattle.text.specs.Booleans.{and}
 use Rattle.table.specs.declared.Join.{Join}
 use Rattle.table.specs.Tree.{Atom, Wrap, Tree, leaf, one, two, Rule}
 use Rattle.table.specs.Check.{isName, fineWrap, fine, fineRule, fineRules}
-use Rattle.promises.specs.Round.{wrapCounts, counted, countedRules}
+use Rattle.structure.specs.Counts.{wrapCounts, counted, countedRules}
 use Rattle.promises.specs.Marked.{opens}
 use Rattle.promises.proofs.Counts.{opensAll}
 

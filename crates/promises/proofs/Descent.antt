@@ -33,7 +33,8 @@ use Rattle.structure.proofs.Steps.{next-good, want-true, opened-false}
 use Rattle.structure.proofs.Grammar.{expr-law, chain-law, term-law, signed-law, node-law, posts-law}
 use Rattle.structure.proofs.Cycle.{finished}
 use Rattle.promises.specs.Pieces.{Piece, tok, closes, enclosed, atomPieces, unaryBefore, unaryAfter, joinKind, separator, pieces, Stand}
-use Rattle.promises.specs.Round.{unaryCounts, atomCounts, counted, unaryDepth, depth, sight}
+use Rattle.structure.specs.Counts.{unaryCounts, atomCounts, counted}
+use Rattle.promises.specs.Round.{unaryDepth, depth, sight}
 use Rattle.promises.proofs.Values.{yes, no, spells-by, label-is}
 use Rattle.promises.proofs.Leaves.{gots, posted, posted-first, Ends, unposted, unsliced, leaf-of}
 use Rattle.promises.proofs.Shapes.{cut, stand-as, Begins, begins-atom, begin-by}

@@ -18,7 +18,8 @@ use Rattle.build.specs.Rules.{rulesRead}
 use Rattle.promises.specs.Pieces.{spelled, rulesPieces}
 use Rattle.promises.specs.Pairs.{Pair, cut}
 use Rattle.promises.specs.Styled.{markedRules}
-use Rattle.promises.specs.Round.{countedRules, holdsPushLiteral, seen, Printable, ReadAs}
+use Rattle.structure.specs.Counts.{countedRules}
+use Rattle.promises.specs.Round.{holdsPushLiteral, seen, Printable, ReadAs}
 use Rattle.promises.specs.Fewest.{opensTo, opensIn, needs}
 use Rattle.promises.proofs.Laid.{tokened}
 use Rattle.promises.proofs.Lays.{held-rules}

@@ -18,7 +18,8 @@ use Rattle.forms.specs.declared.Place.{Place}
 use Rattle.forms.specs.declared.Place.the-variants.{Alone, LeftOf, RightOf}
 use Rattle.forms.specs.declared.Form.the-variants.{Joined}
 use Rattle.forms.specs.Printing.{brackets, atomForm, wrapForm, under}
-use Rattle.promises.specs.Round.{wrapCounts, counted, countedRules, pushing, holdsPushLiteral, readBack, sight, seen}
+use Rattle.structure.specs.Counts.{wrapCounts, counted, countedRules}
+use Rattle.promises.specs.Round.{pushing, holdsPushLiteral, readBack, sight, seen}
 use Rattle.forms.specs.declared.Style.{Style}
 use Rattle.forms.specs.declared.Style.the-variants.{Full, Short}
 use Rattle.promises.specs.Styled.{marked, markedRule, markedRules}

@@ -3,7 +3,6 @@ use Prim.Native.Nat.{ℕ, _+_, _≤_, max}
 use mathlib.Core.Path.{_≡_}
 use mathlib.Core.Bool.{Bool, true, false, not}
 use mathlib.Core.List.{List, [], _∷_, map}
-use lib.Dec.{leb, eqb}
 use lib.ListN.{length, getD}
 use Rattle.text.specs.Booleans.{and, or}
 use Rattle.text.specs.Limits.{maxNodes, maxRules, maxText, maxOpen}
@@ -11,8 +10,6 @@ use Rattle.table.specs.declared.Unary.{Unary}
 use Rattle.table.specs.declared.Unary.the-variants.{PosPred, NegPred, Opt, Rep, RepOnce, RepExact, RepMin, RepMax, RepMinMax, Push}
 use Rattle.table.specs.declared.Sort.{Sort}
 use Rattle.table.specs.declared.Sort.the-variants.{Str, Insens, Ident, PushLiteral}
-use Rattle.table.specs.declared.End.{End}
-use Rattle.table.specs.declared.End.the-variants.{Open, At}
 use Rattle.table.specs.Tree.{Atom, text, range, peekSlice, Wrap, plain, nodeTag, Tree, leaf, one, two, Rule, Nowhere, ruleBy, asideRule, counts, rulesStored}
 use Rattle.table.specs.Record.{rulesIn, rulesOf}
 use Rattle.table.specs.Check.{tables}
@@ -26,17 +23,11 @@ use Rattle.reader.specs.Read as Read
 use Rattle.build.specs.Rules as Built
 use Rattle.reader.specs.Read.{readOf}
 use Rattle.table.specs.Regroup.{regroup, untagged}
+use Rattle.structure.specs.Counts.{isZero}
 use Rattle.structure.specs.declared.Level.{Level}
 use Rattle.structure.specs.declared.Level.the-variants.{Tagged, Plain}
 
 -- ---- numbers
-
--- a number of 32 bits
-abbrev pub small : ℕ → Bool
-small n = leb n 4294967295
-
-abbrev pub isZero : ℕ → Bool
-isZero n = eqb n 0
 
 -- no zero exact count or zero maximum
 abbrev pub unaryNonzero : Unary → Bool
@@ -67,44 +58,6 @@ nonzeroRules (r ∷ rs) = and (nonzero (r .tree)) (nonzeroRules rs)
 -- every number of a table is of 32 bits
 pub record Narrow (ns : List ℕ) : Type 0 where
   pub at : (k : ℕ) → getD ns k 0 ≤ 4294967295
-
--- no zeros, and each number is of 32 bits
-abbrev pub positive : ℕ → Bool
-positive n = and (small n) (not (isZero n))
-
-abbrev pub unaryCounts : Unary → Bool
-unaryCounts PosPred = true
-unaryCounts NegPred = true
-unaryCounts Opt = true
-unaryCounts Rep = true
-unaryCounts RepOnce = true
-unaryCounts (RepExact n) = positive n
-unaryCounts (RepMin n) = small n
-unaryCounts (RepMax n) = positive n
-unaryCounts (RepMinMax n m) = and (small n) (positive m)
-unaryCounts Push = true
-
-abbrev pub wrapCounts : Wrap → Bool
-wrapCounts (plain u) = unaryCounts u
-wrapCounts (nodeTag b) = true
-
-abbrev pub endCounts : End → Bool
-endCounts Open = true
-endCounts (At n) = small n
-
-abbrev pub atomCounts : Atom → Bool
-atomCounts (text k b) = true
-atomCounts (range x y) = true
-atomCounts (peekSlice x e) = and (small x) (endCounts e)
-
-unfoldable pub counted : {P : Type 0} → Tree P → Bool
-counted (leaf s a) = atomCounts a
-counted (one s o t) = and (wrapCounts o) (counted t)
-counted (two s j a b) = and (counted a) (counted b)
-
-unfoldable pub countedRules : {P : Type 0} → List (Rule P) → Bool
-countedRules [] = true
-countedRules (r ∷ rs) = and (counted (r .tree)) (countedRules rs)
 
 -- ---- how many brackets are open at once in printed text, those of Range, tags, PUSH and PUSH_LITERAL too
 

@@ -180,9 +180,12 @@ leaf-read o s at e =
 -- a rule, by its tokens
 pub record RuleRead (level : Level) (s : List ℕ) (at : ℕ) (r : Rule Span) (n : ℕ) : Type 0 where
   pub named : isName s at ≡ true
+  pub tied : is s (at + 1) 1 ≡ true
+  pub braced : is s (pastMark s (at + 1 + 1)) 2 ≡ true
   pub body : Tree Span
   pub past : ℕ
   pub read : Run level s (expr 0 (pastBar s (pastMark s (at + 1 + 1) + 1))) ≡ got body past
+  pub shut : is s past 3 ≡ true
   pub rule : r ≡ record { name = word s at; mark = markAt s (at + 1 + 1); tree = body; place = across s at at }
   pub next : n ≡ past + 1
 
@@ -191,9 +194,9 @@ unfolding ruleFrom
 rule-read level s at e =
     split (isName s at) _ _
     (λ v e₀.
-    let (p₁, e₁) = want-rule s (at + 1) 1 _ (omega arith) e₀ in
-    let (p₂, e₂) = want-rule s (pastMark s (at + 1 + 1)) 2 _ (omega arith) e₁ in
+    let (v₁, p₁, e₁) = want-rule s (at + 1) 1 _ (omega arith) e₀ in
+    let (v₂, p₂, e₂) = want-rule s (pastMark s (at + 1 + 1)) 2 _ (omega arith) e₁ in
     let (t, i, e₃, e₄) = rule-got _ _ e₂ in
-    let (p₃, e₅) = want-rule s i 3 _ (omega arith) e₄ in
-    record { named = v; body = t; past = i; read = e₃; rule = cc; next = cc })
+    let (v₃, p₃, e₅) = want-rule s i 3 _ (omega arith) e₄ in
+    record { named = v; tied = v₁; braced = v₂; body = t; past = i; read = e₃; shut = v₃; rule = cc; next = cc })
     (λ v e₀. let z : _≡_ {A = ℕ} 0 1 = cc in absurd (omega arith)) e

@@ -18,3 +18,7 @@ pub mod Ruled
 pub mod Stores
 pub mod Reasons
 pub mod Fine
+pub mod Held
+pub mod Numerals
+pub mod Judged
+pub mod Fair

@@ -112,9 +112,9 @@ past-bar-on s i = by-test (is s i 11) i .1
 no-rule : {P : Type 0} {x : Refusal} {r : Rule Span} {n : ℕ} → noRule x ≡ ruling r n → P
 no-rule e = let z : _≡_ {A = ℕ} 0 1 = cc in absurd (omega arith)
 
-pub want-rule : (s : List ℕ) (i k : ℕ) (f : ℕ → Ruling) {r : Rule Span} {n : ℕ} → 0 < k → want noRule s i k f ≡ ruling r n → (i < length (toks s)) × (f (i + 1) ≡ ruling r n)
+pub want-rule : (s : List ℕ) (i k : ℕ) (f : ℕ → Ruling) {r : Rule Span} {n : ℕ} → 0 < k → want noRule s i k f ≡ ruling r n → (is s i k ≡ true) × (i < length (toks s)) × (f (i + 1) ≡ ruling r n)
 unfolding want
-want-rule s i k f p e = split (is s i k) _ _ (λ v e₀. (inside-is s i k p v, e₀)) (λ v e₀. no-rule e₀) e
+want-rule s i k f p e = split (is s i k) _ _ (λ v e₀. (v, inside-is s i k p v, e₀)) (λ v e₀. no-rule e₀) e
 
 pub rule-got : (m : Parsed) (f : Tree Span → ℕ → Ruling) {r : Rule Span} {n : ℕ} → ruleOf m f ≡ ruling r n → (t : Tree Span) × (i : ℕ) × (m ≡ got t i) × (f t i ≡ ruling r n)
 unfolding ruleOf
@@ -140,10 +140,10 @@ unfolding ruleFrom
 rule-went level s at r n w e =
     split (isName s at) _ _
     (λ v e₀.
-    let (p₁, e₁) = want-rule s (at + 1) 1 _ (omega arith) e₀ in
-    let (p₂, e₂) = want-rule s (pastMark s (at + 1 + 1)) 2 _ (omega arith) e₁ in
+    let (v₁, p₁, e₁) = want-rule s (at + 1) 1 _ (omega arith) e₀ in
+    let (v₂, p₂, e₂) = want-rule s (pastMark s (at + 1 + 1)) 2 _ (omega arith) e₁ in
     let (t, i, e₃, e₄) = rule-got _ _ e₂ in
-    let (p₃, e₅) = want-rule s i 3 _ (omega arith) e₄ in
+    let (v₃, p₃, e₅) = want-rule s i 3 _ (omega arith) e₄ in
     let y : i + 1 ≡ n = cc in
     let x : record { name = word s at; mark = markAt s (at + 1 + 1); tree = t; place = across s at at } ≡ r = cc in
     let c = ap (λ (z : Rule Span). count (z .tree)) x in

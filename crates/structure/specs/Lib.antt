@@ -4,3 +4,5 @@ pub mod Tokens
 pub mod Values
 pub mod Structure
 pub mod Answers
+pub mod Counts
+pub mod Held
