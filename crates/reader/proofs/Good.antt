@@ -1,15 +1,19 @@
 -- What is read is good: the tables of a reading that succeeded pass the check, since its rules are fine and fit the limits.
-use Prim.Native.Nat.{ℕ, _≤_, min}
-use mathlib.Core.Path.{_≡_}
+use Prim.Native.Nat.{ℕ, _*_, _≤_}
+use mathlib.Core.Path.{_≡_, sym, ap, _∙_}
 use mathlib.Core.Bool.{true}
 use mathlib.Core.List.{List}
 use native.Mathlib.Omega.{arith}
-use lib.ListN.{length}
-use Rattle.text.specs.Limits.{maxNodes, maxRules, maxText, maxStore}
-use Rattle.table.specs.Tree.{counts, rulesStored}
+use lib.ListN.{length, take, drop}
+use lib.Seq.{take-at}
+use Rattle.text.specs.Limits.{maxNodes, maxRules}
+use Rattle.text.specs.Splice.{fronted}
+use Rattle.table.specs.Tree.{rulesStored}
+use Rattle.table.specs.Record.{nodeSize, ruleSize}
 use Rattle.table.specs.Flat.{nodesOf, recordsOf}
 use Rattle.table.specs.Check.{fineRules, tables}
 use Rattle.table.specs.declared.TableCheck.the-variants as Table
+use Rattle.table.proofs.Rules.{length-nodes, length-records}
 use Rattle.table.proofs.Tables.{flat-passes}
 use Rattle.structure.specs.declared.Level.{Level}
 use Rattle.structure.proofs.Fine.{grammar-fine}
@@ -17,7 +21,7 @@ use Rattle.structure.proofs.Stores.{stored-fits}
 use Rattle.build.specs.Rules.{rulesRead}
 use Rattle.reader.specs.declared.Reading.{Reading}
 use Rattle.reader.specs.declared.Reading.the-variants as Reading
-use Rattle.reader.specs.Read.{readOf, roomForNodes, roomForRules}
+use Rattle.reader.specs.Read.{roomForNodes, roomForRules, readOf, leftIn, Leaves}
 use Rattle.reader.proofs.Counts.{read-text, read-counts}
 use Rattle.reader.proofs.Answers.{sound-characters}
 
@@ -35,7 +39,15 @@ module _ (level : Level) (s : List ℕ) (n r b : ℕ) {x y z : ℕ} (e : readOf 
       flat-passes (rulesRead level s) read-fine (omega (arith, c .nodes-fit)) (omega (arith, c .rules-fit))
       (omega (arith, stored-fits s level (rulesRead level s) (c .read), read-text level s n r b e .short))
 
--- and so are those that a call leaves, whatever it was lent
-pub left-good : (level : Level) (s ns rs : List ℕ) (b : ℕ) {x y z : ℕ} → readOf level s (roomForNodes ns) (roomForRules rs) b ≡ Reading.Read x y z
-    → tables (nodesOf (rulesRead level s)) (recordsOf (rulesRead level s)) (rulesStored (rulesRead level s)) ≡ Table.Good
-left-good level s ns rs b e = read-good level s (roomForNodes ns) (roomForRules rs) b e (omega arith) (omega arith)
+-- and so is what a call leaves in the lent buffers, as far as it is used, whatever was lent
+module _ (level : Level) (s ns rs st ns′ rs′ st′ : List ℕ) {x y z : ℕ} (e : readOf level s (roomForNodes ns) (roomForRules rs) (length st) ≡ Reading.Read x y z) (h : Leaves level s (Reading.Read x y z) ns rs st ns′ rs′ st′) where
+  front : (t o o′ : List ℕ) (k : ℕ) → o′ ≡ leftIn (Reading.Read x y z) t o → k ≡ length t → take k o′ ≡ t
+  unfolding leftIn fronted
+  front t o o′ k q l = ap (take k) q ∙ take-at t (drop (length t) o) k (sym l)
+
+  pub used-good : tables (take (nodeSize * x) ns′) (take (ruleSize * y) rs′) (take z st′) ≡ Table.Good
+  used-good =
+      let us = rulesRead level s in
+      let c = read-counts level s (roomForNodes ns) (roomForRules rs) (length st) e in
+      rw (front (nodesOf us) ns ns′ (nodeSize * x) (h .nodes) (omega (arith, c .nodes-are, length-nodes 0 0 us)), front (recordsOf us) rs rs′ (ruleSize * y) (h .rules) (omega (arith, c .rules-are, length-records 0 0 us)), front (rulesStored us) st st′ z (h .store) (c .store-is))
+      (read-good level s (roomForNodes ns) (roomForRules rs) (length st) e (omega arith) (omega arith))

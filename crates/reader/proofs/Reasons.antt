@@ -1,14 +1,15 @@
 -- Past the list of tokens a text is refused by structure, by a value or for want of room, and for nothing else.
-use Prim.Native.Nat.{ℕ}
+use Prim.Native.Nat.{ℕ, _≤_}
 use mathlib.Core.Path.{_≡_, refl}
 use mathlib.Core.Logic.{_⊎_, inl, inr}
 use mathlib.Core.List.{List}
+use native.Mathlib.Omega.{arith}
 use lib.Dec.{leb}
 use Rattle.text.proofs.Booleans.{choose-by}
 use Rattle.table.specs.Tree.{Span, Rule}
 use Rattle.structure.specs.declared.Level.{Level}
 use Rattle.structure.specs.declared.Why.{Why}
-use Rattle.structure.specs.declared.Why.the-variants.{RulesRoom, NodesRoom, StoreRoom}
+use Rattle.structure.specs.declared.Why.the-variants.{TooLong, NotUtf8, NoToken, NotAllowed, TooDeep, Over, Zero, PeekRange, NotScalar, NotPlain, RulesRoom, NodesRoom, StoreRoom}
 use Rattle.structure.specs.declared.Refusal.{Refusal}
 use Rattle.structure.specs.declared.Fault.{Fault}
 use Rattle.structure.specs.declared.Fault.the-variants as Fault
@@ -17,7 +18,7 @@ use Rattle.structure.specs.Structure.{Ruled, rules, unruled, grammar}
 use Rattle.structure.proofs.Reasons.{OfStructure, OfValues, grammar-why, faults-why}
 use Rattle.reader.specs.declared.Reading.{Reading}
 use Rattle.reader.specs.declared.Reading.the-variants as Reading
-use Rattle.reader.specs.Read.{roomBy, faulty, ruledBy, judgedOf}
+use Rattle.reader.specs.Read.{roomBy, faulty, ruledBy, judgedOf, numberOf}
 
 -- 12, 10 and 11
 abbrev pub OfRoom : Why → Type 0
@@ -50,3 +51,20 @@ module _ (level : Level) (s : List ℕ) (n r b : ℕ) where
 
   pub judged-why : (x : Refusal) → judgedOf level s n r b ≡ Reading.Refused x → OfStructure (x .why) ⊎ OfValues (x .why) ⊎ OfRoom (x .why)
   judged-why x e = rw e at judged
+
+-- the numbers of reasons
+pub number-range : (w : Why) → (1 ≤ numberOf w) × (numberOf w ≤ 13)
+unfolding numberOf
+number-range TooLong = (omega arith, omega arith)
+number-range NotUtf8 = (omega arith, omega arith)
+number-range NoToken = (omega arith, omega arith)
+number-range NotAllowed = (omega arith, omega arith)
+number-range TooDeep = (omega arith, omega arith)
+number-range Over = (omega arith, omega arith)
+number-range Zero = (omega arith, omega arith)
+number-range PeekRange = (omega arith, omega arith)
+number-range NotScalar = (omega arith, omega arith)
+number-range NotPlain = (omega arith, omega arith)
+number-range RulesRoom = (omega arith, omega arith)
+number-range NodesRoom = (omega arith, omega arith)
+number-range StoreRoom = (omega arith, omega arith)

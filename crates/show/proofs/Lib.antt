@@ -3,4 +3,5 @@ pub mod Fronts
 pub mod Answers
 pub mod Shows
 pub mod Layouts
+pub mod Prints
 pub mod Unique

@@ -7,7 +7,7 @@ use mathlib.Core.List.{List, _∷_}
 use mathlib.Core.Option.{Option, none, some}
 use native.Mathlib.Omega.{arith}
 use lib.Dec.{leb}
-use Rattle.text.specs.Booleans.{choose, and, or}
+use Rattle.text.specs.Booleans.{and, or}
 use Rattle.text.specs.Words.{isWord, begins, push, wordOf}
 use Rattle.text.specs.Utf8.{scalar, charOf, firstBad}
 use Rattle.text.specs.Scans.{sought}
@@ -23,7 +23,6 @@ use Rattle.literal.specs.declared.Escape.the-variants as Escape
 use Rattle.literal.proofs.Escaped.{meant, good-scalar}
 use Rattle.literal.proofs.Meanings.{unescaped-utf8}
 use Rattle.token.specs.Table.{start, end, is, word, label}
-use Rattle.token.specs.Tokens.{pushLiteral}
 use Rattle.table.specs.Tree.{Span, Tree, leaf, one, two, Rule, placed, startsAt, endsAt}
 use Rattle.table.specs.Check.{isThrough, isUtf8, isLabel, fine, fineRule, fineRules}
 use Rattle.table.specs.Check as Check
@@ -32,10 +31,11 @@ use Rattle.structure.specs.declared.Level.{Level}
 use Rattle.structure.specs.declared.Level.the-variants.{Tagged, Plain}
 use Rattle.structure.specs.Tokens.{spells}
 use Rattle.structure.specs.Values.{isInteger, literalBytes, string, rawChar, charBy, character}
-use Rattle.structure.specs.Structure.{Parsed, got, join, closed, prefixed, postfixed, inTag, postfixAt, sliceTo, slice, pushed, ranged, slices, leafAt, Call, expr, term, signed, node, chain, posts, body, Run, silent, markAt, rules, grammar}
-use Rattle.structure.proofs.Steps.{next-got, want-got, opened-got, posts-by, no-tree}
+use Rattle.structure.specs.Structure.{Parsed, got, join, closed, prefixed, postfixed, inTag, postfixAt, sliceTo, slice, Call, expr, term, signed, node, chain, posts, body, Run, silent, markAt, rules, grammar}
+use Rattle.structure.proofs.Steps.{next-got, want-got, opened-got, posts-by}
 use Rattle.structure.proofs.Descent.{descent}
-use Rattle.structure.proofs.Ruled.{RuleRead, all-rules}
+use Rattle.structure.proofs.Cases.{LeafRead, literal, sliced, ident, str, insens, ranges, leaf-read, RuleRead}
+use Rattle.structure.proofs.Ruled.{all-rules}
 use Rattle.structure.proofs.Spelled.{word-spelled, no-push, label-spelled, string-inside, insens-inside}
 
 -- every literal of a text means characters
@@ -118,31 +118,15 @@ module _ (s : List ℕ) (u : firstBad s ≡ Through) (scalars : Characters s) wh
     fine-slice at i =
         split (isInteger s i) _ _ (λ v e. fine-slice-to at _ _ (want-got s (i + 1) 22 _ (omega arith) e .2)) (λ v e. fine-slice-to at _ _ (want-got s i 22 _ (omega arith) e .2))
 
-    fine-pushed : (o at : ℕ) → pushed o s at ≡ got t n → fine t ≡ true
-    unfolding pushed fine
-    fine-pushed o at e =
-        let (v₁, l₁, e₁) = want-got s (at + 1) 6 _ (omega arith) e in
-        let (v₂, e₂) = opened-got o s (at + 1) _ e₁ in
-        let (v₃, l₃, e₃) = want-got s (at + 1 + 1) 23 _ (omega arith) e₂ in
-        let (v₄, l₄, e₄) = want-got s (at + 1 + 1 + 1) 7 _ (omega arith) e₃ in
-        fine-got e₄ (string-fine (at + 1 + 1) v₃)
-
-    fine-ranged : (at : ℕ) → is s at 25 ≡ true → ranged s at ≡ got t n → fine t ≡ true
-    unfolding ranged fine
-    fine-ranged at v e =
-        let (v₁, l₁, e₁) = want-got s (at + 1) 22 _ (omega arith) e in
-        let (v₂, l₂, e₂) = want-got s (at + 1 + 1) 25 _ (omega arith) e₁ in
-        fine-got e₂ (and-both (scalar (character s at)) (scalar (character s (at + 1 + 1))) (character-fine at v) (character-fine (at + 1 + 1) v₂))
-
-    fine-leaf : (o at : ℕ) → spells push s at ≡ false → leafAt o s at ≡ got t n → fine t ≡ true
-    unfolding leafAt fine
-    fine-leaf o at p =
-        split (spells pushLiteral s at) _ _ (λ v e. fine-pushed o at e)
-        (λ q. split (slices s at) _ _ (λ v e. fine-slice at (at + 2) e)
-        (λ w. split (is s at 18) _ _ (λ v e. fine-got e (name-fine (word s at) (word-spelled s at v) (no-push s at v p q)))
-        (λ w. split (is s at 23) _ _ (λ v e. fine-got e (string-fine at v))
-        (λ w. split (is s at 24) _ _ (λ v e. fine-got e (insens-fine at v))
-        (λ w. split (is s at 25) _ _ (λ v e. fine-ranged at v e) (λ w e. no-tree e))))))
+    fine-leaf : (o at : ℕ) → spells push s at ≡ false → LeafRead o s at t n → fine t ≡ true
+    unfolding fine
+    fine-leaf o at p (literal a b c d f e z) = rw e (string-fine (at + 1 + 1) d)
+    fine-leaf o at p (sliced a b e) = fine-slice at (at + 2) e
+    fine-leaf o at p (ident a b c e z) = rw e (name-fine (word s at) (word-spelled s at c) (no-push s at c p a))
+    fine-leaf o at p (str a b e z) = rw e (string-fine at b)
+    fine-leaf o at p (insens a b c e z) = rw e (insens-fine at c)
+    fine-leaf o at p (ranges a b c d f g e z) =
+        rw e (and-both (scalar (character s at)) (scalar (character s (at + 1 + 1))) (character-fine at d) (character-fine (at + 1 + 1) g))
 
   -- ---- calls
 
@@ -196,7 +180,7 @@ module _ (s : List ℕ) (u : firstBad s ≡ Through) (scalars : Characters s) wh
         let (v₂, e₂) = opened-got o s (at + 1) _ e₁ in
         let (x, i, p, q) = next-got (go (expr (o + 1) (at + 1 + 1))) _ e₂ in
         fine-got (want-got s i 7 _ (omega arith) q .2) (h (expr (o + 1) (at + 1 + 1)) x i p tt))
-        (λ v w. fine-leaf o at v w)) e
+        (λ v w. fine-leaf o at v (leaf-read o s at w))) e
     step go h (posts x at) t n e g =
         posts-by (postfixAt s at) _ _ (λ v m p q. h (posts (postfixed (end s (m - 1)) v x) m) t n q g) (λ p q. fine-got q g) e
 
@@ -220,9 +204,9 @@ module _ (s : List ℕ) (u : firstBad s ≡ Through) (scalars : Characters s) wh
     unfolding fineRules fineRule
     more-fine at r n us p h =
         let (a, b) = and-true (is s at 18) (not (begins push (word s at))) (p .named) in
-        let f : Check.isName (r .name) ≡ true = rw (p .name-is) (name-fine (word s at) (word-spelled s at a) (not-true _ b)) in
-        let g : leb (r .mark) 4 ≡ true = rw (p .mark-is) (mark-fine (at + 1 + 1)) in
-        and-both _ (fineRules us) (and-both _ _ f (and-both _ _ g (tree-fine 0 (p .from) (r .tree) (p .to) (p .reads)))) h
+        let f : fineRule r ≡ true =
+        ap fineRule (p .rule) ∙ and-both _ _ (name-fine (word s at) (word-spelled s at a) (not-true _ b)) (and-both _ _ (mark-fine (at + 1 + 1)) (tree-fine 0 _ (p .body) (p .past) (p .read))) in
+        and-both (fineRule r) (fineRules us) f h
 
     pub grammar-fine : (us : List (Rule Span)) → grammar level s ≡ rules us → fineRules us ≡ true
     unfolding fineRules

@@ -16,6 +16,8 @@ pub mod Rules
 pub mod Bounds
 pub mod Faults
 pub mod Cases
+pub mod Ruled
+pub mod Stores
 pub mod Reasons
 pub mod Held
 pub mod Numerals

@@ -10,7 +10,7 @@ use lib.Dec.{ltb, eqb}
 use lib.ListN.{length, getD, take, drop, length-take, length-drop}
 use lib.Seq.{drop-drop}
 use borrow.Author.Tests.{eqb-true, eq-eqb}
-use Rattle.text.specs.Booleans.{choose, and, or, among, nextIs, all}
+use Rattle.text.specs.Booleans.{and, or, among, nextIs, all}
 use Rattle.text.specs.Classes.{blanks, letter, digit, ones, openers, classOf}
 use Rattle.text.specs.Words.{startsWord, inWord, isWord, begins, push}
 use Rattle.text.specs.Scans.{later, sought}
@@ -26,7 +26,7 @@ use Rattle.literal.specs.declared.Escape.{Escape}
 use Rattle.literal.specs.declared.Escape.the-variants as Escape
 use Rattle.token.specs.Blanks.{run, first, words, digitRun, zeros, line, blankOf}
 use Rattle.token.specs.Tokens.{moved, pushLiteral, allowed, wordToken, tagToken, numberToken, minusToken, dotsToken, insideLook, stringBy, stringOf, insensToken, quoted, escapedBy, rawBy, charToken, docToken, openerToken, placeIn, oneKind, tokenBy, firstToken, tokenAt}
-use Rattle.token.specs.Lists.{Tok, tok, kindOf, startOf, endOf, tokensOf, placeFrom}
+use Rattle.token.specs.Lists.{Tok, tok, kindOf, startOf, endOf, placeFrom}
 use Rattle.token.specs.Table.{toks, tokOf, kind, start, end, is, between, word, label}
 use Rattle.token.specs.declared.Token.{Token}
 use Rattle.token.specs.declared.Token.the-variants.{Found, End, NoToken}

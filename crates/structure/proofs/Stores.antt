@@ -1,18 +1,17 @@
 -- What is read has no more store bytes than the text has bytes: a token gives at most its own, and the bytes up to an index (`upTo`) grow with it.
 -- By descent: what a call adds to what it was handed fits between where it begins and where it ends.
 use Prim.Native.Nat.{ℕ, zero, suc, _+_, _-_, _≤_, _<_}
-use mathlib.Core.Path.{_≡_, refl, sym, ap, _∙_}
-use mathlib.Core.Bool.{Bool, true, false}
-use mathlib.Core.List.{List, [], _∷_, _++_}
+use mathlib.Core.Path.{_≡_, refl, ap, _∙_}
+use mathlib.Core.Bool.{true}
+use mathlib.Core.List.{List, [], _∷_}
 use mathlib.Core.Logic.{⊎-elim}
 use mathlib.Core.Option.{none, some}
 use native.Mathlib.Nat.{eq-or-lt-of-le}
 use native.Mathlib.Numerals.{add-one}
 use native.Mathlib.Omega.{arith}
 use lib.Dec.{leb, eqb}
-use lib.ListN.{length, getD, drop, length-append, length-take}
-use borrow.Author.Tests.{leb-true}
-use Rattle.text.specs.Booleans.{choose, nextIs, and}
+use lib.ListN.{length, getD, drop, length-append}
+use Rattle.text.specs.Booleans.{nextIs}
 use Rattle.text.specs.Words.{push}
 use Rattle.text.specs.Scans.{Piece, spelled}
 use Rattle.text.specs.Utf8.{encoded}
@@ -25,25 +24,25 @@ use Rattle.literal.specs.declared.Escape.{Escape}
 use Rattle.literal.specs.declared.Escape.the-variants.{Means, Plain}
 use Rattle.literal.proofs.Escaped.{meant}
 use Rattle.token.specs.Lists.{Tok, tok, endOf, placeFrom}
-use Rattle.token.specs.Table.{toks, tokOf, start, end, is, between, trimmed, word, label}
-use Rattle.token.specs.Tokens.{pushLiteral}
+use Rattle.token.specs.Table.{toks, tokOf, start, end, is, trimmed, word, label}
 use Rattle.token.proofs.Lists.{Ordered, ordered, inside-at}
-use Rattle.token.proofs.Table.{spans, part-length}
-use Rattle.table.specs.Tree.{Span, Tree, Rule, leaf, plain, stored, size, rulesStored, ruleStored, startsAt, endsAt}
+use Rattle.token.proofs.Table.{part-length}
+use Rattle.table.specs.Tree.{Span, Tree, Rule, stored, size, ruleStored, rulesStored}
 use Rattle.table.specs.declared.Join.the-variants.{Seq}
 use Rattle.table.specs.declared.Unary.the-variants.{PosPred, NegPred, Push}
 use Rattle.structure.specs.declared.Level.{Level}
 use Rattle.structure.specs.declared.Level.the-variants as Level
-use Rattle.structure.specs.Tokens.{spells, same}
+use Rattle.structure.specs.Tokens.{across, spells}
 use Rattle.structure.specs.Values.{isInteger, opening, literalBytes, string}
 use Rattle.structure.specs.Answers.{tagBytes}
-use Rattle.structure.specs.Structure.{Parsed, got, join, closed, prefixed, postfixed, inTag, postfixAt, sliceTo, slice, pushed, ranged, slices, leafAt, Call, expr, term, signed, node, chain, posts, body, place, Run, rules, docs, grammar, isName}
-use Rattle.structure.proofs.Steps.{inside-is, next-got, want-got, opened-got, posts-by, no-tree}
+use Rattle.structure.specs.Structure.{Parsed, got, join, closed, postfixed, postfixAt, sliceTo, slice, Call, expr, term, signed, node, chain, posts, body, place, markAt, pastMark, pastBar, rules, grammar}
+use Rattle.structure.proofs.Steps.{inside-is, next-got, want-got, opened-got, posts-by}
 use Rattle.structure.proofs.Sizes.{encoded-short, grown-ends, grown-starts, grown-before, grown-after, grown-tag, size-closed, size-more}
 use Rattle.structure.proofs.Fuel.{heldSize, postfix-past}
-use Rattle.structure.proofs.Rules.{name-in, size-rule}
+use Rattle.structure.proofs.Rules.{past-mark-on, past-bar-on, size-rule}
 use Rattle.structure.proofs.Descent.{descent}
-use Rattle.structure.proofs.Ruled.{RuleRead, all-rules}
+use Rattle.structure.proofs.Cases.{LeafRead, literal, sliced, ident, str, insens, ranges, leaf-read, RuleRead}
+use Rattle.structure.proofs.Ruled.{all-rules}
 
 -- ---- an escape is no shorter than what it means
 
@@ -189,31 +188,15 @@ module _ (s : List ℕ) where
         split (isInteger s i) _ _ (λ v e. slice-to-fits at _ (i + 1 + 1) (omega arith) (want-got s (i + 1) 22 _ (omega arith) e .2))
         (λ v e. slice-to-fits at _ (i + 1) (omega arith) (want-got s i 22 _ (omega arith) e .2))
 
-    pushed-fits : (o at : ℕ) → pushed o s at ≡ got t n → size t + upTo s at ≤ upTo s n
-    unfolding pushed stored
-    pushed-fits o at e =
-        let (v₁, l₁, e₁) = want-got s (at + 1) 6 _ (omega arith) e in
-        let (v₂, e₂) = opened-got o s (at + 1) _ e₁ in
-        let (v₃, l₃, e₃) = want-got s (at + 1 + 1) 23 _ (omega arith) e₂ in
-        let (v₄, l₄, e₄) = want-got s (at + 1 + 1 + 1) 7 _ (omega arith) e₃ in
-        size-got at e₄ (omega (arith, string-fits (at + 1 + 1) 23 (omega arith) v₃, grows at (at + 1 + 1) (omega arith), grows (at + 1 + 1 + 1) (at + 1 + 1 + 1 + 1) (omega arith)))
-
-    ranged-fits : (at : ℕ) → ranged s at ≡ got t n → size t + upTo s at ≤ upTo s n
-    unfolding ranged stored
-    ranged-fits at e =
-        let (v₁, l₁, e₁) = want-got s (at + 1) 22 _ (omega arith) e in
-        let (v₂, l₂, e₂) = want-got s (at + 1 + 1) 25 _ (omega arith) e₁ in
-        size-got at e₂ (omega (arith, grows at (at + 1 + 1 + 1) (omega arith)))
-
-    leaf-fits : (o at : ℕ) → leafAt o s at ≡ got t n → size t + upTo s at ≤ upTo s n
-    unfolding leafAt stored
-    leaf-fits o at =
-        split (spells pushLiteral s at) _ _ (λ v e. pushed-fits o at e)
-        (λ v. split (slices s at) _ _ (λ v e. slice-fits at (at + 2) (omega arith) e)
-        (λ v. split (is s at 18) _ _ (λ v e. size-got at e (word-fits at 18 (omega arith) v))
-        (λ v. split (is s at 23) _ _ (λ v e. size-got at e (string-fits at 23 (omega arith) v))
-        (λ v. split (is s at 24) _ _ (λ v e. size-got at e (string-fits at 24 (omega arith) v))
-        (λ v. split (is s at 25) _ _ (λ v e. ranged-fits at e) (λ v e. no-tree e))))))
+    leaf-fits : (o at : ℕ) → LeafRead o s at t n → size t + upTo s at ≤ upTo s n
+    unfolding stored
+    leaf-fits o at (literal a b c d f e z) =
+        rw (e, z) (omega (arith, string-fits (at + 1 + 1) 23 (omega arith) d, grows at (at + 1 + 1) (omega arith), grows (at + 1 + 1 + 1) (at + 1 + 1 + 1 + 1) (omega arith)))
+    leaf-fits o at (sliced a b e) = slice-fits at (at + 2) (omega arith) e
+    leaf-fits o at (ident a b c e z) = rw (e, z) (word-fits at 18 (omega arith) c)
+    leaf-fits o at (str a b e z) = rw (e, z) (string-fits at 23 (omega arith) b)
+    leaf-fits o at (insens a b c e z) = rw (e, z) (string-fits at 24 (omega arith) c)
+    leaf-fits o at (ranges a b c d f g e z) = rw (e, z) (omega (arith, grows at (at + 1 + 1 + 1) (omega arith)))
 
   -- ---- calls
 
@@ -296,7 +279,7 @@ module _ (s : List ℕ) where
         let (x, i, p, q) = next-got (go (expr (o + 1) (at + 1 + 1))) _ e₂ in
         let a = h (expr (o + 1) (at + 1 + 1)) x i p in
         same-got (node o at) (want-got s i 7 _ (omega arith) q .2) (omega (arith, grown-before (start s at) Push x .sizes, grows at (at + 1 + 1) (omega arith), grows i (i + 1) (omega arith))))
-        (λ v w. omega (arith, leaf-fits o at w))) e
+        (λ v w. omega (arith, leaf-fits o at (leaf-read o s at w)))) e
     step go h (posts x at) t n e =
         posts-by (postfixAt s at) _ _
         (λ v m p q.
@@ -312,9 +295,13 @@ module _ (s : List ℕ) where
     more-bounded : (at : ℕ) (r : Rule Span) (n : ℕ) (us : List (Rule Span)) → RuleRead level s at r n → Bounded n us → Bounded at (r ∷ us)
     unfolding Bounded rulesStored
     more-bounded at r n us p h =
-        let a = descent level s Adds step (expr 0 (p .from)) (r .tree) (p .to) (p .reads) in
+        let j = pastMark s (at + 1 + 1) + 1 in
+        let k = pastBar s j in
+        let a = descent level s Adds step (expr 0 k) (p .body) (p .past) (p .read) in
         let b = word-fits at 18 (omega arith) (and-left (is s at 18) _ (p .named)) in
-        omega (arith, ap length (p .name-is), size-rule r, length-append (ruleStored r) (rulesStored us), grows (at + 1) (p .from) (omega (arith, p .past)), grows (p .to) n (omega (arith, p .ends)))
+        let c = ap (λ (z : Rule Span). length (ruleStored z)) (p .rule) ∙ size-rule (record { name = word s at; mark = markAt s (at + 1 + 1); tree = p .body; place = across s at at }) in
+        let l : at + 1 ≤ k = omega (arith, past-mark-on s (at + 1 + 1), past-bar-on s j) in
+        omega (arith, length-append (ruleStored r) (rulesStored us), grows (at + 1) k l, grows (p .past) n (omega (arith, p .next)))
 
     none-bounded : (at : ℕ) → Bounded at []
     unfolding Bounded rulesStored
