@@ -14,7 +14,9 @@ use Rattle.text.proofs.Booleans.{choose-by, choose-cong, choose-true}
 use Rattle.token.specs.Table.{toks, is}
 use Rattle.table.specs.Tree.{Span, Rule}
 use Rattle.structure.specs.declared.Level.{Level}
-use Rattle.structure.specs.Structure.{Ruled, rules, withRule, Ruling, ruling, noRule, thenRules, ruleFrom, rulesBy, rulesUpTo, rulesFrom, docsIn, docs}
+use Rattle.structure.specs.declared.Why.the-variants.{NotAllowed}
+use Rattle.structure.specs.Refusals.{because}
+use Rattle.structure.specs.Structure.{Ruled, rules, unruled, withRule, Ruling, ruling, noRule, thenRules, ruleFrom, rulesBy, rulesUpTo, rulesFrom, docsIn, docs, grammar}
 use Rattle.structure.specs.Meaning.{DocsTo}
 use Rattle.structure.proofs.Steps.{inside-is}
 use Rattle.structure.proofs.Rules.{rule-past, rules-end}
@@ -106,3 +108,9 @@ module _ (s : List ℕ) where
 
   pub docs-only : (n : ℕ) → DocsTo s 0 n → n ≡ docs s
   docs-only n d = docs-once 0 n (docs s) d docs-first
+
+  -- a text's rules are those from there on; where nothing stands there, it is refused at its end
+  pub grammar-law : (level : Level) (n : ℕ) → DocsTo s 0 n
+      → grammar level s ≡ choose (leb (length (toks s)) n) (λ u. unruled (because NotAllowed (length s))) (λ u. rulesFrom level s n)
+  unfolding grammar
+  grammar-law level n d = rw (docs-only n d)
