@@ -269,7 +269,7 @@ unfoldable pub rulesUpTo : Level → List ℕ → ℕ → ℕ → Ruled
 rulesUpTo level s zero at = rules []
 rulesUpTo level s (suc k) at = rulesBy level s (rulesUpTo level s k) at
 
--- those from an index on: what `rulesBy` makes of themselves, and nothing else is (`rules-law`, `rules-only`)
+-- those from an index on. They meet an equation without a bound, `rules-law`, and nothing else does (`rules-only`)
 abbrev pub rulesFrom : Level → List ℕ → ℕ → Ruled
 rulesFrom level s at = rulesUpTo level s (length (toks s)) at
 

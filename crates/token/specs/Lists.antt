@@ -46,8 +46,8 @@ unfoldable pub tokensIn : ℕ → List ℕ → ℕ → Tokens
 tokensIn zero s at = record { list = []; fault = Through }
 tokensIn (suc k) s at = tokensBy (tokenAt s at) (λ end. tokensIn k s end)
 
--- the tokens from a place on, each looked for at the end of the one before it: what `tokensBy` makes of themselves, and nothing else is
--- (`tokens-law`, `tokens-only`)
+-- the tokens from a place on, each looked for at the end of the one before it. They meet an equation without a bound, `tokens-law`, and
+-- nothing else does (`tokens-only`)
 unfoldable pub tokensFrom : List ℕ → ℕ → Tokens
 tokensFrom s at = tokensIn (suc (length s - at)) s at
 
