@@ -17,8 +17,8 @@ pub mod Cases
 pub mod Ruled
 pub mod Stores
 pub mod Reasons
-pub mod Fine
 pub mod Held
 pub mod Numerals
 pub mod Judged
 pub mod Fair
+pub mod Fine
