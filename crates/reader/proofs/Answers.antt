@@ -1,23 +1,21 @@
 -- The phases of a reading: what each of them answers, and what it leaves in the lent buffers.
 use Prim.Native.Nat.{ℕ, zero, suc, _+_, _*_, _≤_, _<_}
 use mathlib.Core.Path.{_≡_, refl, sym, ap, _∙_}
-use mathlib.Core.Bool.{Bool, true, false}
+use mathlib.Core.Bool.{false}
 use mathlib.Core.List.{List, [], _∷_}
 use mathlib.Core.Logic.{⊎-elim}
-use native.Mathlib.Nat.{eq-or-lt-of-le}
 use native.Mathlib.Omega.{arith}
 use lib.Dec.{leb, ltb, eqb}
 use denote.Enum.Declared.{tagOf}
 use types.Run.{OneOf}
 use lib.ListN.{length, take, length-append, length-take}
 use lib.Seq.{take-all}
-use borrow.Author.Tests.{le-leb, lt-leb, leb-true, ltb-true, eqb-true}
+use borrow.Author.Tests.{le-leb, lt-leb}
 use Rattle.text.specs.Booleans.{choose, and, or}
 use Rattle.text.specs.Splice.{fronted}
 use Rattle.text.specs.Utf8.{firstBad}
 use Rattle.text.specs.declared.Scan.{Scan}
 use Rattle.text.specs.declared.Scan.the-variants as Scan
-use Rattle.literal.specs.Escapes.{badEscape}
 use Rattle.token.specs.Lists.{tokensOf, filledOf}
 use Rattle.token.specs.declared.Filled.{Filled}
 use Rattle.token.specs.declared.Filled.the-variants as Filled
@@ -36,18 +34,17 @@ use Rattle.structure.specs.Refusals.{because}
 use Rattle.structure.specs.declared.Why.the-variants.{TooLong, NotUtf8, NoToken, NotAllowed, TooDeep, Over, Zero, PeekRange, NotScalar, NotPlain, RulesRoom, NodesRoom, StoreRoom}
 use Rattle.structure.specs.declared.Counted.{Counted}
 use Rattle.structure.specs.declared.Counted.the-variants as Counted
-use Rattle.structure.specs.Values.{literalBytes, literalFault, faultAt, orFault, faultsFrom, faults}
+use Rattle.structure.specs.Values.{faults}
 use Rattle.structure.specs.Structure.{Ruled, rules, unruled, grammar, docs}
 use Rattle.structure.specs.Structure as Structure
 use Rattle.structure.specs.Answers.{summaries}
 use Rattle.structure.proofs.Sizes as Sizes
 use Rattle.text.proofs.Tests.{lt-or-ge}
-use Rattle.text.proofs.Booleans.{and-left, choose-false, choose-true, or-by, or-first, or-second, split}
+use Rattle.text.proofs.Booleans.{choose-false, choose-true, or-first, or-second, split}
 use Rattle.text.specs.Limits.{maxText}
-use Rattle.token.specs.Table.{tokenSize, flat, roomOf, toks, kind, is, Lent}
-use Rattle.structure.proofs.Steps.{inside-is, another}
+use Rattle.token.specs.Table.{tokenSize, flat, roomOf, toks, is, Lent}
 use Rattle.structure.proofs.Rules.{rule-went, rules-end}
-use Rattle.structure.proofs.Fine.{Characters}
+use Rattle.structure.proofs.Fine.{sound-characters}
 use Rattle.reader.specs.declared.Reading.{Reading}
 use Rattle.reader.specs.declared.Reading.the-variants as Reading
 use Rattle.reader.specs.declared.Attempt.{Attempt}
@@ -111,52 +108,12 @@ module _ (level : Level) (s : List ℕ) (n r b : ℕ) (c : Counted) (e : c ≡ s
 
 -- ---- a text whose values are sound
 
-or-sound : (f : Fault) (g : Unit {0} → Fault) → orFault f g ≡ Fault.Sound → (f ≡ Fault.Sound) × (g tt ≡ Fault.Sound)
-or-sound Fault.Sound g e = (refl, e)
-or-sound (Fault.At r) g e = let z : _≡_ {A = ℕ} 0 1 = cc in absurd (omega arith)
-
-literal-good : (s : List ℕ) (i : ℕ) (c : Scan) → literalFault s i c ≡ Fault.Sound → c ≡ Scan.Through
-literal-good s i Scan.Through e = refl
-literal-good s i (Scan.StopsAt k) e = let z : _≡_ {A = ℕ} 0 1 = cc in absurd (omega arith)
-
 module _ (level : Level) (s : List ℕ) where
-  sound-at : (before i n j : ℕ) → faultsFrom level s before i n ≡ Fault.Sound → i ≤ j → j < i + n → (k : ℕ) × (faultAt level s k j ≡ Fault.Sound)
-  unfolding faultsFrom
-  sound-at before i zero j e h l = absurd (omega arith)
-  sound-at before i (suc n) j e h l =
-      let p = or-sound (faultAt level s before i) _ e in
-      ⊎-elim
-      (λ q. (before, ap (faultAt level s before) (sym q) ∙ p .0))
-      (λ m. sound-at (kind s i) (i + 1) n j (p .1) (omega arith) (omega arith))
-      (eq-or-lt-of-le h)
-
-  strings-good : (i : ℕ) (k : ℕ) → faultAt level s k i ≡ Fault.Sound → is s i 18 ≡ false → is s i 20 ≡ false → is s i 21 ≡ false → or (is s i 23) (or (is s i 24) (is s i 25)) ≡ true
-      → badEscape (literalBytes s i) ≡ Scan.Through
-  unfolding faultAt
-  strings-good i k e a b c d =
-      literal-good s i (badEscape (literalBytes s i))
-      (sym (choose-false (is s i 18) _ _ a ∙ choose-false (is s i 20) _ _ b ∙ choose-false (is s i 21) _ _ c ∙ choose-true (or (is s i 23) (or (is s i 24) (is s i 25))) _ _ d) ∙ e)
-
-  sound-literal : faults level s ≡ Fault.Sound → (i x : ℕ) → 22 < x → is s i x ≡ true → or (is s i 23) (or (is s i 24) (is s i 25)) ≡ true → badEscape (literalBytes s i) ≡ Scan.Through
-  unfolding faults is
-  sound-literal e i x h q d =
-      let l = inside-is s i x (omega arith) q in
-      let (k, f) = sound-at 0 0 (length (toks s)) i e (omega arith) (omega arith) in
-      let w : kind s i ≡ x = eqb-true (kind s i) x q in
-      strings-good i k f (another s i (kind s i) x 18 refl w (λ m. omega arith)) (another s i (kind s i) x 20 refl w (λ m. omega arith))
-      (another s i (kind s i) x 21 refl w (λ m. omega arith)) d
-
-  -- every literal of a text whose values are sound means characters
-  pub sound-characters : faults level s ≡ Fault.Sound → Characters s
-  sound-characters e i d =
-      or-by (is s i 23) _ d (λ q. sound-literal e i 23 (omega arith) q d)
-      (λ f. or-by (is s i 24) _ f (λ q. sound-literal e i 24 (omega arith) q d) (λ q. sound-literal e i 25 (omega arith) q d))
-
-  -- and so does every string
+  -- every string means characters
   pub sound-scalars : faults level s ≡ Fault.Sound → Scalars s
   sound-scalars e = record {
-    strings = λ i q. sound-characters e i (or-first (is s i 23) (or (is s i 24) (is s i 25)) q);
-    insens = λ i q. sound-characters e i (or-second (is s i 23) (or (is s i 24) (is s i 25)) (or-first (is s i 24) (is s i 25) q));
+    strings = λ i q. sound-characters level s e i (or-first (is s i 23) (or (is s i 24) (is s i 25)) q);
+    insens = λ i q. sound-characters level s e i (or-second (is s i 23) (or (is s i 24) (is s i 25)) (or-first (is s i 24) (is s i 25) q));
   }
 
   -- ---- the texts of rules aren't large

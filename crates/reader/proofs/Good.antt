@@ -16,21 +16,20 @@ use Rattle.table.specs.declared.TableCheck.the-variants as Table
 use Rattle.table.proofs.Rules.{length-nodes, length-records}
 use Rattle.table.proofs.Tables.{flat-passes}
 use Rattle.structure.specs.declared.Level.{Level}
-use Rattle.structure.proofs.Fine.{grammar-fine}
+use Rattle.structure.proofs.Fine.{sound-fine}
 use Rattle.structure.proofs.Stores.{stored-fits}
 use Rattle.build.specs.Rules.{rulesRead}
 use Rattle.reader.specs.declared.Reading.{Reading}
 use Rattle.reader.specs.declared.Reading.the-variants as Reading
 use Rattle.reader.specs.Read.{roomForNodes, roomForRules, readOf, leftIn, Leaves}
 use Rattle.reader.proofs.Counts.{read-text, read-counts}
-use Rattle.reader.proofs.Answers.{sound-characters}
 
 module _ (level : Level) (s : List ℕ) (n r b : ℕ) {x y z : ℕ} (e : readOf level s n r b ≡ Reading.Read x y z) where
   -- the rules that are read are fine: names are names, strings UTF-8, characters Unicode scalars
   pub read-fine : fineRules (rulesRead level s) ≡ true
   read-fine =
       let c = read-counts level s n r b e in
-      grammar-fine s (read-text level s n r b e .utf8) (sound-characters level s (c .sound)) level (rulesRead level s) (c .read)
+      sound-fine level s (rulesRead level s) (read-text level s n r b e .utf8) (c .read) (c .sound)
 
   -- their tables are good, with room within the limits; the store never has more bytes than the text
   pub read-good : n ≤ maxNodes → r ≤ maxRules → tables (nodesOf (rulesRead level s)) (recordsOf (rulesRead level s)) (rulesStored (rulesRead level s)) ≡ Table.Good

@@ -1,4 +1,4 @@
--- What is read is fine: of a text of UTF-8 whose literals mean characters, every tree and every rule that is read passes the check of tables.
+-- What is read is fine: of a text of UTF-8 whose literals mean characters, as they do where no value is at fault, every rule that is read passes the check of tables.
 -- By descent: a call hands on what is fine if what it was handed is (`Given`). No leaf but a word, a string and a range can be at fault.
 use Prim.Native.Nat.{ℕ, _+_, _-_}
 use mathlib.Core.Path.{_≡_, refl, ap, _∙_}
@@ -14,7 +14,7 @@ use Rattle.text.specs.Scans.{sought}
 use Rattle.text.specs.declared.Scan.the-variants.{Through}
 use Rattle.text.specs.declared.Sequence.{Sequence}
 use Rattle.text.specs.declared.Sequence.the-variants as Sequence
-use Rattle.text.proofs.Booleans.{and-both, and-true, choose-by, or-first, or-second, split}
+use Rattle.text.proofs.Booleans.{and-both, and-true, choose-by, or-by, or-first, or-second, split}
 use Rattle.text.proofs.Decodes.{decoded}
 use Rattle.text.proofs.Walks.{later-zero}
 use Rattle.literal.specs.Escapes.{escapeOf, escapeLook, badEscape}
@@ -29,18 +29,30 @@ use Rattle.table.specs.Check as Check
 use Rattle.table.specs.declared.Join.the-variants.{Seq}
 use Rattle.structure.specs.declared.Level.{Level}
 use Rattle.structure.specs.declared.Level.the-variants.{Tagged, Plain}
+use Rattle.structure.specs.declared.Fault.the-variants.{Sound}
 use Rattle.structure.specs.Tokens.{spells}
-use Rattle.structure.specs.Values.{isInteger, literalBytes, string, rawChar, charBy, character}
+use Rattle.structure.specs.Values.{isInteger, literalBytes, string, rawChar, charBy, character, faults}
+use Rattle.structure.specs.Held.{single, bytes, valueBy}
 use Rattle.structure.specs.Structure.{Parsed, got, join, closed, prefixed, postfixed, inTag, postfixAt, sliceTo, slice, Call, expr, term, signed, node, chain, posts, body, Run, silent, markAt, rules, grammar}
-use Rattle.structure.proofs.Steps.{next-got, want-got, opened-got, posts-by}
+use Rattle.structure.proofs.Steps.{inside-is, next-got, want-got, opened-got, posts-by}
 use Rattle.structure.proofs.Descent.{descent}
 use Rattle.structure.proofs.Cases.{LeafRead, literal, sliced, ident, str, insens, ranges, leaf-read, RuleRead}
 use Rattle.structure.proofs.Ruled.{all-rules}
+use Rattle.structure.proofs.Held.{value-is}
+use Rattle.structure.proofs.Judged.{sound-right}
 use Rattle.structure.proofs.Spelled.{word-spelled, no-push, label-spelled, string-inside, insens-inside}
 
 -- every literal of a text means characters
 abbrev pub Characters : List ℕ → Type 0
 Characters s = (i : ℕ) → or (is s i 23) (or (is s i 24) (is s i 25)) ≡ true → badEscape (literalBytes s i) ≡ Through
+
+-- as where no value is at fault
+pub sound-characters : (level : Level) (s : List ℕ) → faults level s ≡ Sound → Characters s
+unfolding valueBy
+sound-characters level s e i d =
+    or-by (is s i 23) _ d (λ a. sound-right level s e i (inside-is s i 23 (omega arith) a) (bytes (string s i)) (value-is s i 23 a))
+    (λ b. or-by (is s i 24) _ b (λ a. sound-right level s e i (inside-is s i 24 (omega arith) a) (bytes (string s i)) (value-is s i 24 a))
+    (λ a. sound-right level s e i (inside-is s i 25 (omega arith) a) (single (character s i)) (value-is s i 25 a)))
 
 -- ---- texts and characters
 
@@ -208,6 +220,10 @@ module _ (s : List ℕ) (u : firstBad s ≡ Through) (scalars : Characters s) wh
         ap fineRule (p .rule) ∙ and-both _ _ (name-fine (word s at) (word-spelled s at a) (not-true _ b)) (and-both _ _ (mark-fine (at + 1 + 1)) (tree-fine 0 _ (p .body) (p .past) (p .read))) in
         and-both (fineRule r) (fineRules us) f h
 
-    pub grammar-fine : (us : List (Rule Span)) → grammar level s ≡ rules us → fineRules us ≡ true
+    grammar-fine : (us : List (Rule Span)) → grammar level s ≡ rules us → fineRules us ≡ true
     unfolding fineRules
     grammar-fine us e = all-rules level s (λ at us. fineRules us ≡ true) (λ at. refl) (λ at us h. h) more-fine us e
+
+-- of a text of UTF-8 whose values are sound
+pub sound-fine : (level : Level) (s : List ℕ) (us : List (Rule Span)) → firstBad s ≡ Through → grammar level s ≡ rules us → faults level s ≡ Sound → fineRules us ≡ true
+sound-fine level s us u e f = grammar-fine s u (sound-characters level s f) level us e

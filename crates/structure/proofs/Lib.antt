@@ -26,3 +26,4 @@ pub mod Stores
 pub mod Fine
 pub mod Judged
 pub mod Fair
+pub mod Fine
