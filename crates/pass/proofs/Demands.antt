@@ -18,14 +18,13 @@ use Rattle.printer.specs.Answers.{tableText, roomOf, printOf}
 use Rattle.printer.specs.Bounds.{Narrow}
 use Rattle.reader.specs.declared.Reading.{Reading}
 use Rattle.reader.specs.declared.Reading.the-variants as Reading
-use Rattle.reader.specs.Read.{roomForNodes, roomForRules, refusedBy, readOf, leftIn, Leaves}
-use Rattle.promises.specs.Pieces.{rulesPieces, firstPushLiteral}
-use Rattle.promises.specs.Styled.{markedRules}
-use Rattle.promises.specs.Round.{seen, Printable, ReadAs}
+use Rattle.reader.specs.Read.{roomForNodes, roomForRules, refusedBy, readOf, leftIn}
+use Rattle.promises.specs.Round.{Printable, ReadAs}
+use Rattle.promises.proofs.Styles.{marked-asides}
 use Rattle.promises.proofs.Round.{tagged, plain, plain-refused}
 use Rattle.pass.specs.declared.Passed.{Passed}
 use Rattle.pass.specs.declared.Passed.the-variants as Passed
-use Rattle.pass.specs.Pass.{backBy, passBy, passOf, newIn, Passes, barred, rulesHeld, Back, Demand}
+use Rattle.pass.specs.Pass.{backBy, passOf, newIn, Passes, barred, rulesBack, pushesAt, Demand}
 
 -- only a reading is passed on as one
 back-read : (m : ℕ) (a : Reading) {k n r b : ℕ} → backBy m a ≡ Passed.Read k n r b → a ≡ Reading.Read n r b
@@ -33,14 +32,14 @@ back-read m (Reading.Read x y z) e = cc
 back-read m (Reading.Refused f) e = let z : _≡_ {A = ℕ} 0 1 = cc in absurd (omega arith)
 
 module _ (style : Style) (ns rs st : List ℕ) (w : Narrow ns) (p : Printable style ns rs st) where
-  reads-back : (level : Level) → barred level (rulesOf ns rs st) ≡ false → ReadAs level (tableText style ns rs st) (seen style level (rulesHeld ns rs st))
+  reads-back : (level : Level) → barred level (rulesOf ns rs st) ≡ false → ReadAs level (tableText style ns rs st) (rulesBack style level ns rs st)
   reads-back Tagged h = tagged style ns rs st w p
   reads-back Plain h = plain style ns rs st w p h
 
   refuses : (level : Level) → barred level (rulesOf ns rs st) ≡ true → (n r b : ℕ)
-      → readOf level (tableText style ns rs st) n r b ≡ refusedBy NotPlain (firstPushLiteral (rulesPieces (markedRules style (rulesHeld ns rs st))))
+      → readOf level (tableText style ns rs st) n r b ≡ refusedBy NotPlain (pushesAt style ns rs st)
   refuses Tagged h n r b = let z : _≡_ {A = ℕ} 0 1 = cc in absurd (omega arith)
-  refuses Plain h n r b = plain-refused style ns rs st w p h n r b
+  refuses Plain h n r b = rw (marked-asides style (rulesOf ns rs st)) at (plain-refused style ns rs st w p h n r b)
 
   -- what has room is printed, and the reader decides
   printed : (level : Level) (m n r b : ℕ) → length (tableText style ns rs st) ≤ m

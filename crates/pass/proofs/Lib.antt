@@ -2,3 +2,4 @@
 pub mod Answers
 pub mod Demands
 pub mod Unique
+pub mod Samples

@@ -102,20 +102,27 @@ abbrev pub barred : {P : Type 0} → Level → List (Rule P) → Bool
 barred Tagged us = false
 barred Plain us = holdsPushLiteral us
 
--- the rules of tables, spans aside
-abbrev pub rulesHeld : List ℕ → List ℕ → List ℕ → List (Rule Nowhere)
-rulesHeld ns rs st = map asideRule (rulesOf ns rs st)
+-- the rules that come back of tables, spans aside: as a style groups them and a level sees them
+abbrev pub rulesBack : Style → Level → List ℕ → List ℕ → List ℕ → List (Rule Nowhere)
+rulesBack style level ns rs st = seen style level (map asideRule (rulesOf ns rs st))
 
--- what comes back of tables that are printed in a style: unless the level bars them the answer is that of the rules as the style and the
--- level have them, whatever room there is, and the used parts of the new tables stand for these rules; else the first
--- PUSH_LITERAL is refused
+-- where their text has its first PUSH_LITERAL
+abbrev pub pushesAt : Style → List ℕ → List ℕ → List ℕ → ℕ
+pushesAt style ns rs st = firstPushLiteral (rulesPieces (markedRules style (rulesOf ns rs st)))
+
+-- the room that rules want, in three buffers
+abbrev pub roomIn : {P : Type 0} → List (Rule P) → List ℕ → List ℕ → List ℕ → Reading
+roomIn us ns rs st = roomBy (length us) (counts us) (length (rulesStored us)) (roomForNodes ns) (roomForRules rs) (length st)
+
+-- what comes back of tables. Unless the level bars them: their text is read as those rules; the answer is that of those rules, whatever room
+-- there is; and where they are read, the used parts of the new tables stand for them. Else the first PUSH_LITERAL is refused
 pub record Back (style : Style) (level : Level) (ns rs st ns₀ rs₀ st₀ : List ℕ) (a : Passed) (ns′ rs′ st′ : List ℕ) : Type 0 where
-  pub text : barred level (rulesOf ns rs st) ≡ false → ReadAs level (tableText style ns rs st) (seen style level (rulesHeld ns rs st))
-  pub answer : barred level (rulesOf ns rs st) ≡ false
-      → a ≡ backBy (length (tableText style ns rs st)) (roomBy (length (seen style level (rulesHeld ns rs st))) (counts (seen style level (rulesHeld ns rs st))) (length (rulesStored (seen style level (rulesHeld ns rs st)))) (roomForNodes ns₀) (roomForRules rs₀) (length st₀))
-  pub tables : barred level (rulesOf ns rs st) ≡ false → (k n r b : ℕ) → a ≡ Passed.Read k n r b → Same (rulesLeft n r b ns′ rs′ st′) (seen style level (rulesHeld ns rs st))
-  pub refused : barred level (rulesOf ns rs st) ≡ true → a ≡ Passed.Unread (length (tableText style ns rs st)) (because NotPlain (firstPushLiteral (rulesPieces (markedRules style (rulesHeld ns rs st)))))
+  pub text : barred level (rulesOf ns rs st) ≡ false → ReadAs level (tableText style ns rs st) (rulesBack style level ns rs st)
+  pub answer : barred level (rulesOf ns rs st) ≡ false → a ≡ backBy (length (tableText style ns rs st)) (roomIn (rulesBack style level ns rs st) ns₀ rs₀ st₀)
+  pub tables : barred level (rulesOf ns rs st) ≡ false → (k n r b : ℕ) → a ≡ Passed.Read k n r b → Same (rulesLeft n r b ns′ rs′ st′) (rulesBack style level ns rs st)
+  pub refused : barred level (rulesOf ns rs st) ≡ true → a ≡ Passed.Unread (length (tableText style ns rs st)) (because NotPlain (pushesAt style ns rs st))
 
 -- demand 3 of a call: so it is for printable tables whose text has room
 abbrev pub Demand : Style → Level → (ns rs st o ns₀ rs₀ st₀ : List ℕ) → Passed → (ns′ rs′ st′ : List ℕ) → Type 0
-Demand style level ns rs st o ns₀ rs₀ st₀ a ns′ rs′ st′ = Printable style ns rs st → length (tableText style ns rs st) ≤ length o → Back style level ns rs st ns₀ rs₀ st₀ a ns′ rs′ st′
+Demand style level ns rs st o ns₀ rs₀ st₀ a ns′ rs′ st′ =
+    Printable style ns rs st → length (tableText style ns rs st) ≤ length o → Back style level ns rs st ns₀ rs₀ st₀ a ns′ rs′ st′

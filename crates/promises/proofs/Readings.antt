@@ -2,7 +2,7 @@
 -- some rules answers with enough room and with too little, and that it is read as all rules that are the same.
 use Prim.Native.Nat.{ℕ, _*_, _≤_}
 use mathlib.Core.Path.{_≡_, refl, sym, ap, _∙_}
-use mathlib.Core.Logic.{inl, inr}
+use mathlib.Core.Logic.{inl, inr, ⊎-elim}
 use mathlib.Core.List.{List, [], _∷_, map}
 use native.Mathlib.Omega.{arith}
 use lib.Dec.{leb}
@@ -18,6 +18,7 @@ use Rattle.table.proofs.Rules.{length-nodes, length-records, flat-back}
 use Rattle.table.proofs.Regroups.{items-aside, rules-counts, rules-store}
 use Rattle.structure.specs.declared.Level.{Level}
 use Rattle.structure.specs.declared.Refusal.{Refusal}
+use Rattle.structure.specs.declared.Why.the-variants.{NotPlain}
 use Rattle.build.specs.Rules.{rulesRead}
 use Rattle.reader.specs.declared.Reading.{Reading}
 use Rattle.reader.specs.declared.Reading.the-variants as Reading
@@ -104,6 +105,12 @@ module _ {P : Type 0} {level : Level} {s : List ℕ} {us : List (Rule P)} (h : R
   unfolding roomBy
   room-enough x y z = h .answer n r b ∙ rw (le-leb (length us) r y, le-leb (counts us) n x, le-leb (length (rulesStored us)) b z)
 
-  -- with too little it is refused by 12, 10 or 11 and by nothing else, so never by 13
+  -- with too little it is refused by 12, 10 or 11 and by nothing else
   pub only-room : (x : Refusal) → readOf level s n r b ≡ Reading.Refused x → OfRoom (x .why)
   only-room x e = rw (sym (h .answer n r b) ∙ e) at (by-room (length us) (counts us) (length (rulesStored us)) n r b)
+
+  pub never-13 : (x : Refusal) → readOf level s n r b ≡ Reading.Refused x → x .why ≡ NotPlain → ⊥
+  never-13 x e w = ⊎-elim
+      (λ u. let z : _≡_ {A = ℕ} 0 1 = cc in omega arith)
+      (⊎-elim (λ u. let z : _≡_ {A = ℕ} 0 1 = cc in omega arith) (λ u. let z : _≡_ {A = ℕ} 0 1 = cc in omega arith))
+      (only-room x e)

@@ -16,7 +16,7 @@ use Rattle.table.specs.Tree.{Span, Rule}
 use Rattle.structure.specs.declared.Level.{Level}
 use Rattle.structure.specs.declared.Why.the-variants.{NotAllowed}
 use Rattle.structure.specs.Refusals.{because}
-use Rattle.structure.specs.Structure.{Ruled, rules, unruled, withRule, Ruling, ruling, noRule, thenRules, ruleFrom, rulesBy, rulesUpTo, rulesFrom, docsIn, docs, grammar}
+use Rattle.structure.specs.Structure.{Ruled, rules, unruled, withRule, Ruling, ruling, noRule, thenRules, ruleFrom, rulesBy, rulesUpTo, grammarFrom, docsIn, docs, grammar}
 use Rattle.structure.specs.Meaning.{DocsTo}
 use Rattle.structure.proofs.Steps.{inside-is}
 use Rattle.structure.proofs.Rules.{rule-past, rules-end}
@@ -44,7 +44,7 @@ module _ (level : Level) (s : List ℕ) where
   rules-enough (suc k) (suc m) at h g = by-cong (rulesUpTo level s k) (rulesUpTo level s m) at (λ n l. rules-enough k m n (omega arith) (omega arith))
 
   -- the rules from an index on: none past the last token; those past a `///` doc; or a rule, and those from its end on
-  pub rules-law : (at : ℕ) → rulesFrom level s at ≡ rulesBy level s (rulesFrom level s) at
+  pub rules-law : (at : ℕ) → grammarFrom level s at ≡ rulesBy level s (grammarFrom level s) at
   unfolding rulesUpTo
   rules-law at = rules-enough (length (toks s)) (suc (length (toks s))) at (omega arith) (omega arith)
 
@@ -55,7 +55,7 @@ module _ (level : Level) (s : List ℕ) where
     only-in zero at h = law at ∙ choose-true (leb (length (toks s)) at) _ _ (le-leb (length (toks s)) at (omega arith))
     only-in (suc k) at h = law at ∙ by-cong f (rulesUpTo level s k) at (λ n l. only-in k n (omega arith))
 
-    pub rules-only : (at : ℕ) → f at ≡ rulesFrom level s at
+    pub rules-only : (at : ℕ) → f at ≡ grammarFrom level s at
     rules-only at = only-in (length (toks s)) at (omega arith)
 
 -- ---- docs
@@ -111,6 +111,6 @@ module _ (s : List ℕ) where
 
   -- a text's rules are those from there on; where nothing stands there, it is refused at its end
   pub grammar-law : (level : Level) (n : ℕ) → DocsTo s 0 n
-      → grammar level s ≡ choose (leb (length (toks s)) n) (λ u. unruled (because NotAllowed (length s))) (λ u. rulesFrom level s n)
+      → grammar level s ≡ choose (leb (length (toks s)) n) (λ u. unruled (because NotAllowed (length s))) (λ u. grammarFrom level s n)
   unfolding grammar
   grammar-law level n d = rw (docs-only n d)

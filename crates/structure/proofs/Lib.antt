@@ -21,9 +21,6 @@ pub mod Stores
 pub mod Reasons
 pub mod Held
 pub mod Numerals
-pub mod Ruled
-pub mod Stores
 pub mod Fine
 pub mod Judged
 pub mod Fair
-pub mod Fine

@@ -270,8 +270,8 @@ rulesUpTo level s zero at = rules []
 rulesUpTo level s (suc k) at = rulesBy level s (rulesUpTo level s k) at
 
 -- those from an index on. They meet an equation without a bound, `rules-law`, and nothing else does (`rules-only`)
-abbrev pub rulesFrom : Level → List ℕ → ℕ → Ruled
-rulesFrom level s at = rulesUpTo level s (length (toks s)) at
+abbrev pub grammarFrom : Level → List ℕ → ℕ → Ruled
+grammarFrom level s at = rulesUpTo level s (length (toks s)) at
 
 -- the index past the `//!` docs from an index on; the second argument bounds how many (`docs-enough`)
 unfoldable pub docsIn : List ℕ → ℕ → ℕ → ℕ
@@ -285,4 +285,4 @@ docs s = docsIn s (length (toks s)) 0
 -- any `//!` docs, then one or more of rule or `///` doc
 unfoldable pub grammar : Level → List ℕ → Ruled
 grammar level s =
-    choose (leb (length (toks s)) (docs s)) (λ u. unruled (because NotAllowed (length s))) (λ u. rulesFrom level s (docs s))
+    choose (leb (length (toks s)) (docs s)) (λ u. unruled (because NotAllowed (length s))) (λ u. grammarFrom level s (docs s))
