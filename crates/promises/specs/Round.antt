@@ -53,7 +53,6 @@ unfoldable pub nonzeroRules : {P : Type 0} → List (Rule P) → Bool
 nonzeroRules [] = true
 nonzeroRules (r ∷ rs) = and (nonzero (r .tree)) (nonzeroRules rs)
 
-
 -- ---- PUSH_LITERAL, which plain refuses
 
 abbrev pub isPushing : Atom → Bool
