@@ -2,3 +2,4 @@
 pub mod Answers
 pub mod Counts
 pub mod Reasons
+pub mod Firsts
