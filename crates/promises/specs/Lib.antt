@@ -5,5 +5,6 @@ pub mod Round
 pub mod Marked
 pub mod Fewest
 pub mod Pairs
+pub mod Decides
 pub mod Programs
 pub mod Twelve
