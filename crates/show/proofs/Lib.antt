@@ -3,4 +3,3 @@ pub mod Fronts
 pub mod Answers
 pub mod Shows
 pub mod Layouts
-pub mod Unique
