@@ -1,6 +1,6 @@
 -- A term from its node: postfixes, the bracket, predicates and the tag.
 use Prim.Native.Nat.{ℕ, zero, suc, _+_, _-_, _*_, _≤_, _<_}
-use mathlib.Core.Path.{_≡_, refl, sym, ap, _∙_, subst}
+use mathlib.Core.Path.{_≡_, refl, sym, ap, _∙_}
 use mathlib.Core.Bool.{Bool, true, false}
 use mathlib.Core.List.{List}
 use native.Mathlib.Omega.{arith}
@@ -22,13 +22,13 @@ use Rattle.table.specs.Record.{nodeSize}
 use Rattle.structure.specs.declared.Level.{Level}
 use Rattle.structure.specs.declared.Level.the-variants as Level
 use Rattle.structure.specs.declared.Opening.the-variants.{From}
-use Rattle.structure.specs.Answers.{unread, openingOf, tagNodes, tagBytes, predicates, Signed}
+use Rattle.structure.specs.Answers.{unread, openingOf, tagNodes, tagBytes, predicatesEnd, predicates}
 use Rattle.structure.specs.Structure.{Parsed, got, next, prefixed, term, signed, node, posts, Run}
 use Rattle.structure.proofs.Steps.{next-got, next-good, next-assoc, next-fun, next-on, want-got}
 use Rattle.structure.proofs.Sizes.{Grown, grown-none, grown-starts, stored-placed}
 use Rattle.structure.proofs.Fuel.{went}
 use Rattle.structure.proofs.Grammar.{term-law, signed-law}
-use Rattle.structure.proofs.Checks.{was-from, grown-signs}
+use Rattle.structure.proofs.Checks.{was-from, grown-signs, signed-end}
 use Rattle.structure.proofs.Checks as Checks
 use Rattle.structure.proofs.Cycle.{falls-term}
 use Rattle.build.specs.declared.Placed.{Placed}
@@ -142,11 +142,11 @@ pub record Headed (level : Level) (s : List ℕ) (o at used free : ℕ) (table s
   pub short : length s ≤ maxText
   pub tag : Wrote store free (tagText level s at) store₁ mid
   pub past : from ≡ pastTag s at
-  pub signs : Signed s from first
+  pub signs : first ≡ predicatesEnd s from
 
 module _ {level : Level} {s : List ℕ} {o at used free : ℕ} {table store store₁ : List ℕ} {mid from first : ℕ} (head : Headed level s o at used free table store store₁ mid from first) where
   pub node-falls : unread s first ≤ unread s at
-  node-falls = falls-term level s at (pastTag s at) (tagCount level s at) (length (tagText level s at)) first (opened-term level s o at (head .room)) (subst (λ (k : ℕ). Signed s k first) (head .past) (head .signs))
+  node-falls = falls-term level s at (pastTag s at) (tagCount level s at) (length (tagText level s at)) first (opened-term level s o at (head .room)) (head .signs ∙ ap (predicatesEnd s) (head .past))
 
   abbrev finished : Tree Span → Tree Span
   finished x = predicates s from (first - from) (bracketed s first x)
@@ -163,8 +163,9 @@ module _ {level : Level} {s : List ℕ} {o at used free : ℕ} {table store stor
 
   signed-read : Run level s (signed o (pastTag s at)) ≡ next (Run level s (node o first)) (λ t n. next (Run level s (posts t n)) (λ x m. got (finished x) m))
   signed-read =
-      ap (λ (k : ℕ). Run level s (signed o k)) (sym (head .past)) ∙ head .signs .same level o
-      ∙ ap (λ (m : Parsed). next m (λ t n. got (predicates s from (first - from) t) n)) (signed-law level s o first ∙ choose-false (is s first 8) _ _ (head .signs .noPos) ∙ choose-false (is s first 9) _ _ (head .signs .noNeg))
+      let i = signed-end s from first (head .signs) in
+      ap (λ (k : ℕ). Run level s (signed o k)) (sym (head .past)) ∙ i .same level o
+      ∙ ap (λ (m : Parsed). next m (λ t n. got (predicates s from (first - from) t) n)) (signed-law level s o first ∙ choose-false (is s first 8) _ _ (i .noPos) ∙ choose-false (is s first 9) _ _ (i .noNeg))
       ∙ next-assoc (Run level s (node o first)) _ _
       ∙ next-fun (Run level s (node o first)) _ _ (λ t n. next-assoc (Run level s (posts t n)) _ _ ∙ next-fun (Run level s (posts t n)) _ _ (λ x m. next-on _ _ _))
 
@@ -248,7 +249,7 @@ module _ {level : Level} {s : List ℕ} {o at used free : ℕ} {table store stor
         signs-room =
             let h = tail-room in
             let l = q .long in
-            record { from = head .signs .from; room = omega arith; few = omega arith; to = p .stop; after = omega arith }
+            record { from = signed-end s from first (head .signs) .from; room = omega arith; few = omega arith; to = p .stop; after = omega arith }
 
         module _ {u : ℕ} {tbl₃ : List ℕ} (z : (u ≡ tail .used + (first - from)) × SignsPut s from first (tail .to) (tail .used) tbl₂ tbl₃) {a : ℕ} (b : a ≡ termStart s from first (r .from)) where
           abbrev rest : Placed
@@ -272,7 +273,7 @@ module _ {level : Level} {s : List ℕ} {o at used free : ℕ} {table store stor
                 read = trailed .3 ∙ ap (got (finished x)) (sym (h .next-is));
                 used-is = omega arith;
                 free-is = omega arith;
-                from-is = b ∙ head-is s from first x (r .from) (head .signs .from) (h .from-is);
+                from-is = b ∙ head-is s from first x (r .from) (signed-end s from first (head .signs) .from) (h .from-is);
                 to-is = e₁ ∙ sym (stop-signs s from (first - from) x₁);
                 short = (omega arith, p .stop);
                 laid = record {

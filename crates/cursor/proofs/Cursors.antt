@@ -1,6 +1,6 @@
 -- Laws of the calls of a cursor.
 use Prim.Native.Nat.{ℕ, _≤_, _<_}
-use mathlib.Core.Path.{_≡_, refl, sym, ap, _∙_}
+use mathlib.Core.Path.{_≡_, refl, ap, _∙_}
 use mathlib.Core.List.{List}
 use native.Mathlib.Omega.{arith}
 use lib.ListN.{length}
@@ -46,10 +46,6 @@ said-two s at c d e r q made one two =
     let second-is : q ≡ nextOf (now s) (lister (now s) at .next) = two .0 ∙ ap (λ (z : Cursor). nextOf (now (z .text)) (z .place)) d-is in
     let e-is : e ≡ moved (moved (record { text = s; place = at })) = two .2 ∙ ap moved d-is in
     (λ i. record { first = first-is i; second = second-is i; place = e-is i .place })
-
--- two calls at one cursor that keep the promise give the same answer and leave the same cursor
-pub one-call : (c d e : Cursor) (r q : Listed) → Said c r d → Said c q e → (r ≡ q) × (d ≡ e)
-one-call c d e r q a b = (a .0 ∙ sym (b .0), a .2 ∙ sym (b .2))
 
 module _ (s : List ℕ) (at : ℕ) where
   place-by : (r : Listed) → nextOf s at ≡ r → at ≤ numbersOf at r .next

@@ -1,4 +1,3 @@
--- The C interface: what its proofs cite, and that its promises leave no choice.
+-- The C interface: what its proofs cite.
 pub mod Levels
 pub mod Feeds
-pub mod Unique

@@ -14,19 +14,11 @@ use Rattle.links.specs.declared.Ready.{Ready}
 use Rattle.links.specs.declared.Ready.the-variants as Ready
 use Rattle.replies.specs.declared.Answer.{Answer}
 use Rattle.replies.specs.declared.Answer.the-variants.{Matched, NoMatch, FalseTables, Unfit, NoRule, NotUtf8, Over}
-use Rattle.replies.specs.declared.Row.{Row}
-use Rattle.replies.specs.declared.Lines.{Lines}
-use Rattle.replies.specs.declared.Tally.{Tally}
-use Rattle.replies.specs.declared.Found.{Found}
-use Rattle.replies.specs.declared.Finding.{Finding}
 use Rattle.links.specs.Program.{program}
 use Rattle.matcher.specs.Match.{visit}
 use Rattle.matcher.specs.Runs.{Verdict, upTo, none, give, Task, node, Runs}
 use Rattle.matcher.specs.Answers.{maxVisits, reply, lineBy, lineOf, answerBy, matchOf}
-use Rattle.replies.specs.Replies.{numbered, tallied, finding}
 use Rattle.links.specs.Ready.{readyOf}
-use Rattle.matcher.specs.Lines.{linesOf, recordsOf}
-use Rattle.matcher.specs.Sought.{foundOf}
 use Rattle.matcher.proofs.Visits.{Below, visit-below}
 use Rattle.matcher.proofs.Exact.{act, complete, sound, runs-once, over-needs, needs-over}
 
@@ -111,23 +103,3 @@ module _ (ns rs st : List ℕ) (start : ℕ) (line : List ℕ) (ready : readyOf 
   -- two runs agree in verdict and steps
   pub once : (u v : Verdict) (m n : ℕ) → Run u m → Run v n → (u ≡ v) × (m ≡ n)
   once u v m n r s = runs-once (program ns rs st) st line maxVisits (rootAt rs start) 0 r s
-
--- ---- two results that meet a promise are equal
-
-pub match-one : (ns rs st : List ℕ) (start : ℕ) (line : List ℕ) (a : ℕ) (x y : Answer) → x ≡ matchOf ns rs st start line a → y ≡ matchOf ns rs st start line a → x ≡ y
-match-one ns rs st start line a x y d e = d ∙ sym e
-
-pub lines-one : (ns rs st : List ℕ) (start : ℕ) (text : List ℕ) (a k : ℕ) (o : List ℕ) (x y : Lines) (p q : List ℕ) → x ≡ linesOf ns rs st start text k → y ≡ linesOf ns rs st start text k → p ≡ recordsOf ns rs st start text a o → q ≡ recordsOf ns rs st start text a o → (x ≡ y) × (p ≡ q)
-lines-one ns rs st start text a k o x y p q d e f g = (d ∙ sym e, f ∙ sym g)
-
-pub row-one : (x : Answer) (r s : Row) → r ≡ numbered x → s ≡ numbered x → r ≡ s
-row-one x r s d e = d ∙ sym e
-
-pub tally-one : (x : Lines) (r s : Tally) → r ≡ tallied x → s ≡ tallied x → r ≡ s
-tally-one x r s d e = d ∙ sym e
-
-pub found-one : (ns rs st name : List ℕ) (x y : Found) → x ≡ foundOf ns rs st name → y ≡ foundOf ns rs st name → x ≡ y
-found-one ns rs st name x y d e = d ∙ sym e
-
-pub finding-one : (x : Found) (r s : Finding) → r ≡ finding x → s ≡ finding x → r ≡ s
-finding-one x r s d e = d ∙ sym e

@@ -1,5 +1,4 @@
 -- A pass: what its proof cites.
 pub mod Answers
 pub mod Demands
-pub mod Unique
 pub mod Samples

@@ -44,6 +44,5 @@ pub mod Sample
 pub mod Programs
 pub mod Witness
 pub mod Twelve
-pub mod Unique
 pub mod Wrong
 pub mod Matches

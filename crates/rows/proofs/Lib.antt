@@ -3,4 +3,3 @@ pub mod Lines
 pub mod Records
 pub mod Blocks
 pub mod Listings
-pub mod Unique

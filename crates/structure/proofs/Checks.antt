@@ -6,9 +6,9 @@ use mathlib.Core.List.{List}
 use mathlib.Core.Logic.{_⊎_, inl, inr}
 use native.Mathlib.Omega.{arith}
 use lib.ListN.{length}
-use Rattle.text.specs.Booleans.{choose, and}
+use Rattle.text.specs.Booleans.{choose, and, or}
 use Rattle.text.specs.Words.{push}
-use Rattle.text.proofs.Booleans.{choose-false, choose-true}
+use Rattle.text.proofs.Booleans.{choose-false, choose-true, choose-by, or-first, or-second, or-neither, or-by, or-false}
 use Rattle.text.specs.Limits.{maxText}
 use Rattle.token.specs.Table.{toks, kind, start, end, is, label}
 use Rattle.token.proofs.Table.{label-length}
@@ -34,7 +34,7 @@ use Rattle.structure.specs.declared.PostfixEnds.{PostfixEnds}
 use Rattle.structure.specs.declared.PostfixEnds.the-variants as PostfixEnds
 use Rattle.structure.specs.Tokens.{spells}
 use Rattle.structure.specs.Structure.{Parsed, got, refused, next, want, opened, prefixed, postfixed, inTag, post, postfixAt, leafAt, postsBy, expr, term, signed, node, posts, Run}
-use Rattle.structure.specs.Answers.{summary, wanted, tagNodes, tagBytes, openingOf, signOf, predicates, Signed, bracketOf, tailOf, tailed, Posted}
+use Rattle.structure.specs.Answers.{summary, wanted, tagNodes, tagBytes, openingOf, isSign, predicatesIn, predicatesEnd, signOf, predicates, Signed, bracketOf, tailOf, tailed, Posted}
 use Rattle.structure.proofs.Steps.{inside-is, sees, misses, want-true, want-false, next-assoc, next-fun, next-on, next-id, spells-in}
 use Rattle.structure.proofs.Sizes.{most, label-short, Grown, grown-none, grown-ends, grown-before, grown-after, grown-tag, tag-small}
 use Rattle.structure.proofs.Fuel.{postfix-past}
@@ -157,26 +157,64 @@ grown-signs s at (suc k) t =
     record { counts = omega arith; sizes = omega arith }
 
 module _ (s : List ℕ) where
+  -- a token's kind says whether it is a predicate
+  sign-here : (i x : ℕ) → x ≡ kind s i → (x ≡ 8) ⊎ (x ≡ 9) → isSign s i ≡ true
+  sign-here i x e (inl q) = or-first (is s i 8) (is s i 9) (sees s i x 8 e q)
+  sign-here i x e (inr q) = or-second (is s i 8) (is s i 9) (sees s i x 9 e q)
+
+  sign-gone : (i x : ℕ) → x ≡ kind s i → (x ≡ 8 → ⊥) → (x ≡ 9 → ⊥) → isSign s i ≡ false
+  sign-gone i x e q r = or-neither (is s i 8) (is s i 9) (misses s i x 8 e q) (misses s i x 9 e r)
+
+  sign-inside : (i : ℕ) → isSign s i ≡ true → i < length (toks s)
+  sign-inside i e = or-by (is s i 8) (is s i 9) e (inside-is s i 8 (omega arith)) (inside-is s i 9 (omega arith))
+
+  -- ---- where they end
+
+  ends-on : (k i : ℕ) → isSign s i ≡ true → predicatesIn s (suc k) i ≡ predicatesIn s k (i + 1)
+  unfolding predicatesIn
+  ends-on k i e = choose-true (isSign s i) _ _ e
+
+  ends-here : (k i : ℕ) → isSign s i ≡ false → predicatesIn s k i ≡ i
+  unfolding predicatesIn
+  ends-here zero i e = refl
+  ends-here (suc k) i e = choose-false (isSign s i) _ _ e
+
+  -- the predicates from the start on end where those from p on end
+  abbrev pub EndInv : ℕ → ℕ → Type 0
+  EndInv at p = predicatesEnd s at ≡ predicatesIn s (length (toks s) - p) p
+
+  pub end-start : (at : ℕ) → EndInv at at
+  unfolding predicatesEnd
+  end-start at = refl
+
+  pub end-more : (at p x : ℕ) → x ≡ kind s p → (x ≡ 8) ⊎ (x ≡ 9) → EndInv at p → (p < length (toks s)) × EndInv at (p + 1)
+  end-more at p x e q i =
+      let h = sign-here p x e q in
+      let m = sign-inside p h in
+      let z : length (toks s) - p ≡ suc (length (toks s) - (p + 1)) = omega arith in
+      (m, i ∙ ap (λ (k : ℕ). predicatesIn s k p) z ∙ ends-on (length (toks s) - (p + 1)) p h)
+
+  pub end-done : (at p x : ℕ) → x ≡ kind s p → (x ≡ 8 → ⊥) → (x ≡ 9 → ⊥) → EndInv at p → p ≡ predicatesEnd s at
+  end-done at p x e q r i = sym (i ∙ ends-here (length (toks s) - p) p (sign-gone p x e q r))
+
+  -- ---- what stands before and behind that end
+
   -- a predicate and what follows it
-  sign-step : (level : Level) (o i x : ℕ) → x ≡ kind s i → (x ≡ 8) ⊎ (x ≡ 9) → Run level s (signed o i) ≡ next (Run level s (signed o (i + 1))) (λ t n. got (prefixed (start s i) (plain (signOf s i)) t) n)
-  sign-step level o i x e (inl q) =
-      let v = sees s i x 8 e q in
+  sign-step : (level : Level) (o i : ℕ) (a b : Bool) → is s i 8 ≡ a → is s i 9 ≡ b → or a b ≡ true
+      → Run level s (signed o i) ≡ next (Run level s (signed o (i + 1))) (λ t n. got (prefixed (start s i) (plain (signOf s i)) t) n)
+  sign-step level o i true b v w e =
       signed-law level s o i ∙ choose-true (is s i 8) _ _ v ∙ next-fun _ _ _ (λ t n. ap (λ (u : Unary). got (prefixed (start s i) (plain u) t) n) (sym (sign-pos s i v)))
-  sign-step level o i x e (inr q) =
-      let w = misses s i x 8 e (λ h. let z : _≡_ {A = ℕ} 8 9 = sym h ∙ q in omega arith) in
-      signed-law level s o i ∙ choose-false (is s i 8) _ _ w ∙ choose-true (is s i 9) _ _ (sees s i x 9 e q)
-      ∙ next-fun _ _ _ (λ t n. ap (λ (u : Unary). got (prefixed (start s i) (plain u) t) n) (sym (sign-neg s i w)))
+  sign-step level o i false b v w e =
+      signed-law level s o i ∙ choose-false (is s i 8) _ _ v ∙ choose-true (is s i 9) _ _ (w ∙ e)
+      ∙ next-fun _ _ _ (λ t n. ap (λ (u : Unary). got (prefixed (start s i) (plain u) t) n) (sym (sign-neg s i v)))
 
-  sign-inside : (i x : ℕ) → x ≡ kind s i → (x ≡ 8) ⊎ (x ≡ 9) → i < length (toks s)
-  sign-inside i x e (inl q) = inside-is s i 8 (omega arith) (sees s i x 8 e q)
-  sign-inside i x e (inr q) = inside-is s i 9 (omega arith) (sees s i x 9 e q)
+  -- a term from the start on is the term from p on, with a predicate around it for each token between
+  record SignInv (at p : ℕ) : Type 0 where
+    from : at ≤ p
+    within : (at ≡ p → ⊥) → p ≤ length (toks s)
+    same : (level : Level) (o : ℕ) → Run level s (signed o at) ≡ next (Run level s (signed o p)) (λ t n. got (predicates s at (p - at) t) n)
 
-  pub record SignInv (at p : ℕ) : Type 0 where
-    pub from : at ≤ p
-    pub within : (at ≡ p → ⊥) → p ≤ length (toks s)
-    pub same : (level : Level) (o : ℕ) → Run level s (signed o at) ≡ next (Run level s (signed o p)) (λ t n. got (predicates s at (p - at) t) n)
-
-  pub sign-none : (at : ℕ) → SignInv at at
+  sign-none : (at : ℕ) → SignInv at at
   unfolding predicates
   sign-none at =
       let z : at - at ≡ 0 = omega arith in
@@ -186,23 +224,42 @@ module _ (s : List ℕ) where
         same = λ level o. sym (next-fun _ _ _ (λ t n. ap (λ (k : ℕ). got (predicates s at k t) n) z) ∙ next-id (Run level s (signed o at)));
       }
 
-  pub sign-more : (at p x : ℕ) → x ≡ kind s p → (x ≡ 8) ⊎ (x ≡ 9) → SignInv at p → (p < length (toks s)) × SignInv at (p + 1)
-  sign-more at p x e q i =
+  sign-more : (at p : ℕ) → isSign s p ≡ true → SignInv at p → SignInv at (p + 1)
+  sign-more at p e i =
       let h = i .from in
       let z : suc (p - at) ≡ p + 1 - at = omega arith in
-      let m = sign-inside p x e q in (
-        m,
-        record {
-          from = omega arith;
-          within = λ n. omega arith;
-          same = λ level o.
-              i .same level o ∙ ap (λ (m : Parsed). next m (λ t n. got (predicates s at (p - at) t) n)) (sign-step level o p x e q) ∙ next-assoc _ _ _
-              ∙ next-fun _ _ _ (λ t n. next-on _ _ _ ∙ ap (λ (u : Tree Span). got u n) (signs-in s at (p - at) p t (omega arith) ∙ ap (λ (k : ℕ). predicates s at k t) z));
-        },
-      )
+      let m = sign-inside p e in
+      record {
+        from = omega arith;
+        within = λ n. omega arith;
+        same = λ level o.
+            i .same level o ∙ ap (λ (m : Parsed). next m (λ t n. got (predicates s at (p - at) t) n)) (sign-step level o p (is s p 8) (is s p 9) refl refl e) ∙ next-assoc _ _ _
+            ∙ next-fun _ _ _ (λ t n. next-on _ _ _ ∙ ap (λ (u : Tree Span). got u n) (signs-in s at (p - at) p t (omega arith) ∙ ap (λ (k : ℕ). predicates s at k t) z));
+      }
 
-  pub sign-done : (at p x : ℕ) → x ≡ kind s p → (x ≡ 8 → ⊥) → (x ≡ 9 → ⊥) → SignInv at p → Signed s at p
-  sign-done at p x e q r i = record { from = i .from; within = i .within; same = i .same; noPos = misses s p x 8 e q; noNeg = misses s p x 9 e r }
+  sign-done : (at p : ℕ) → isSign s p ≡ false → SignInv at p → Signed s at p
+  sign-done at p e i =
+      let (f, g) = or-false (is s p 8) (is s p 9) e in
+      record { from = i .from; within = i .within; same = i .same; noPos = f; noNeg = g }
+
+  -- no predicate stands past the last token
+  none-left : (p : ℕ) → length (toks s) ≤ p → isSign s p ≡ false
+  none-left p l = by (isSign s p) refl
+    where
+      by : (b : Bool) → isSign s p ≡ b → isSign s p ≡ false
+      by true e = let m = sign-inside p e in absurd (omega arith)
+      by false e = e
+
+  signs-from : (k at p : ℕ) → length (toks s) ≤ p + k → SignInv at p → Signed s at (predicatesIn s k p)
+  unfolding predicatesIn
+  signs-from zero at p l i = sign-done at p (none-left p (omega arith)) i
+  signs-from (suc k) at p l i =
+      choose-by (Signed s at) (isSign s p) _ _ (λ e. signs-from k at (p + 1) (omega arith) (sign-more at p e i)) (λ e. sign-done at p e i)
+
+  -- a term from the start on is that from the end of its predicates on, in them, and no predicate follows
+  pub signed-end : (at r : ℕ) → r ≡ predicatesEnd s at → Signed s at r
+  unfolding predicatesEnd
+  signed-end at r e = rw e (signs-from (length (toks s) - at) at at (omega arith) (sign-none at))
 
   -- ---- postfixes
 

@@ -29,13 +29,13 @@ use Rattle.structure.specs.declared.Bracket.the-variants.{Unopened, Noth
 use Rattle.structure.specs.declared.PostfixEnds.{PostfixEnds}
 use Rattle.structure.specs.declared.PostfixEnds.the-variants as PostfixEnds
 use Rattle.structure.specs.Structure.{Parsed, got, refused, next, join, closed, leafAt, Call, expr, term, node, chain, posts, place, Run}
-use Rattle.structure.specs.Answers.{unread, summary, wanted, openingOf, predicates, Signed, bracketOf, Posted}
+use Rattle.structure.specs.Answers.{unread, summary, wanted, openingOf, predicatesEnd, predicates, bracketOf, Posted}
 use Rattle.structure.proofs.Steps.{inside-is, sees, misses, next-good, next-bad, next-assoc, next-on, opened-true, opened-false}
 use Rattle.structure.proofs.Sizes.{most, Grown, grown-none, grown-starts, count-closed, size-closed, count-more, size-more}
 use Rattle.structure.proofs.Fuel.{Went, went, held, heldSize}
 use Rattle.structure.proofs.Grammar.{expr-law, chain-law, signed-law}
 use Rattle.structure.proofs.Wants.{wanted-on, wanted-off, good, bad, sum-refused, sum-got, fewer, sinks}
-use Rattle.structure.proofs.Checks.{Opened, was-untied, grown-signs, tails-all, tails-bad, Bracketed, was-unopened, was-nothing}
+use Rattle.structure.proofs.Checks.{Opened, was-untied, grown-signs, tails-all, tails-bad, Bracketed, was-unopened, was-nothing, signed-end}
 
 -- ---- a finished term
 
@@ -167,11 +167,12 @@ module _ (level : Level) (s : List ℕ) (w : length s ≤ maxText) (o at : ℕ) 
   pub term-untied : (r : Opening) → r ≡ openingOf level s at → r ≡ Untied → (y : Refusal) → y ≡ because NotAllowed (start s (at + 1)) → Checked.Refused y ≡ summary (Run level s (term o at))
   term-untied r e q y z = ap Checked.Refused z ∙ sum-refused (was-untied level s at r e q .1 o)
 
-  module _ (p k b : ℕ) (v : Opened level s at p k b) (f : ℕ) (i : Signed s p f) where
+  module _ (p k b : ℕ) (v : Opened level s at p k b) (f : ℕ) (ends : f ≡ predicatesEnd s p) where
     to-node : Run level s (term o at)
         ≡ next (next (Run level s (node o f)) (λ t n. next (Run level s (posts t n)) (λ u m. got (finished s f u) m))) (λ t n. next (got (predicates s p (f - p) t) n) (λ t n. got (v .wrap t) n))
     unfolding finished
     to-node =
+        let i = signed-end s p f ends in
         v .same o
         ∙ ap (λ (m : Parsed). next m (λ t n. got (v .wrap t) n))
         (i .same level o ∙ ap (λ (m : Parsed). next m (λ t n. got (predicates s p (f - p) t) n)) (signed-law level s o f ∙ choose-false (is s f 8) _ _ (i .noPos) ∙ choose-false (is s f 9) _ _ (i .noNeg)))
@@ -206,7 +207,7 @@ module _ (level : Level) (s : List ℕ) (w : length s ≤ maxText) (o at : ℕ) 
             let v₁ = v .from in
             let v₂ = v .one in
             let v₃ = v .small w in
-            let i₁ = i .from in
+            let i₁ = signed-end s p f ends .from in
             (omega arith, omega arith)
 
         pub term-good : Checked.Good z (k₁ + k₂ + (f - p) + k) (b₁ + b) ≡ summary (Run level s (term o at))
@@ -254,8 +255,9 @@ module _ (level : Level) (s : List ℕ) (w : length s ≤ maxText) (o at : ℕ) 
 
 -- ---- what is unread falls along the cycle
 
-pub falls-term : (level : Level) (s : List ℕ) (at p k b f : ℕ) → Opened level s at p k b → Signed s p f → unread s f ≤ unread s at
-falls-term level s at p k b f t g =
+pub falls-term : (level : Level) (s : List ℕ) (at p k b f : ℕ) → Opened level s at p k b → f ≡ predicatesEnd s p → unread s f ≤ unread s at
+falls-term level s at p k b f t ends =
+    let g = signed-end s p f ends in
     let a = sinks s at p (omega (arith, t .from)) (t .within) in
     let c = sinks s p f (g .from) (g .within) in
     omega arith

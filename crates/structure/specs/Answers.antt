@@ -1,10 +1,10 @@
 -- What the checking functions ask for and answer.
 use Prim.Native.Nat.{ℕ, zero, suc, _+_, _-_, _≤_}
 use mathlib.Core.Path.{_≡_}
-use mathlib.Core.Bool.{false}
+use mathlib.Core.Bool.{Bool, false}
 use mathlib.Core.List.{List}
 use lib.ListN.{length}
-use Rattle.text.specs.Booleans.{choose}
+use Rattle.text.specs.Booleans.{choose, or}
 use Rattle.text.specs.Words.{push}
 use Rattle.token.specs.Lists.{placeFrom}
 use Rattle.token.specs.Table.{toks, start, is, label}
@@ -57,6 +57,19 @@ unfoldable pub openingOf : Level → List ℕ → ℕ → Opening
 openingOf level s at =
     choose (is s at 19)
     (λ u. choose (is s (at + 1) 1) (λ u. From (at + 2) (tagNodes level) (tagBytes level (length (label s at)))) (λ u. Untied)) (λ u. From at 0 0)
+
+-- a token that is a predicate
+abbrev pub isSign : List ℕ → ℕ → Bool
+isSign s i = or (is s i 8) (is s i 9)
+
+-- past the predicates from an index on, k of them at most
+unfoldable pub predicatesIn : List ℕ → ℕ → ℕ → ℕ
+predicatesIn s zero at = at
+predicatesIn s (suc k) at = choose (isSign s at) (λ u. predicatesIn s k (at + 1)) (λ u. at)
+
+-- past all of them
+unfoldable pub predicatesEnd : List ℕ → ℕ → ℕ
+predicatesEnd s at = predicatesIn s (length (toks s) - at) at
 
 -- the predicate that a token is
 abbrev pub signOf : List ℕ → ℕ → Unary

@@ -20,7 +20,7 @@ ghost use Prim.Native.Nat.{_+_, _≤_, _<_};
 ghost use Rattle.text.specs.Limits.{maxOpen};
 ghost use Rattle.token.specs.Table.{Lent};
 ghost use Rattle.structure.specs.Structure.{Run, expr, term, node};
-ghost use Rattle.structure.specs.Answers.{summary, openingOf, Signed, bracketOf, Posted};
+ghost use Rattle.structure.specs.Answers.{summary, openingOf, predicatesEnd, bracketOf, Posted};
 
 // At most one (tag, `=`) before a term.
 pub fn tag_of(text: &[u8], tokens: &[u32], level: Level, at: usize) -> Opening
@@ -59,7 +59,7 @@ pub fn tag_of(text: &[u8], tokens: &[u32], level: Level, at: usize) -> Opening
 // Past the predicates from an index on.
 pub fn predicates_end(text: &[u8], tokens: &[u32], at: usize) -> usize
     requires { ⌜ Lent (now text) (now tokens) ⌝ }
-    ensures { λ r. ⌜ Signed (now (text .entry)) at r ⌝ }
+    ensures { λ r. ⌜ r ≡ predicatesEnd (now (text .entry)) at ⌝ }
 {
     let mut i = at;
     loop {

@@ -2,7 +2,7 @@
 -- Loop of `check_expr` (`ChainInv`): the expression is the chain read so far, with its nodes and bytes, going on at i; the tokens left fall.
 use Rattle.text.specs.Limits.{maxText}
 use Rattle.structure.proofs.Cycle.{ChainInv, expr-refused, chain-start, chain-done, joint-in, chain-more, chain-refused, term-untied, term-refused, term-unposted, term-sums, term-good, node-leaf, node-unopened, node-deep, node-refused, node-unclosed, node-sum, node-closed, falls-term, falls-node}
-use Rattle.structure.proofs.Checks.{was-from, was-untied, was-open, was-unopened}
+use Rattle.structure.proofs.Checks.{was-from, was-untied, was-open, was-unopened, signed-end}
 use Rattle.structure.specs.Answers.{unread}
 use borrow.Author.Needs.{needs}
 use native.Mathlib.Omega.{arith}
@@ -314,7 +314,7 @@ check-term-add-t24 : (t : ℕ) → of-check-term check-term-lts.Need-add-t24 t
 check-term-add-t24 t c = let z = term-sums _ _ (c .before .before .before .before .before .before .before .before .before .before .before .before .before .before .before .pre .1 .0 .short) _ _ _ _ _ (was-from _ _ _ _ _ _ _ (c .before .before .before .before .before .before .before .before .before .before .before .before .tag-of .ensures) (c .before .before .before .before .before .before .before .before .before .before .opening .given .1)) _ (c .before .before .before .before .before .before .before .before .predicates-end .ensures) _ _ _ _ (c .before .before .before .before .before .before .before .check-node .ensures) (c .before .before .before .before .before .next .given .1) _ (c .before .before .before .check-posts .ensures) _ _ (c .before .tails2 .given .1) (sizes _ _ (c .before .before .before .before .before .before .before .before .before .before .before .before .before .before .before .pre .1 .0) .1) in omega arith
 
 check-term-sub-t25 : (t : ℕ) → of-check-term check-term-lts.Need-sub-t25 t
-check-term-sub-t25 t c = c .before .before .before .before .before .before .before .before .predicates-end .ensures .from
+check-term-sub-t25 t c = signed-end _ _ _ (c .before .before .before .before .before .before .before .before .predicates-end .ensures) .from
 
 check-term-add-t26 : (t : ℕ) → of-check-term check-term-lts.Need-add-t26 t
 check-term-add-t26 t c = let z = term-sums _ _ (c .before .before .before .before .before .before .before .before .before .before .before .before .before .before .before .pre .1 .0 .short) _ _ _ _ _ (was-from _ _ _ _ _ _ _ (c .before .before .before .before .before .before .before .before .before .before .before .before .tag-of .ensures) (c .before .before .before .before .before .before .before .before .before .before .opening .given .1)) _ (c .before .before .before .before .before .before .before .before .predicates-end .ensures) _ _ _ _ (c .before .before .before .before .before .before .before .check-node .ensures) (c .before .before .before .before .before .next .given .1) _ (c .before .before .before .check-posts .ensures) _ _ (c .before .tails2 .given .1) (sizes _ _ (c .before .before .before .before .before .before .before .before .before .before .before .before .before .before .before .pre .1 .0) .1) in omega arith

@@ -1,0 +1,2 @@
+-- Uniqueness, for every entry point.
+pub mod Unique

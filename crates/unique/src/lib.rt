@@ -1,0 +1,1 @@
+// Every entry point's promise decides what comes of a call. See proofs/Unique.
