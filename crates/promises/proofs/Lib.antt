@@ -38,7 +38,7 @@ pub mod Examples
 -- the place of a 3, in a text and in packets
 pub mod Places
 pub mod Arrives
--- the twelve examples, uniqueness, wrong programs
+-- premises that can be met, the twelve examples, wrong programs
 pub mod Opened
 pub mod Sample
 pub mod Programs
