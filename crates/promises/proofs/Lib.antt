@@ -21,6 +21,8 @@ pub mod Spread
 pub mod Narrow
 pub mod Asides
 pub mod Round
+-- from a text to its printed text and back
+pub mod Again
 -- the short text
 pub mod Needs
 pub mod Least

@@ -12,10 +12,11 @@ use Rattle.table.specs.declared.Sort.{Sort}
 use Rattle.table.specs.declared.Sort.the-variants.{Str, Insens, Ident, PushLiteral}
 use Rattle.table.specs.Tree.{Atom, text, range, peekSlice, Wrap, plain, nodeTag, Tree, leaf, one, two, Rule, Nowhere, ruleBy, asideRule, counts, rulesStored}
 use Rattle.table.specs.Record.{rulesIn, rulesOf}
-use Rattle.table.specs.Check.{tables}
+use Rattle.table.specs.Check.{fineRules, tables}
 use Rattle.table.specs.declared.TableCheck.the-variants as Table
 use Rattle.forms.specs.declared.Style.{Style}
 use Rattle.forms.specs.declared.Style.the-variants.{Full, Short}
+use Rattle.forms.specs.Printing.{printedRules}
 use Rattle.printer.specs.Answers.{tableText}
 use Rattle.promises.specs.Styled.{markedRules}
 use Rattle.reader.specs.declared.Reading.the-variants as Reading
@@ -23,7 +24,7 @@ use Rattle.reader.specs.Read as Read
 use Rattle.build.specs.Rules as Built
 use Rattle.reader.specs.Read.{readOf}
 use Rattle.table.specs.Regroup.{regroup, untagged}
-use Rattle.structure.specs.Counts.{isZero}
+use Rattle.structure.specs.Counts.{isZero, countedRules}
 use Rattle.structure.specs.declared.Level.{Level}
 use Rattle.structure.specs.declared.Level.the-variants.{Tagged, Plain}
 
@@ -153,3 +154,14 @@ pub record ReadAs (level : Level) (s : List ℕ) (us : List (Rule Nowhere)) : Ty
   pub few-nodes : counts us ≤ maxNodes
   pub few-rules : length us ≤ maxRules
   pub short : length (rulesStored us) ≤ length s
+
+-- rules that come back from their text: fine, each number in its bounds, one at least and no more than the limits, and their text within
+-- the reader's limits
+pub record Sayable (style : Style) (us : List (Rule Nowhere)) : Type 0 where
+  pub fine : fineRules us ≡ true
+  pub counted : countedRules us ≡ true
+  pub some : 1 ≤ length us
+  pub few-nodes : counts us ≤ maxNodes
+  pub few-rules : length us ≤ maxRules
+  pub short : length (printedRules style us) ≤ maxText
+  pub shallow : depths (markedRules style us) ≤ maxOpen
