@@ -7,7 +7,11 @@ use mathlib.Core.List.{List, [], _∷_, map, List·Memᴰ, List·Memᴰ·head, M
 use native.Mathlib.Omega.{arith}
 use lib.ListN.{length, length-map}
 use Rattle.text.specs.Limits.{maxNodes, maxRules, maxText, maxOpen}
+use Rattle.text.specs.Scans.{sought}
+use Rattle.text.specs.Utf8.{firstBad}
 use Rattle.text.proofs.Booleans.{or-by}
+use Rattle.token.specs.Tokens.{tokenOf, tokenAt}
+use Rattle.token.specs.Lists.{tokensIn, tokensFrom, tokensOf}
 use Rattle.table.specs.declared.Sort.the-variants.{Str, Insens, Ident, PushLiteral}
 use Rattle.table.specs.Tree.{Span, Atom, text, range, peekSlice, Tree, leaf, one, two, Rule, Nowhere, aside, asideRule, rulesStored}
 use Rattle.table.specs.Flat.{nodesOf, recordsOf}
@@ -21,14 +25,15 @@ use Rattle.structure.specs.declared.Level.{Level}
 use Rattle.structure.specs.declared.Level.the-variants.{Tagged, Plain}
 use Rattle.structure.specs.declared.Fault.the-variants as Fault
 use Rattle.structure.specs.Values.{faults}
-use Rattle.structure.specs.Structure.{rules, grammar}
+use Rattle.structure.specs.declared.Why.the-variants.{NotAllowed}
+use Rattle.structure.specs.Structure.{rules, docsIn, grammar}
 use Rattle.structure.specs.Held.{pushes, wrapValues, atomValues, treeValues, rulesValues}
 use Rattle.structure.proofs.Judged.{each-right}
 use Rattle.structure.proofs.Fair.{sound-counted}
 use Rattle.build.specs.Rules.{rulesRead}
 use Rattle.reader.specs.declared.Reading.{Reading}
 use Rattle.reader.specs.declared.Reading.the-variants as Reading
-use Rattle.reader.specs.Read.{readOf}
+use Rattle.reader.specs.Read.{refusedBy, readOf, listedOf, judgedOf}
 use Rattle.reader.proofs.Counts.{read-counts}
 use Rattle.reader.proofs.Good.{read-fine, read-good}
 use Rattle.promises.specs.Styled.{markedRules}
@@ -83,11 +88,26 @@ is-printed : (v : Style) (level : Level) (s : List ℕ) → printedRules v (read
 unfolding tableText
 is-printed v level s = printed-rules v (rulesRead level s) ∙ sym (ap (printedRules v) (flat-back (rulesRead level s)))
 
+no-rules : (us : List (Rule Span)) → length us ≡ 0 → us ≡ []
+no-rules [] e = refl
+no-rules (r ∷ us) e = absurd (omega arith)
+
+pub nothing-read : (level : Level) (n r b : ℕ) → readOf level [] n r b ≡ refusedBy NotAllowed 0
+unfolding readOf listedOf judgedOf firstBad sought tokensOf tokensFrom tokensIn tokenAt tokenOf grammar docsIn
+nothing-read level n r b = refl
+
 module _ (level : Level) (s : List ℕ) (n r b : ℕ) {x y z : ℕ} (e : readOf level s n r b ≡ Reading.Read x y z) (h : n ≤ maxNodes) (l : r ≤ maxRules) (v : Style) where
   -- what was read prints, at either level and in either style: 20, 21 and 22 are never answered
   pub read-prints : (m : ℕ) → printOf v (nodesOf (rulesRead level s)) (recordsOf (rulesRead level s)) (rulesStored (rulesRead level s)) m ≡ roomOf (printedText v level s) m
   unfolding printOf
   read-prints m = rw (read-good level s n r b e h l)
+
+  -- a text of docs alone has no rule: its text is empty, and an empty text is refused by 4 (`nothing-read`)
+  pub none-printed : y ≡ 0 → printedText v level s ≡ []
+  unfolding printedRules
+  none-printed o =
+      let c = read-counts level s n r b e in
+      sym (is-printed v level s) ∙ ap (λ (us : List (Rule Span)). printedRules v (map asideRule us)) (no-rules (rulesRead level s) (sym (c .rules-are) ∙ o))
 
   module _ (some : 1 ≤ y) (short : length (printedText v level s) ≤ maxText) (shallow : depths (markedRules v (rulesRead level s)) ≤ maxOpen) where
     sayable : Sayable v (readRules level s)
