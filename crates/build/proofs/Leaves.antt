@@ -20,17 +20,17 @@ use Rattle.table.specs.Record.{nodeSize}
 use Rattle.table.specs.Flat.{recordOf}
 use Rattle.table.specs.Flat as Flat
 use Rattle.text.specs.Booleans.{choose, and}
-use Rattle.text.proofs.Booleans.{and-left, choose-false, choose-true, split}
+use Rattle.text.proofs.Booleans.{choose-false, choose-true, split}
 use Rattle.text.specs.Limits.{maxText}
 use Rattle.token.specs.Table.{toks, start, end, is, between, word}
 use Rattle.token.specs.Tokens.{pushLiteral}
 use Rattle.token.proofs.Table.{low, spans, word-is, part-length}
 use Rattle.structure.specs.declared.Why.the-variants.{NotAllowed}
 use Rattle.structure.specs.Refusals.{because}
-use Rattle.structure.specs.Tokens.{across, same, spells, peek}
+use Rattle.structure.specs.Tokens.{across, spells, peek}
 use Rattle.structure.specs.Values.{isInteger, integer, opening, literalBytes, string, character}
 use Rattle.structure.specs.Structure.{Parsed, got, refused, sliceTo, slice, pushed, ranged, leafAt}
-use Rattle.structure.proofs.Steps.{inside-is, want-true, no-tree, want-got, opened-got, opened-false}
+use Rattle.structure.proofs.Steps.{inside-is, spelled-word, want-true, no-tree, want-got, opened-got, opened-false}
 use Rattle.build.specs.declared.Placed.{Placed}
 use Rattle.build.specs.Build.{TreeRoom, Built, wordLeaf, stringLeaf}
 use Rattle.records.specs.Records.{written, most, Fits}
@@ -219,10 +219,6 @@ module _ (s table : List ℕ) (used free : ℕ) (short : length s ≤ maxText) (
       (q ∙ ap (λ (k : ℕ). written table used (recordOf (spanned a z) (Tip (PeekSlice x (At k))))) q₂) refl
 
 -- ---- what stands where something was read
-
-pub spelled-word : (p s : List ℕ) (i : ℕ) → spells p s i ≡ true → is s i 18 ≡ true
-unfolding spells
-spelled-word p s i e = and-left (is s i 18) (same p (word s i)) e
 
 module _ {table store : List ℕ} {used free : ℕ} (s : List ℕ) where
   pub range-read : (at : ℕ) → TreeRoom (ranged s at) table store used free

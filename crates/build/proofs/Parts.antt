@@ -5,7 +5,7 @@ use mathlib.Core.Bool.{true, false}
 use mathlib.Core.List.{List}
 use native.Mathlib.Omega.{arith}
 use lib.ListN.{length}
-use borrow.Author.Tests.{eqb-true, ne-eqb}
+use borrow.Author.Tests.{ne-eqb}
 use Rattle.text.specs.Limits.{maxText}
 use Rattle.token.specs.Lists.{tok}
 use Rattle.token.proofs.Bounds.{least}
@@ -13,7 +13,7 @@ use Rattle.token.proofs.Lists.{inside-at}
 use Rattle.token.specs.Table.{toks, tokOf, kind, start, end, is, between, label}
 use Rattle.token.proofs.Table.{low}
 use Rattle.structure.specs.Values.{opening}
-use Rattle.structure.proofs.Steps.{inside-is}
+use Rattle.structure.proofs.Steps.{inside-is, is-kind}
 use Rattle.records.specs.Records.{most}
 
 pub label-is : (s : List ℕ) (i a z : ℕ) → a ≡ start s i + 1 → z ≡ end s i → between s a z ≡ label s i
@@ -28,13 +28,9 @@ long-at : (s : List ℕ) (i : ℕ) → i < length (toks s) → start s i + least
 unfolding kind start end tokOf
 long-at s i h = inside-at s i (tok 0 (length s) (length s)) h .long
 
-is-kind : (s : List ℕ) (i k : ℕ) → is s i k ≡ true → kind s i ≡ k
-unfolding is
-is-kind s i k v = eqb-true (kind s i) k v
-
 not-insens : (s : List ℕ) (i k : ℕ) → is s i k ≡ true → (k ≡ 24 → ⊥) → is s i 24 ≡ false
 unfolding is
-not-insens s i k v h = let e = eqb-true (kind s i) k v in ne-eqb (kind s i) 24 (λ q. absurd (h (sym e ∙ q)))
+not-insens s i k v h = let e = is-kind s i k v in ne-eqb (kind s i) 24 (λ q. absurd (h (sym e ∙ q)))
 
 module _ (s : List ℕ) (i : ℕ) where
   pub string-long : is s i 23 ≡ true → start s i + opening s i < end s i

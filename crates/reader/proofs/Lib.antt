@@ -3,3 +3,4 @@ pub mod Answers
 pub mod Counts
 pub mod Reasons
 pub mod Good
+pub mod Firsts

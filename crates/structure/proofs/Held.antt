@@ -13,7 +13,7 @@ use lib.ListN.{length}
 use borrow.Author.Tests.{leb-true, eqb-true, eq-eqb, ne-eqb}
 use Rattle.text.specs.Booleans.{choose, or}
 use Rattle.text.specs.Words.{begins, push}
-use Rattle.text.proofs.Booleans.{and-true, and-both, and-first, and-second, or-by, choose-by, choose-false, choose-true, split}
+use Rattle.text.proofs.Booleans.{and-true, and-first, and-second, or-by, choose-by, choose-false, choose-true, split}
 use Rattle.token.specs.Table.{toks, kind, start, end, is, word, label}
 use Rattle.token.specs.Tokens.{pushLiteral}
 use Rattle.table.specs.Tree.{Span, Atom, peekSlice, Wrap, plain, nodeTag, Tree, leaf, one, two, Rule, placed, endsAt, startsAt}
@@ -27,7 +27,7 @@ use Rattle.structure.specs.Tokens.{across, same, spells, peek}
 use Rattle.structure.specs.Values.{number, isInteger, integer, string, character}
 use Rattle.structure.specs.Structure.{Parsed, got, refused, next, want, join, closed, prefixed, postfixed, inTag, post, postfixAt, sliceTo, slice, leafAt, Call, expr, term, signed, node, chain, posts, body, place, Run, isName, silent, markAt, pastMark, pastBar, Ruled, rules, unruled, withRule, Ruling, ruling, noRule, thenRules, ruleFrom, rulesUpTo, docsIn, docs, grammar}
 use Rattle.structure.specs.Held.{Value, exact, least, most, peeked, single, bytes, pushes, unaryValues, wrapValues, atomValues, treeValues, rulesValues, before, numberValue, valueBy, valueAt, valuesTo, valuesIn}
-use Rattle.structure.proofs.Steps.{inside-is, next-got, want-got, opened-got, posts-by}
+use Rattle.structure.proofs.Steps.{inside-is, is-kind, spelled-word, begins-more, next-got, want-got, opened-got, posts-by}
 use Rattle.structure.proofs.Cases.{PostfixRead, opt, rep, once, both, greatest, postfix-read, LeafRead, literal, sliced, ident, str, insens, ranges, leaf-read, rule-read}
 use Rattle.structure.proofs.Cases as Cases
 use Rattle.structure.proofs.Fuel.{went}
@@ -37,12 +37,8 @@ use Rattle.structure.proofs.Descent.{descent}
 -- ---- a token
 
 module _ (s : List ℕ) (i : ℕ) where
-  pub is-kind : (k : ℕ) → is s i k ≡ true → kind s i ≡ k
-  unfolding is
-  is-kind k e = eqb-true (kind s i) k e
-
   pub value-is : (k : ℕ) → is s i k ≡ true → valueAt s i ≡ valueBy s (before s i) i k
-  value-is k e = ap (valueBy s (before s i) i) (is-kind k e)
+  value-is k e = ap (valueBy s (before s i) i) (is-kind s i k e)
 
   pub values-next : valuesTo s (i + 1) ≡ valuesTo s i ++ valueAt s i
   unfolding valuesTo
@@ -60,7 +56,7 @@ module _ (s : List ℕ) (i : ℕ) where
   before-next = rw (add-one i)
 
   after : (k : ℕ) → is s i k ≡ true → before s (i + 1) ≡ k
-  after k e = before-next ∙ is-kind k e
+  after k e = before-next ∙ is-kind s i k e
 
   values-kind : (k : ℕ) → is s i k ≡ true → valueBy s (before s i) i k ≡ [] → valuesTo s (i + 1) ≡ valuesTo s i
   values-kind k e q = values-skip (value-is k e ∙ q)
@@ -101,40 +97,23 @@ at-most-one s i =
     (λ c. choose-by AtMostOne (eqb k 22) _ _ (λ d. choose-by AtMostOne (eqb (before s i) 4) _ _ (λ f. inr (_, refl)) (λ f. inl refl))
     (λ d. choose-by AtMostOne (or (eqb k 23) (eqb k 24)) _ _ (λ f. inr (_, refl)) (λ f. choose-by AtMostOne (eqb k 25) _ _ (λ g. inr (_, refl)) (λ g. inl refl))))))
 
-spells-word : (p s : List ℕ) (i : ℕ) → spells p s i ≡ true → is s i 18 ≡ true
-unfolding spells
-spells-word p s i e = and-true (is s i 18) (same p (word s i)) e .0
-
-begins-front : (p q xs : List ℕ) → begins (p ++ q) xs ≡ true → begins p xs ≡ true
-unfolding begins
-begins-front [] q xs e = refl
-begins-front (y ∷ p) q [] e = e
-begins-front (y ∷ p) q (x ∷ xs) e =
-    let (a, b) = and-true (eqb x y) (begins (p ++ q) xs) e in
-    and-both (eqb x y) (begins p xs) a (begins-front p q xs b)
+not-true : (b : Bool) → not b ≡ true → b ≡ false
+not-true false e = refl
+not-true true e = sym e
 
 module _ (s : List ℕ) (i : ℕ) where
-  -- a rule's name is no PUSH_LITERAL
-  name-other : isName s i ≡ true → (is s i 18 ≡ true) × (spells pushLiteral s i ≡ false)
-  unfolding spells
-  name-other e =
-      let (a, b) = and-true (is s i 18) (not (begins push (word s i))) e in
-      (a, go (spells pushLiteral s i) refl b)
-    where
-      go : (b : Bool) → spells pushLiteral s i ≡ b → not (begins push (word s i)) ≡ true → b ≡ false
-      go false f g = refl
-      go true f g =
-          let c = and-true (eqb (length (word s i)) 12) (begins pushLiteral (word s i)) (and-true (is s i 18) (same pushLiteral (word s i)) f .1) .1 in
-          let d : not true ≡ true = ap not (sym (begins-front push (95 ∷ 76 ∷ 73 ∷ 84 ∷ 69 ∷ 82 ∷ 65 ∷ 76 ∷ []) (word s i) c)) ∙ g in
-          let z : _≡_ {A = ℕ} 0 1 = cc in
-          absurd (omega arith)
-
+  -- a rule's name doesn't begin PUSH, so it's no PUSH_LITERAL
   pub values-name : isName s i ≡ true → valuesTo s (i + 1) ≡ valuesTo s i
-  values-name e = let (a, b) = name-other e in values-word s i a b
+  unfolding spells
+  values-name e =
+      let (a, b) = and-true (is s i 18) (not (begins push (word s i))) e in
+      values-word s i a
+      (and-second (is s i 18) (same pushLiteral (word s i))
+      (and-second (eqb (length (word s i)) 12) (begins pushLiteral (word s i)) (begins-more push (95 ∷ 76 ∷ 73 ∷ 84 ∷ 69 ∷ 82 ∷ 65 ∷ 76 ∷ []) (word s i) (not-true (begins push (word s i)) b))))
 
-  mark-past : (m : ℕ) → markAt s i ≡ m → (m ≡ 0 → ⊥) → valuesTo s (i + 1) ≡ valuesTo s i
+  mark-skip : (m : ℕ) → markAt s i ≡ m → (m ≡ 0 → ⊥) → valuesTo s (i + 1) ≡ valuesTo s i
   unfolding markAt valueBy
-  mark-past m e n =
+  mark-skip m e n =
       split (spells silent s i) _ _ (λ a f. values-other s i silent (λ q. omega arith) a)
       (λ a. split (is s i 16) _ _ (λ b f. values-kind s i 16 b refl)
       (λ b. split (is s i 17) _ _ (λ c f. values-kind s i 17 c refl) (λ c. split (is s i 9) _ _ (λ d f. values-kind s i 9 d refl) (λ d f. absurd (n (sym f)))))) e
@@ -142,7 +121,7 @@ module _ (s : List ℕ) (i : ℕ) where
   pub values-mark : valuesTo s (pastMark s i) ≡ valuesTo s i
   values-mark =
       choose-by (λ (n : ℕ). valuesTo s n ≡ valuesTo s i) (eqb (markAt s i) 0) _ _ (λ e. refl)
-      (λ e. mark-past (markAt s i) refl (λ q. let z = eq-eqb (markAt s i) 0 q in let y : _≡_ {A = ℕ} 0 1 = cc in omega arith))
+      (λ e. mark-skip (markAt s i) refl (λ q. let z = eq-eqb (markAt s i) 0 q in let y : _≡_ {A = ℕ} 0 1 = cc in omega arith))
 
   pub values-bar : valuesTo s (pastBar s i) ≡ valuesTo s i
   unfolding valueBy
@@ -246,7 +225,7 @@ module _ (s : List ℕ) where
   leaf-by : (o at : ℕ) (t : Tree Span) (n : ℕ) → LeafRead o s at t n → valuesTo s n ≡ valuesTo s at ++ treeValues t
   unfolding valueBy treeValues
   leaf-by o at t n (literal a b c d f e g) =
-      let w = spells-word pushLiteral s at a in
+      let w = spelled-word pushLiteral s at a in
       rw (e, g)
       (values-kind s (at + 1 + 1 + 1) 7 f refl ∙ values-by s (at + 1 + 1) (bytes (string s (at + 1 + 1)) ∷ []) (value-is s (at + 1 + 1) 23 d)
       ∙ ap (λ (x : List Value). x ++ (bytes (string s (at + 1 + 1)) ∷ []))
@@ -255,7 +234,7 @@ module _ (s : List ℕ) where
   leaf-by o at t n (sliced a b e) =
       let (c, d) = and-true (spells peek s at) (is s (at + 1) 4) b in
       let z : at + 2 ≡ at + 1 + 1 = omega arith in
-      let y : valuesTo s (at + 2) ≡ valuesTo s at = ap (valuesTo s) z ∙ values-kind s (at + 1) 4 d refl ∙ values-word s at (spells-word peek s at c) a in
+      let y : valuesTo s (at + 2) ≡ valuesTo s at = ap (valuesTo s) z ∙ values-kind s (at + 1) 4 d refl ∙ values-word s at (spelled-word peek s at c) a in
       slice-values at (at + 2) (ap (before s) z ∙ after s (at + 1) 4 d) e ∙ ap (λ (x : List Value). x ++ treeValues t) y
   leaf-by o at t n (ident a b c e g) = rw (e, g) (values-word s at c a ∙ sym (append-nil (valuesTo s at)))
   leaf-by o at t n (str a b e g) = rw (e, g) (values-by s at (bytes (string s at) ∷ []) (value-is s at 23 b))
@@ -439,18 +418,18 @@ module _ (level : Level) (s : List ℕ) where
             ∙ ap (λ (x : Rule Span). valuesTo s at ++ treeValues (x .tree)) (sym (c .rule)),
       )
 
-  rules-end : (at : ℕ) (us : List (Rule Span)) → at ≤ length (toks s) → length (toks s) ≤ at → rules [] ≡ rules us → valuesIn s ≡ valuesTo s at ++ rulesValues us
+  end-values : (at : ℕ) (us : List (Rule Span)) → at ≤ length (toks s) → length (toks s) ≤ at → rules [] ≡ rules us → valuesIn s ≡ valuesTo s at ++ rulesValues us
   unfolding rulesValues
-  rules-end at us h g e =
+  end-values at us h g e =
       let z : length (toks s) ≡ at = omega arith in
       let y : [] ≡ us = cc in
       ap (valuesTo s) z ∙ sym (append-nil (valuesTo s at)) ∙ ap (λ (x : List (Rule Span)). valuesTo s at ++ rulesValues x) y
 
   rules-values : (k at : ℕ) (us : List (Rule Span)) → at ≤ length (toks s) → length (toks s) ≤ at + k → rulesUpTo level s k at ≡ rules us → valuesIn s ≡ valuesTo s at ++ rulesValues us
   unfolding rulesUpTo valueBy rulesValues
-  rules-values zero at us h g e = rules-end at us h (omega arith) e
+  rules-values zero at us h g e = end-values at us h (omega arith) e
   rules-values (suc k) at us h g e =
-      split (leb (length (toks s)) at) _ _ (λ v e₀. rules-end at us h (leb-true (length (toks s)) at v) e₀)
+      split (leb (length (toks s)) at) _ _ (λ v e₀. end-values at us h (leb-true (length (toks s)) at v) e₀)
       (λ v. split (is s at 27) _ _
       (λ w e₀.
       let l = inside-is s at 27 (omega arith) w in

@@ -32,7 +32,8 @@ use Rattle.structure.specs.Tokens.{spells}
 use Rattle.structure.specs.Values.{valueOf, number, negated, isInteger, integerOf, integer, opening, literalBytes, string, character, repeatFault, peekFault, literalFault, wordFault, numberFault, faultAt, orFault, faultsFrom, faults}
 use Rattle.structure.specs.Held.{Value, exact, least, most, peeked, single, bytes, pushes, before, repeatValue, numberValue, valueBy, valueAt, valuesTo, rulesValues, Counts, TooMany, NoTimes, NoCharacter, Right, Wrong, RightTo, FirstWrong}
 use Rattle.structure.specs.Structure.{rules, grammar}
-use Rattle.structure.proofs.Held.{is-kind, at-most-one, before-next, values-next, grammar-values}
+use Rattle.structure.proofs.Steps.{is-kind}
+use Rattle.structure.proofs.Held.{at-most-one, before-next, values-next, grammar-values}
 use Rattle.structure.proofs.Numerals.{number-digits, integer-digits}
 
 -- what holds of both branches of two choices by one test

@@ -2,15 +2,16 @@
 use Prim.Native.Nat.{ℕ, _+_, _<_}
 use mathlib.Core.Path.{_≡_, refl, sym, ap, _∙_}
 use mathlib.Core.Bool.{Bool, true, false}
-use mathlib.Core.List.{List}
+use mathlib.Core.List.{List, [], _∷_, _++_}
 use native.Mathlib.Omega.{arith}
 use native.Mathlib.Decide.{decLt}
-use lib.Dec.{leb}
+use lib.Dec.{leb, eqb}
 use lib.ListN.{length, List·getD-eq-default}
 use borrow.Author.Tests.{eqb-true, eq-eqb, ne-eqb}
 use Rattle.text.specs.Booleans.{choose, and, or}
 use Rattle.text.proofs.Booleans.{and-first, and-left, choose-cong, choose-false, choose-true, split}
 use Rattle.text.specs.Limits.{maxOpen}
+use Rattle.text.specs.Words.{begins}
 use Rattle.token.specs.Lists.{tok, kindOf}
 use Rattle.token.specs.Table.{toks, tokOf, kind, start, is, word}
 use Rattle.table.specs.Tree.{Span, Tree}
@@ -36,6 +37,10 @@ pub inside-is : (s : List ℕ) (i k : ℕ) → 0 < k → is s i k ≡ true → i
 unfolding is
 inside-is s i k p e = has-token s i (λ z. let q : kind s i ≡ k = eqb-true (kind s i) k e in omega arith)
 
+pub is-kind : (s : List ℕ) (i k : ℕ) → is s i k ≡ true → kind s i ≡ k
+unfolding is
+is-kind s i k e = eqb-true (kind s i) k e
+
 pub sees : (s : List ℕ) (i x k : ℕ) → x ≡ kind s i → x ≡ k → is s i k ≡ true
 unfolding is
 sees s i x k e q = eq-eqb (kind s i) k (sym e ∙ q)
@@ -49,13 +54,27 @@ pub another : (s : List ℕ) (i x j k : ℕ) → x ≡ kind s i → x ≡ j → 
 another s i x j k e q n = misses s i x k e (λ h. n (sym q ∙ h))
 
 -- a word that is spelled somehow is a word
-pub spells-in : (p s : List ℕ) (i : ℕ) → spells p s i ≡ true → i < length (toks s)
+pub spelled-word : (p s : List ℕ) (i : ℕ) → spells p s i ≡ true → is s i 18 ≡ true
 unfolding spells
-spells-in p s i e = inside-is s i 18 (omega arith) (and-left (is s i 18) (same p (word s i)) e)
+spelled-word p s i e = and-left (is s i 18) (same p (word s i)) e
+
+pub spells-in : (p s : List ℕ) (i : ℕ) → spells p s i ≡ true → i < length (toks s)
+spells-in p s i e = inside-is s i 18 (omega arith) (spelled-word p s i e)
 
 pub spells-kind : (p s : List ℕ) (i : ℕ) → is s i 18 ≡ false → spells p s i ≡ false
 unfolding spells
 spells-kind p s i e = and-first (is s i 18) (same p (word s i)) e
+
+-- what doesn't begin so doesn't begin with more
+pub begins-more : (p q xs : List ℕ) → begins p xs ≡ false → begins (p ++ q) xs ≡ false
+unfolding begins
+begins-more [] q xs e = let z : _≡_ {A = ℕ} 0 1 = cc in absurd (omega arith)
+begins-more (p ∷ ps) q [] e = refl
+begins-more (p ∷ ps) q (x ∷ xs) e = go (eqb x p) (λ f. begins-more ps q xs f) e
+  where
+    go : (b : Bool) → (begins ps xs ≡ false → begins (ps ++ q) xs ≡ false) → and b (begins ps xs) ≡ false → and b (begins (ps ++ q) xs) ≡ false
+    go true g f = g f
+    go false g f = refl
 
 -- ---- a token that is wanted
 

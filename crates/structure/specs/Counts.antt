@@ -14,13 +14,15 @@ use Rattle.table.specs.Tree.{Atom, text, range, peekSlice, Wrap, plain, nodeTag
 abbrev pub small : ℕ → Bool
 small n = leb n 4294967295
 
+-- 0
 abbrev pub isZero : ℕ → Bool
 isZero n = eqb n 0
 
--- no zeros, and each number is of 32 bits
+-- of 32 bits and not 0
 abbrev pub positive : ℕ → Bool
 positive n = and (small n) (not (isZero n))
 
+-- an exact count or a maximum is positive, a minimum may be 0
 abbrev pub unaryCounts : Unary → Bool
 unaryCounts PosPred = true
 unaryCounts NegPred = true
@@ -33,24 +35,29 @@ unaryCounts (RepMax n) = positive n
 unaryCounts (RepMinMax n m) = and (small n) (positive m)
 unaryCounts Push = true
 
+-- a tag has no number
 abbrev pub wrapCounts : Wrap → Bool
 wrapCounts (plain u) = unaryCounts u
 wrapCounts (nodeTag b) = true
 
+-- where a slice ends
 abbrev pub endCounts : End → Bool
 endCounts Open = true
 endCounts (At n) = small n
 
+-- a slice's numbers are of 32 bits, as two's complement has them
 abbrev pub atomCounts : Atom → Bool
 atomCounts (text k b) = true
 atomCounts (range x y) = true
 atomCounts (peekSlice x e) = and (small x) (endCounts e)
 
+-- every number of a tree is so
 unfoldable pub counted : {P : Type 0} → Tree P → Bool
 counted (leaf s a) = atomCounts a
 counted (one s o t) = and (wrapCounts o) (counted t)
 counted (two s j a b) = and (counted a) (counted b)
 
+-- and every number of rules
 unfoldable pub countedRules : {P : Type 0} → List (Rule P) → Bool
 countedRules [] = true
 countedRules (r ∷ rs) = and (counted (r .tree)) (countedRules rs)

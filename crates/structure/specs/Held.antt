@@ -36,6 +36,7 @@ pub data Value : Type 0 where
 
 -- ---- of trees
 
+-- the numbers of a repeat
 abbrev pub unaryValues : Unary → List Value
 unaryValues PosPred = []
 unaryValues NegPred = []
@@ -48,20 +49,24 @@ unaryValues (RepMax n) = most n ∷ []
 unaryValues (RepMinMax n m) = least n ∷ most m ∷ []
 unaryValues Push = []
 
+-- a tag has none
 abbrev pub wrapValues : Wrap → List Value
 wrapValues (plain u) = unaryValues u
 wrapValues (nodeTag b) = []
 
+-- a string, with PUSH_LITERAL before it where it is pushed; a name has none
 abbrev pub sortValues : Sort → List ℕ → List Value
 sortValues Str b = bytes b ∷ []
 sortValues Insens b = bytes b ∷ []
 sortValues Ident b = []
 sortValues PushLiteral b = pushes ∷ bytes b ∷ []
 
+-- where a slice ends, unless it is open
 abbrev pub endValues : End → List Value
 endValues Open = []
 endValues (At n) = peeked n ∷ []
 
+-- the values of a leaf: a slice always has a start
 abbrev pub atomValues : Atom → List Value
 atomValues (text k b) = sortValues k b
 atomValues (range x y) = single x ∷ single y ∷ []
@@ -73,6 +78,7 @@ treeValues (leaf s a) = atomValues a
 treeValues (one s o t) = treeValues t ++ wrapValues o
 treeValues (two s j a b) = treeValues a ++ treeValues b
 
+-- the values of rules, one tree behind the other
 unfoldable pub rulesValues : {P : Type 0} → List (Rule P) → List Value
 rulesValues [] = []
 rulesValues (r ∷ rs) = treeValues (r .tree) ++ rulesValues rs
@@ -103,14 +109,16 @@ valueBy s b i k =
     (λ u. choose (or (eqb k 23) (eqb k 24)) (λ u. bytes (string s i) ∷ [])
     (λ u. choose (eqb k 25) (λ u. single (character s i) ∷ []) (λ u. []))))))
 
+-- the value of a token, if it has one
 abbrev pub valueAt : List ℕ → ℕ → List Value
 valueAt s i = valueBy s (before s i) i (kind s i)
 
--- the values of the first n tokens, and of all
+-- the values of the first n tokens
 unfoldable pub valuesTo : List ℕ → ℕ → List Value
 valuesTo s zero = []
 valuesTo s (suc n) = valuesTo s n ++ valueAt s n
 
+-- those of all
 abbrev pub valuesIn : List ℕ → List Value
 valuesIn s = valuesTo s (length (toks s))
 

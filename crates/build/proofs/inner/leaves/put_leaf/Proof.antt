@@ -3,8 +3,8 @@
 use Rattle.build.proofs.Parts.{string-long, insens-long}
 use native.Mathlib.Omega.{arith}
 use mathlib.Core.Path.{sym, _∙_}
-use Rattle.structure.proofs.Steps.{sees, misses, inside-is}
-use Rattle.build.proofs.Leaves.{spelled-word, push-read, peek-read, peek-word, word-read, string-read, insens-read, ranged-read, room-same, built-same}
+use Rattle.structure.proofs.Steps.{sees, misses, inside-is, spelled-word}
+use Rattle.build.proofs.Leaves.{push-read, peek-read, peek-word, word-read, string-read, insens-read, ranged-read, room-same, built-same}
 use borrow.Author.Needs.{needs}
 use Rattle.token.proofs.Table.{sizes}
 use Rattle.build.proofs.inner.leaves.put_leaf.Statement.{statement}
