@@ -29,12 +29,12 @@ use Rattle.structure.specs.declared.Why.the-variants.{NotAllowed}
 use Rattle.structure.specs.Structure.{rules, docsIn, grammar}
 use Rattle.structure.specs.Held.{pushes, wrapValues, atomValues, treeValues, rulesValues}
 use Rattle.structure.proofs.Judged.{each-right}
-use Rattle.structure.proofs.Fair.{sound-counted}
 use Rattle.build.specs.Rules.{rulesRead}
 use Rattle.reader.specs.declared.Reading.{Reading}
 use Rattle.reader.specs.declared.Reading.the-variants as Reading
 use Rattle.reader.specs.Read.{refusedBy, readOf, listedOf, judgedOf}
 use Rattle.reader.proofs.Counts.{read-counts}
+use Rattle.reader.proofs.Firsts.{read-counted}
 use Rattle.reader.proofs.Good.{read-fine, read-good}
 use Rattle.promises.specs.Styled.{markedRules}
 use Rattle.promises.specs.Round.{depths, isPushing, pushing, holdsPushLiteral, seen, Sayable, ReadAs}
@@ -117,7 +117,7 @@ module _ (level : Level) (s : List ℕ) (n r b : ℕ) {x y z : ℕ} (e : readOf 
         let m = length-map us asideRule in
         record {
           fine = rules-fine aside items-aside us ∙ read-fine level s n r b e;
-          counted = counted-asides us ∙ sound-counted level s us (c .read) (c .sound);
+          counted = counted-asides us ∙ read-counted level s n r b x y z e;
           some = omega (arith, c .rules-are);
           few-nodes = omega (arith, rules-counts aside items-aside us, c .nodes-fit);
           few-rules = omega (arith, c .rules-fit);
