@@ -25,6 +25,8 @@ pub mod Asides
 pub mod Readings
 pub mod Round
 pub mod Deep
+-- from a text to its printed text and back
+pub mod Again
 -- the short text
 pub mod Needs
 pub mod Least

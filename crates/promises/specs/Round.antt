@@ -11,17 +11,18 @@ use Rattle.table.specs.declared.Unary.the-variants.{PosPred, NegPred, Opt, Rep,
 use Rattle.table.specs.declared.Sort.the-variants.{Str, Insens, Ident, PushLiteral}
 use Rattle.table.specs.Tree.{Span, Atom, text, range, peekSlice, Wrap, plain, nodeTag, Tree, leaf, one, two, Rule, Nowhere, ruleBy, counts, rulesStored, Same}
 use Rattle.table.specs.Record.{nodeSize, ruleSize, rulesIn, rulesOf}
-use Rattle.table.specs.Check.{tables}
+use Rattle.table.specs.Check.{tables, fineRules}
 use Rattle.table.specs.declared.TableCheck.the-variants as Table
 use Rattle.forms.specs.declared.Style.{Style}
 use Rattle.forms.specs.declared.Style.the-variants.{Full, Short}
+use Rattle.forms.specs.Printing.{printedRules}
 use Rattle.printer.specs.Answers.{tableText}
 use Rattle.promises.specs.Open.{mostOpen}
 use Rattle.reader.specs.declared.Reading.the-variants as Reading
 use Rattle.reader.specs.Read.{roomBy, readOf, Leaves}
 use Rattle.build.specs.Rules as Built
 use Rattle.table.specs.Regroup.{regroup, untagged}
-use Rattle.structure.specs.Counts.{isZero}
+use Rattle.structure.specs.Counts.{isZero, countedRules}
 use Rattle.structure.specs.declared.Level.{Level}
 use Rattle.structure.specs.declared.Level.the-variants.{Tagged, Plain}
 
@@ -109,3 +110,14 @@ pub record ReadAs {P : Type 0} (level : Level) (s : List ℕ) (us : List (Rule P
   pub few-nodes : counts us ≤ maxNodes
   pub few-rules : length us ≤ maxRules
   pub short : length (rulesStored us) ≤ length s
+
+-- rules that come back from their text: fine, each number in its bounds, one at least and no more than the limits, and their text within
+-- the reader's limits
+pub record Sayable (style : Style) (us : List (Rule Nowhere)) : Type 0 where
+  pub fine : fineRules us ≡ true
+  pub counted : countedRules us ≡ true
+  pub some : 1 ≤ length us
+  pub few-nodes : counts us ≤ maxNodes
+  pub few-rules : length us ≤ maxRules
+  pub short : length (printedRules style us) ≤ maxText
+  pub shallow : mostOpen (printedRules style us) ≤ maxOpen

@@ -1,14 +1,12 @@
 -- The phases of a reading: what each of them answers, and what it leaves in the lent buffers.
-use Prim.Native.Nat.{ℕ, zero, suc, _+_, _*_, _≤_, _<_}
+use Prim.Native.Nat.{ℕ, _*_, _≤_, _<_}
 use mathlib.Core.Path.{_≡_, refl, sym, ap, _∙_}
 use mathlib.Core.Bool.{false}
-use mathlib.Core.List.{List, [], _∷_}
+use mathlib.Core.List.{List}
 use mathlib.Core.Logic.{⊎-elim}
 use native.Mathlib.Omega.{arith}
-use lib.Dec.{leb, ltb, eqb}
-use denote.Enum.Declared.{tagOf}
-use types.Run.{OneOf}
-use lib.ListN.{length, take, length-append, length-take}
+use lib.Dec.{leb, eqb}
+use lib.ListN.{length, take, length-take}
 use lib.Seq.{take-all}
 use borrow.Author.Tests.{le-leb, lt-leb}
 use Rattle.text.specs.Booleans.{choose, and, or}
@@ -23,7 +21,7 @@ use Rattle.token.proofs.Lists.{few}
 use Rattle.token.proofs.Table.{flat-length}
 use Rattle.token.proofs.Fills.{used, filled-all, filled-none, filled-over}
 use Rattle.text.proofs.Splices.{length-fronted}
-use Rattle.table.specs.Tree.{Span, Rule, counts, ruleStored, rulesStored}
+use Rattle.table.specs.Tree.{Span, Rule, counts, rulesStored}
 use Rattle.table.specs.Flat.{nodesOf, recordsOf}
 use Rattle.structure.specs.declared.Level.{Level}
 use Rattle.structure.specs.declared.Fault.{Fault}
@@ -35,16 +33,14 @@ use Rattle.structure.specs.declared.Why.the-variants.{TooLong, NotUtf8, NoToken
 use Rattle.structure.specs.declared.Counted.{Counted}
 use Rattle.structure.specs.declared.Counted.the-variants as Counted
 use Rattle.structure.specs.Values.{faults}
-use Rattle.structure.specs.Structure.{Ruled, rules, unruled, grammar, docs}
-use Rattle.structure.specs.Structure as Structure
+use Rattle.structure.specs.Structure.{Ruled, rules, unruled, grammar}
 use Rattle.structure.specs.Answers.{summaries}
-use Rattle.structure.proofs.Sizes as Sizes
 use Rattle.text.proofs.Tests.{lt-or-ge}
-use Rattle.text.proofs.Booleans.{choose-false, choose-true, or-first, or-second, split}
+use Rattle.text.proofs.Booleans.{choose-false, choose-true, or-first, or-second}
 use Rattle.text.specs.Limits.{maxText}
 use Rattle.token.specs.Table.{tokenSize, flat, roomOf, toks, is, Lent}
-use Rattle.structure.proofs.Rules.{rule-went, rules-end}
 use Rattle.structure.proofs.Fine.{sound-characters}
+use Rattle.structure.proofs.Stores.{stored-fits}
 use Rattle.reader.specs.declared.Reading.{Reading}
 use Rattle.reader.specs.declared.Reading.the-variants as Reading
 use Rattle.reader.specs.declared.Attempt.{Attempt}
@@ -52,8 +48,7 @@ use Rattle.reader.specs.declared.Attempt.the-variants as Attempt
 use Rattle.reader.proofs.Counts.{judged-counts}
 use Rattle.reader.specs.Read.{roomForNodes, roomForRules, roomBy, faulty, checkedBy, refusedBy, ruledBy, judgedOf, listedOf, attemptOf, readOf, leftIn, Numbered, numberOf, numbered, reported, Leaves, AttemptLeaves}
 use Rattle.build.specs.Build.{Scalars}
-use Rattle.build.specs.Rules.{GrammarRoom, RulesBuilt, ruledOf, rulesRead}
-use Rattle.build.proofs.Rules.{next-rule, no-rules}
+use Rattle.build.specs.Rules.{GrammarRoom, RulesBuilt, rulesRead}
 
 -- ---- room
 
@@ -116,36 +111,6 @@ module _ (level : Level) (s : List ℕ) where
     insens = λ i q. sound-characters level s e i (or-second (is s i 23) (or (is s i 24) (is s i 25)) (or-first (is s i 24) (is s i 25) q));
   }
 
-  -- ---- the texts of rules aren't large
-
-  small-in : length s ≤ maxText → (k i : ℕ) (us : List (Rule Span)) → Structure.rulesUpTo level s k i ≡ rules us → length (rulesStored us) ≤ Sizes.most * (counts us + length us)
-  unfolding Structure.rulesUpTo counts rulesStored
-  small-in h zero i us e =
-      let z : us ≡ [] = cc in
-      let a = ap (λ (x : List (Rule Span)). length (rulesStored x)) z in
-      omega arith
-  small-in h (suc k) i us e = ⊎-elim
-      (λ l.
-      split (is s i 27) _ _ (λ v w. small-in h k (i + 1) us w)
-      (λ v w.
-      let n = next-rule level s k i us l v e in
-      let p = small-in h k (n .next) (n .later) (n .rest) in
-      let g = rule-went level s i (n .rule) (n .next) h (n .read) in
-      let a = ap (length {A = Rule Span}) (n .are) in
-      let b = ap (counts {P = Span}) (n .are) in
-      let c = ap (λ (y : List (Rule Span)). length (rulesStored y)) (n .are) ∙ length-append (ruleStored (n .rule)) (rulesStored (n .later)) in
-      omega arith) (sym (choose-false (leb (length (toks s)) i) _ _ (lt-leb (length (toks s)) i l)) ∙ e))
-      (λ l.
-      let z : us ≡ [] = no-rules us [] (sym e ∙ rules-end level s (suc k) i l) in
-      let a = ap (λ (x : List (Rule Span)). length (rulesStored x)) z in
-      omega arith)
-      (lt-or-ge i (length (toks s)))
-
-  small : length s ≤ maxText → (us : List (Rule Span)) → grammar level s ≡ rules us → length (rulesStored us) ≤ Sizes.most * (counts us + length us)
-  unfolding grammar
-  small h us e =
-      split (leb (length (toks s)) (docs s)) _ _ (λ v w. let z : _≡_ {A = ℕ} 0 1 = cc in absurd (omega arith)) (λ v w. small-in h (length (toks s)) (docs s) us w) e
-
 -- ---- what is read is built
 
 module _ (level : Level) (s ns rs st : List ℕ) where
@@ -155,7 +120,7 @@ module _ (level : Level) (s ns rs st : List ℕ) where
       let c = judged-counts level s (roomForNodes ns) (roomForRules rs) (length st) e in
       let a = c .nodes-fit in
       let b = c .rules-fit in
-      let d = small level s h (rulesRead level s) (c .read) in
+      let d = stored-fits s level (rulesRead level s) (c .read) in
       (sound-scalars level s (c .sound), record { read = c .read; rows = omega arith; room = omega arith; few = omega arith; fits = c .store-fits; low = omega arith })
 
   pub read-left : (x y z : ℕ) (ns′ rs′ st′ : List ℕ) → RulesBuilt (rulesRead level s) ns rs st ns′ rs′ st′ → Leaves level s (Reading.Read x y z) ns rs st ns′ rs′ st′

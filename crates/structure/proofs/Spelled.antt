@@ -38,7 +38,7 @@ use Rattle.token.proofs.Lists.{foundAs, at-index}
 use Rattle.token.proofs.Table.{spans, word-is, part-none}
 use Rattle.structure.specs.Tokens.{same, spells}
 use Rattle.structure.specs.Values.{literalBytes}
-use Rattle.structure.proofs.Steps.{inside-is, another}
+use Rattle.structure.proofs.Steps.{inside-is, is-kind, another}
 use Rattle.structure.proofs.Bytes.{begins-take}
 use Rattle.structure.proofs.Insides.{between-utf8}
 
@@ -260,10 +260,6 @@ module _ (s : List ℕ) (i : ℕ) where
       let q : kindOf (getD (toks s) i d) ≡ k = eqb-true _ k e in
       rw q at (tok-says s (placeFrom 0 (toks s) i) (getD (toks s) i d) (at-index s i d (inside-is s i k p e)))
 
-  kind-of : {k : ℕ} → is s i k ≡ true → kind s i ≡ k
-  unfolding is
-  kind-of {k} e = eqb-true (kind s i) k e
-
   -- a word's bytes
   word-bytes : word s i ≡ take (end s i - start s i) (drop (start s i) s)
   unfolding between
@@ -342,7 +338,7 @@ module _ (s : List ℕ) (i : ℕ) where
         let r = says 23 (omega arith) e in
         let l = spans s i (inside-is s i 23 (omega arith) e) in
         let z : (start s i + 0) + 1 ≡ start s i + 1 = omega arith in
-        rw (another s i (kind s i) 23 24 refl (kind-of e) (λ m. omega arith)) (rw z at (inside 0 (r .0) (r .1) (l .0)))
+        rw (another s i (kind s i) 23 24 refl (is-kind s i 23 e) (λ m. omega arith)) (rw z at (inside 0 (r .0) (r .1) (l .0)))
 
     pub insens-inside : is s i 24 ≡ true → firstBad (literalBytes s i) ≡ Through
     insens-inside e =
