@@ -1,0 +1,2 @@
+-- Lines of test vectors: what the proofs cite.
+pub mod Vectors

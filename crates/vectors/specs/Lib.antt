@@ -1,0 +1,2 @@
+-- Lines of test vectors.
+pub mod Vectors

@@ -1,8 +1,10 @@
 // Lines of test vectors. A program of the gate reads them on its standard input, one to a line, takes
 // a line's fields apart, and writes what came of each.
 ghost use Prim.Native.Nat.{_≤_};
-ghost use lib.ListN.{length};
+ghost use mathlib.Core.Path.{_≡_};
+ghost use lib.ListN.{length, drop};
 ghost use Rattle.io.specs.Counts.{Counts};
+ghost use Rattle.vectors.specs.Vectors.{findOf, lineEnd, fieldOf, wordOf, hexValue, numberFrom, oneIf, alone, mixedOf, sumFrom};
 
 // Where a field lies in its line. It is empty where there is none.
 pub struct Part {
@@ -12,7 +14,7 @@ pub struct Part {
 
 // From a place on, the first byte that is b (or, asked so, that is not), or the end.
 pub fn find(s: &[u8], at: usize, b: u8, wanted: bool) -> usize
-    ensures { λ r. ⌜ (r ≤ length (now (s .entry))) × (at ≤ length (now (s .entry)) → at ≤ r) ⌝ }
+    ensures { λ r. ⌜ (r ≤ length (now (s .entry))) × (at ≤ length (now (s .entry)) → at ≤ r) × (r ≡ findOf (now (s .entry)) at b wanted) ⌝ }
 {
     if s.len() < at {
         return s.len();
@@ -30,14 +32,14 @@ pub fn find(s: &[u8], at: usize, b: u8, wanted: bool) -> usize
 
 // The end of the line that starts at a place: its LF, or the end of all.
 pub fn line_end(s: &[u8], at: usize) -> usize
-    ensures { λ r. ⌜ (r ≤ length (now (s .entry))) × (at ≤ length (now (s .entry)) → at ≤ r) ⌝ }
+    ensures { λ r. ⌜ (r ≤ length (now (s .entry))) × (at ≤ length (now (s .entry)) → at ≤ r) × (r ≡ lineEnd (now (s .entry)) at) ⌝ }
 {
     find(s, at, b'\n', true)
 }
 
 // The next field of a line from a place on.
 pub fn field(s: &[u8], at: usize) -> Part
-    ensures { λ r. ⌜ (r .start ≤ r .end) × (r .end ≤ length (now (s .entry))) ⌝ }
+    ensures { λ r. ⌜ (r .start ≤ r .end) × (r .end ≤ length (now (s .entry))) × (r ≡ fieldOf (now (s .entry)) at) ⌝ }
 {
     let start = find(s, at, b' ', false);
     let end = find(s, start, b' ', true);
@@ -45,7 +47,9 @@ pub fn field(s: &[u8], at: usize) -> Part
 }
 
 // The field of a line that k others stand before.
-pub fn word(s: &[u8], k: usize) -> &[u8] {
+pub fn word(s: &[u8], k: usize) -> &[u8]
+    ensures { λ r. ⌜ now r ≡ wordOf (now (s .entry)) k ⌝ }
+{
     let mut at = 0;
     let mut i = 0;
     while i < k {
@@ -60,7 +64,7 @@ pub fn word(s: &[u8], k: usize) -> &[u8] {
 }
 
 fn hex_value(b: u8) -> u8
-    ensures { λ r. ⌜ r ≤ 15 ⌝ }
+    ensures { λ r. ⌜ (r ≤ 15) × (r ≡ hexValue b) ⌝ }
 {
     if b < 48 {
         return 0;
@@ -99,7 +103,9 @@ pub fn unhex(s: &[u8], out: &mut [u8]) -> usize
 }
 
 // A decimal number. One that a u64 doesn't hold is cut short.
-pub fn number(s: &[u8]) -> u64 {
+pub fn number(s: &[u8]) -> u64
+    ensures { λ r. ⌜ r ≡ numberFrom 0 (now (s .entry)) ⌝ }
+{
     let mut v: u64 = 0;
     let mut i = 0;
     while i < s.len() {
@@ -124,7 +130,7 @@ fn more(v: u32, b: u8) -> u32 {
 }
 
 fn one_if(met: bool) -> usize
-    ensures { λ r. ⌜ r ≤ 1 ⌝ }
+    ensures { λ r. ⌜ (r ≤ 1) × (r ≡ oneIf met) ⌝ }
 {
     if met { 1 } else { 0 }
 }
@@ -173,7 +179,8 @@ fn append(piece: &[u8], out: &mut [u8], from: usize) -> usize
     k
 }
 
-pub fn repeat(piece: &[u8], times: usize, out: &mut [u8], from: usize) -> usize
+// A piece so many times, behind what a buffer has.
+fn repeat(piece: &[u8], times: usize, out: &mut [u8], from: usize) -> usize
     ensures { λ r. ⌜ Counts r (now (out .exit)) ⌝ }
 {
     if out.len() < from {
@@ -227,7 +234,9 @@ pub fn parts(s: &[u8], out: &mut [u8]) -> usize
 }
 
 // How many numbers stand at 2,863,311,530 from a place on.
-pub fn numbers_alone(s: &[u32], from: usize) -> usize {
+pub fn numbers_alone(s: &[u32], from: usize) -> usize
+    ensures { λ r. ⌜ r ≡ alone 2863311530 (drop from (now (s .entry))) ⌝ }
+{
     let mut n = 0;
     let mut i = from;
     while i < s.len() {
@@ -238,7 +247,9 @@ pub fn numbers_alone(s: &[u32], from: usize) -> usize {
 }
 
 // How many bytes stand at 170 from a place on.
-pub fn bytes_alone(s: &[u8], from: usize) -> usize {
+pub fn bytes_alone(s: &[u8], from: usize) -> usize
+    ensures { λ r. ⌜ r ≡ alone 170 (drop from (now (s .entry))) ⌝ }
+{
     let mut n = 0;
     let mut i = from;
     while i < s.len() {
@@ -248,15 +259,21 @@ pub fn bytes_alone(s: &[u8], from: usize) -> usize {
     n
 }
 
-fn mixed(sum: u32, v: u32) -> u32 {
+fn mixed(sum: u32, v: u32) -> u32
+    ensures { λ r. ⌜ r ≡ mixedOf sum v ⌝ }
+{
     ((sum as u64 * 31 + v as u64) % 0x1_0000_0000) as u32
 }
 
-fn mixed_byte(sum: u32, b: u8) -> u32 {
+fn mixed_byte(sum: u32, b: u8) -> u32
+    ensures { λ r. ⌜ r ≡ mixedOf sum b ⌝ }
+{
     mixed(sum, b as u32)
 }
 
-pub fn numbers_sum(s: &[u32]) -> u32 {
+pub fn numbers_sum(s: &[u32]) -> u32
+    ensures { λ r. ⌜ r ≡ sumFrom 0 (now (s .entry)) ⌝ }
+{
     let mut sum: u32 = 0;
     let mut i = 0;
     while i < s.len() {
@@ -266,7 +283,9 @@ pub fn numbers_sum(s: &[u32]) -> u32 {
     sum
 }
 
-pub fn bytes_sum(s: &[u8]) -> u32 {
+pub fn bytes_sum(s: &[u8]) -> u32
+    ensures { λ r. ⌜ r ≡ sumFrom 0 (now (s .entry)) ⌝ }
+{
     let mut sum: u32 = 0;
     let mut i = 0;
     while i < s.len() {
