@@ -15,7 +15,7 @@ use Rattle.vectors.specs.declared.Part.{Part}
 use Rattle.vectors.specs.Vectors.{before, findOf, fieldOf, pastFields, partOf, wordOf, hexValue, numberFrom, oneIf, alone, mixedOf, sumFrom}
 
 -- an element and what is left behind it; nothing past the end
-step : (s : List ℕ) (i : ℕ) → i < length s → drop i s ≡ getD s i 0 ∷ drop (i + 1) s
+pub step : (s : List ℕ) (i : ℕ) → i < length s → drop i s ≡ getD s i 0 ∷ drop (i + 1) s
 step s i h = rw (add-one, drop-cons s i 0)
 
 pub end : (s : List ℕ) (i : ℕ) → length s ≤ i → drop i s ≡ []

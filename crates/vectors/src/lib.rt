@@ -5,6 +5,7 @@ ghost use mathlib.Core.Path.{_≡_};
 ghost use lib.ListN.{length, drop};
 ghost use Rattle.io.specs.Counts.{Counts};
 ghost use Rattle.vectors.specs.Vectors.{findOf, lineEnd, fieldOf, wordOf, hexValue, numberFrom, oneIf, alone, mixedOf, sumFrom};
+ghost use Rattle.vectors.specs.Buffers.{filled, put, unhexed, appended, repeated, moreOf, keptIf, numbersFrom, piecesFrom, partsFrom};
 
 // Where a field lies in its line. It is empty where there is none.
 pub struct Part {
@@ -83,7 +84,8 @@ fn hex_value(b: u8) -> u8
 
 // The bytes that pairs of hex digits spell, as many as there is room for.
 pub fn unhex(s: &[u8], out: &mut [u8]) -> usize
-    ensures { λ r. ⌜ Counts r (now (out .exit)) ⌝ }
+    ensures counts { λ r. ⌜ Counts r (now (out .exit)) ⌝ }
+    ensures left { λ r. ⌜ filled r (now (out .exit)) ≡ put (now (out .entry)) 0 (unhexed (now (s .entry))) ⌝ }
 {
     let mut k = 0;
     let mut i = 0;
@@ -119,7 +121,9 @@ pub fn number(s: &[u8]) -> u64
 }
 
 // A number with one more digit, kept to 32 bits; other bytes mean nothing.
-fn more(v: u32, b: u8) -> u32 {
+fn more(v: u32, b: u8) -> u32
+    ensures { λ r. ⌜ r ≡ moreOf v b ⌝ }
+{
     if b < 48 {
         return v;
     }
@@ -135,13 +139,16 @@ fn one_if(met: bool) -> usize
     if met { 1 } else { 0 }
 }
 
-fn kept(v: u32, met: bool) -> u32 {
+fn kept(v: u32, met: bool) -> u32
+    ensures { λ r. ⌜ r ≡ keptIf v met ⌝ }
+{
     if met { v } else { 0 }
 }
 
 // The numbers of a list in which a comma stands behind each.
 pub fn numbers(s: &[u8], out: &mut [u32]) -> usize
-    ensures { λ r. ⌜ Counts r (now (out .exit)) ⌝ }
+    ensures counts { λ r. ⌜ Counts r (now (out .exit)) ⌝ }
+    ensures left { λ r. ⌜ filled r (now (out .exit)) ≡ numbersFrom 0 (now (out .entry)) 0 (now (s .entry)) ⌝ }
 {
     let mut v: u32 = 0;
     let mut k = 0;
@@ -161,7 +168,8 @@ pub fn numbers(s: &[u8], out: &mut [u32]) -> usize
 
 // Copies a piece behind what a buffer has, as far as there is room.
 fn append(piece: &[u8], out: &mut [u8], from: usize) -> usize
-    ensures { λ r. ⌜ Counts r (now (out .exit)) ⌝ }
+    ensures counts { λ r. ⌜ Counts r (now (out .exit)) ⌝ }
+    ensures left { λ r. ⌜ filled r (now (out .exit)) ≡ appended (now (out .entry)) from (now (piece .entry)) ⌝ }
 {
     if out.len() < from {
         return 0;
@@ -181,7 +189,8 @@ fn append(piece: &[u8], out: &mut [u8], from: usize) -> usize
 
 // A piece so many times, behind what a buffer has.
 fn repeat(piece: &[u8], times: usize, out: &mut [u8], from: usize) -> usize
-    ensures { λ r. ⌜ Counts r (now (out .exit)) ⌝ }
+    ensures counts { λ r. ⌜ Counts r (now (out .exit)) ⌝ }
+    ensures left { λ r. ⌜ filled r (now (out .exit)) ≡ repeated times (now (piece .entry)) (now (out .entry)) from ⌝ }
 {
     if out.len() < from {
         return 0;
