@@ -1,0 +1,3 @@
+-- Lines of test vectors: what the proofs cite.
+pub mod Vectors
+pub mod Buffers

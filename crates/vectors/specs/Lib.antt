@@ -1,0 +1,3 @@
+-- Lines of test vectors.
+pub mod Vectors
+pub mod Buffers

@@ -1,8 +1,11 @@
 // Lines of test vectors. A program of the gate reads them on its standard input, one to a line, takes
 // a line's fields apart, and writes what came of each.
 ghost use Prim.Native.Nat.{_≤_};
-ghost use lib.ListN.{length};
+ghost use mathlib.Core.Path.{_≡_};
+ghost use lib.ListN.{length, drop};
 ghost use Rattle.io.specs.Counts.{Counts};
+ghost use Rattle.vectors.specs.Vectors.{findOf, lineEnd, fieldOf, wordOf, hexValue, numberFrom, oneIf, alone, mixedOf, sumFrom};
+ghost use Rattle.vectors.specs.Buffers.{filled, put, unhexed, appended, repeated, moreOf, keptIf, numbersFrom, piecesFrom, partsFrom};
 
 // Where a field lies in its line. It is empty where there is none.
 pub struct Part {
@@ -12,7 +15,7 @@ pub struct Part {
 
 // From a place on, the first byte that is b (or, asked so, that is not), or the end.
 pub fn find(s: &[u8], at: usize, b: u8, wanted: bool) -> usize
-    ensures { λ r. ⌜ (r ≤ length (now (s .entry))) × (at ≤ length (now (s .entry)) → at ≤ r) ⌝ }
+    ensures { λ r. ⌜ (r ≤ length (now (s .entry))) × (at ≤ length (now (s .entry)) → at ≤ r) × (r ≡ findOf (now (s .entry)) at b wanted) ⌝ }
 {
     if s.len() < at {
         return s.len();
@@ -30,14 +33,14 @@ pub fn find(s: &[u8], at: usize, b: u8, wanted: bool) -> usize
 
 // The end of the line that starts at a place: its LF, or the end of all.
 pub fn line_end(s: &[u8], at: usize) -> usize
-    ensures { λ r. ⌜ (r ≤ length (now (s .entry))) × (at ≤ length (now (s .entry)) → at ≤ r) ⌝ }
+    ensures { λ r. ⌜ (r ≤ length (now (s .entry))) × (at ≤ length (now (s .entry)) → at ≤ r) × (r ≡ lineEnd (now (s .entry)) at) ⌝ }
 {
     find(s, at, b'\n', true)
 }
 
 // The next field of a line from a place on.
 pub fn field(s: &[u8], at: usize) -> Part
-    ensures { λ r. ⌜ (r .start ≤ r .end) × (r .end ≤ length (now (s .entry))) ⌝ }
+    ensures { λ r. ⌜ (r .start ≤ r .end) × (r .end ≤ length (now (s .entry))) × (r ≡ fieldOf (now (s .entry)) at) ⌝ }
 {
     let start = find(s, at, b' ', false);
     let end = find(s, start, b' ', true);
@@ -45,7 +48,9 @@ pub fn field(s: &[u8], at: usize) -> Part
 }
 
 // The field of a line that k others stand before.
-pub fn word(s: &[u8], k: usize) -> &[u8] {
+pub fn word(s: &[u8], k: usize) -> &[u8]
+    ensures { λ r. ⌜ now r ≡ wordOf (now (s .entry)) k ⌝ }
+{
     let mut at = 0;
     let mut i = 0;
     while i < k {
@@ -60,7 +65,7 @@ pub fn word(s: &[u8], k: usize) -> &[u8] {
 }
 
 fn hex_value(b: u8) -> u8
-    ensures { λ r. ⌜ r ≤ 15 ⌝ }
+    ensures { λ r. ⌜ (r ≤ 15) × (r ≡ hexValue b) ⌝ }
 {
     if b < 48 {
         return 0;
@@ -79,7 +84,8 @@ fn hex_value(b: u8) -> u8
 
 // The bytes that pairs of hex digits spell, as many as there is room for.
 pub fn unhex(s: &[u8], out: &mut [u8]) -> usize
-    ensures { λ r. ⌜ Counts r (now (out .exit)) ⌝ }
+    ensures counts { λ r. ⌜ Counts r (now (out .exit)) ⌝ }
+    ensures left { λ r. ⌜ filled r (now (out .exit)) ≡ put (now (out .entry)) 0 (unhexed (now (s .entry))) ⌝ }
 {
     let mut k = 0;
     let mut i = 0;
@@ -99,7 +105,9 @@ pub fn unhex(s: &[u8], out: &mut [u8]) -> usize
 }
 
 // A decimal number. One that a u64 doesn't hold is cut short.
-pub fn number(s: &[u8]) -> u64 {
+pub fn number(s: &[u8]) -> u64
+    ensures { λ r. ⌜ r ≡ numberFrom 0 (now (s .entry)) ⌝ }
+{
     let mut v: u64 = 0;
     let mut i = 0;
     while i < s.len() {
@@ -113,7 +121,9 @@ pub fn number(s: &[u8]) -> u64 {
 }
 
 // A number with one more digit, kept to 32 bits; other bytes mean nothing.
-fn more(v: u32, b: u8) -> u32 {
+fn more(v: u32, b: u8) -> u32
+    ensures { λ r. ⌜ r ≡ moreOf v b ⌝ }
+{
     if b < 48 {
         return v;
     }
@@ -124,18 +134,21 @@ fn more(v: u32, b: u8) -> u32 {
 }
 
 fn one_if(met: bool) -> usize
-    ensures { λ r. ⌜ r ≤ 1 ⌝ }
+    ensures { λ r. ⌜ (r ≤ 1) × (r ≡ oneIf met) ⌝ }
 {
     if met { 1 } else { 0 }
 }
 
-fn kept(v: u32, met: bool) -> u32 {
+fn kept(v: u32, met: bool) -> u32
+    ensures { λ r. ⌜ r ≡ keptIf v met ⌝ }
+{
     if met { v } else { 0 }
 }
 
 // The numbers of a list in which a comma stands behind each.
 pub fn numbers(s: &[u8], out: &mut [u32]) -> usize
-    ensures { λ r. ⌜ Counts r (now (out .exit)) ⌝ }
+    ensures counts { λ r. ⌜ Counts r (now (out .exit)) ⌝ }
+    ensures left { λ r. ⌜ filled r (now (out .exit)) ≡ numbersFrom 0 (now (out .entry)) 0 (now (s .entry)) ⌝ }
 {
     let mut v: u32 = 0;
     let mut k = 0;
@@ -155,7 +168,8 @@ pub fn numbers(s: &[u8], out: &mut [u32]) -> usize
 
 // Copies a piece behind what a buffer has, as far as there is room.
 fn append(piece: &[u8], out: &mut [u8], from: usize) -> usize
-    ensures { λ r. ⌜ Counts r (now (out .exit)) ⌝ }
+    ensures counts { λ r. ⌜ Counts r (now (out .exit)) ⌝ }
+    ensures left { λ r. ⌜ filled r (now (out .exit)) ≡ appended (now (out .entry)) from (now (piece .entry)) ⌝ }
 {
     if out.len() < from {
         return 0;
@@ -173,8 +187,10 @@ fn append(piece: &[u8], out: &mut [u8], from: usize) -> usize
     k
 }
 
-pub fn repeat(piece: &[u8], times: usize, out: &mut [u8], from: usize) -> usize
-    ensures { λ r. ⌜ Counts r (now (out .exit)) ⌝ }
+// A piece so many times, behind what a buffer has.
+fn repeat(piece: &[u8], times: usize, out: &mut [u8], from: usize) -> usize
+    ensures counts { λ r. ⌜ Counts r (now (out .exit)) ⌝ }
+    ensures left { λ r. ⌜ filled r (now (out .exit)) ≡ repeated times (now (piece .entry)) (now (out .entry)) from ⌝ }
 {
     if out.len() < from {
         return 0;
@@ -227,7 +243,9 @@ pub fn parts(s: &[u8], out: &mut [u8]) -> usize
 }
 
 // How many numbers stand at 2,863,311,530 from a place on.
-pub fn numbers_alone(s: &[u32], from: usize) -> usize {
+pub fn numbers_alone(s: &[u32], from: usize) -> usize
+    ensures { λ r. ⌜ r ≡ alone 2863311530 (drop from (now (s .entry))) ⌝ }
+{
     let mut n = 0;
     let mut i = from;
     while i < s.len() {
@@ -238,7 +256,9 @@ pub fn numbers_alone(s: &[u32], from: usize) -> usize {
 }
 
 // How many bytes stand at 170 from a place on.
-pub fn bytes_alone(s: &[u8], from: usize) -> usize {
+pub fn bytes_alone(s: &[u8], from: usize) -> usize
+    ensures { λ r. ⌜ r ≡ alone 170 (drop from (now (s .entry))) ⌝ }
+{
     let mut n = 0;
     let mut i = from;
     while i < s.len() {
@@ -248,15 +268,21 @@ pub fn bytes_alone(s: &[u8], from: usize) -> usize {
     n
 }
 
-fn mixed(sum: u32, v: u32) -> u32 {
+fn mixed(sum: u32, v: u32) -> u32
+    ensures { λ r. ⌜ r ≡ mixedOf sum v ⌝ }
+{
     ((sum as u64 * 31 + v as u64) % 0x1_0000_0000) as u32
 }
 
-fn mixed_byte(sum: u32, b: u8) -> u32 {
+fn mixed_byte(sum: u32, b: u8) -> u32
+    ensures { λ r. ⌜ r ≡ mixedOf sum b ⌝ }
+{
     mixed(sum, b as u32)
 }
 
-pub fn numbers_sum(s: &[u32]) -> u32 {
+pub fn numbers_sum(s: &[u32]) -> u32
+    ensures { λ r. ⌜ r ≡ sumFrom 0 (now (s .entry)) ⌝ }
+{
     let mut sum: u32 = 0;
     let mut i = 0;
     while i < s.len() {
@@ -266,7 +292,9 @@ pub fn numbers_sum(s: &[u32]) -> u32 {
     sum
 }
 
-pub fn bytes_sum(s: &[u8]) -> u32 {
+pub fn bytes_sum(s: &[u8]) -> u32
+    ensures { λ r. ⌜ r ≡ sumFrom 0 (now (s .entry)) ⌝ }
+{
     let mut sum: u32 = 0;
     let mut i = 0;
     while i < s.len() {

@@ -1,19 +1,20 @@
--- The invariant: the count is at most i, so that it fits. What is left of the numbers falls.
+-- The invariant: the count is at most i, so that it fits, and with the count from i on it is the whole (`AloneInv`). What is left of the numbers falls.
 use borrow.Author.Needs.{needs}
 use lib.ListN.{length}
 use native.Mathlib.Omega.{arith}
 use Prim.Native.Nat.{_≤_, _-_}
+use Rattle.vectors.proofs.Vectors.{AloneInv, alone-more, alone-done}
 use Rattle.vectors.proofs.numbers_alone.Statement.{statement}
 use Rattle.vectors.proofs.numbers_alone.Tie as tie
 
 abbrev Inv-loop : tie.InvT-loop
-Inv-loop s from n₀ i₀ n i = n ≤ i
+Inv-loop s from n₀ i₀ n i = (n ≤ i) × AloneInv 2863311530 s from n i
 
 abbrev μ-loop : tie.MeasureT-loop
 μ-loop s from n₀ i₀ n i = length s - i
 
 loop-holds : tie.Need-loop-holds Inv-loop μ-loop
-loop-holds c = omega arith
+loop-holds c = (omega arith, omega arith)
 
 mul-one-if : tie.Need-mul-one-if Inv-loop μ-loop
 mul-one-if c = search needs
@@ -34,10 +35,10 @@ loop-less : tie.Need-loop-less Inv-loop μ-loop
 loop-less c = omega arith
 
 loop-again : tie.Need-loop-again Inv-loop μ-loop
-loop-again c = omega arith
+loop-again c = (omega arith, alone-more _ _ _ (c .before .before .before .before .before .args .from) _ _ (c .before .before .loop-test .taken) (c .one-if .ensures .1) (c .before .before .before .loop .inv .1))
 
 returns : tie.Need-returns Inv-loop μ-loop
-returns c = search needs
+returns c = alone-done _ _ _ (c .before .before .before .args .from) _ (c .loop-test .left) (c .before .loop .inv .1)
 
 pub numbers-alone-spec : {M : Type 1} → statement M
 numbers-alone-spec =

@@ -1,4 +1,5 @@
--- The invariant: k is at most the output's length, which stays as it was. Two digits of at most 15 make a byte.
+-- The invariant: k is at most the output's length, which stays as it was, and the bytes left to put behind
+-- the first k are those of the text from i on (`UnhexInv`). Two digits of at most 15 make a byte.
 -- A turn takes two bytes of the text, so what is left of it falls.
 use Prim.Native.Nat.{_≤_, _-_}
 use mathlib.Core.Path.{_≡_, refl, sym}
@@ -6,17 +7,18 @@ use native.Mathlib.Omega.{arith}
 use lib.Seq.{length-take-le}
 use lib.ListN.{length, length-set}
 use borrow.Author.Needs.{needs}
+use Rattle.vectors.proofs.Buffers.{UnhexInv, unhex-more, unhex-full, unhex-odd, unhex-end}
 use Rattle.vectors.proofs.unhex.Tie as tie
 use Rattle.vectors.proofs.unhex.Statement.{statement}
 
 abbrev Inv-loop : tie.InvT-loop
-Inv-loop s out₀ k₀ i₀ out k i = (k ≤ length out) × (length out ≡ length out₀)
+Inv-loop s out₀ k₀ i₀ out k i = (k ≤ length out) × (length out ≡ length out₀) × UnhexInv s out₀ out k i
 
 abbrev μ-loop : tie.MeasureT-loop
 μ-loop s out₀ k₀ i₀ out k i = length s - i
 
 loop-holds : tie.Need-loop-holds Inv-loop μ-loop
-loop-holds c = (omega arith, refl)
+loop-holds c = (omega arith, refl, refl)
 
 add-j : tie.Need-add-j Inv-loop μ-loop
 add-j c = omega arith
@@ -25,13 +27,17 @@ same-length : tie.Need-same-length Inv-loop μ-loop
 same-length c = c .before .before .loop .inv .1
 
 returns : tie.Need-returns Inv-loop μ-loop
-returns c = (c .before .before .loop .inv .0, sym (length-take-le _ _ (c .before .before .loop .inv .0)))
+returns c =
+    let i = c .before .before .loop .inv in
+    ((i .0, sym (length-take-le _ _ (i .0))), unhex-odd _ _ _ _ _ (i .2) (c .if1 .taken))
 
 same-length-2 : tie.Need-same-length-2 Inv-loop μ-loop
 same-length-2 c = c .before .before .before .loop .inv .1
 
 returns-2 : tie.Need-returns-2 Inv-loop μ-loop
-returns-2 c = (c .before .before .before .loop .inv .0, sym (length-take-le _ _ (c .before .before .before .loop .inv .0)))
+returns-2 c =
+    let i = c .before .before .before .loop .inv in
+    ((i .0, sym (length-take-le _ _ (i .0))), unhex-full _ _ _ _ (c .before .before .before .loop .i) (i .2) (c .if2 .taken))
 
 shared-slice-read-hex-value : tie.Need-shared-slice-read-hex-value Inv-loop μ-loop
 shared-slice-read-hex-value c = omega arith
@@ -64,13 +70,20 @@ loop-less : tie.Need-loop-less Inv-loop μ-loop
 loop-less c = omega arith
 
 loop-again : tie.Need-loop-again Inv-loop μ-loop
-loop-again c = simp length-set (omega arith)
+loop-again c =
+    let i = c .before .before .before .before .before .before .before .loop .inv in (
+      simp length-set (omega arith),
+      simp length-set (omega arith),
+      unhex-more _ _ _ _ _ (i .2) _ _ (c .before .before .before .before .before .if1 .left) (c .before .before .before .before .if2 .left) (c .before .before .hex-value .ensures .1) (c .hex-value2 .ensures .1),
+    )
 
 same-length-3 : tie.Need-same-length-3 Inv-loop μ-loop
 same-length-3 c = c .before .loop .inv .1
 
 returns-3 : tie.Need-returns-3 Inv-loop μ-loop
-returns-3 c = (c .before .loop .inv .0, sym (length-take-le _ _ (c .before .loop .inv .0)))
+returns-3 c =
+    let i = c .before .loop .inv in
+    ((i .0, sym (length-take-le _ _ (i .0))), unhex-end _ _ _ _ _ (i .2) (c .loop-test .left))
 
 pub unhex-spec : {M : Type 1} → statement M
 unhex-spec =

@@ -1,18 +1,21 @@
--- The loop has no invariant and goes to k; a field lies in its line.
+-- The invariant: i fields are passed, and at most k. Each turn passes one, so that k - i falls; a field lies in its line.
 use native.Mathlib.Omega.{arith}
-use Prim.Native.Nat.{_-_}
+use Prim.Native.Nat.{_-_, _≤_}
+use mathlib.Core.Path.{_≡_}
 use borrow.Author.Needs.{needs}
+use Rattle.vectors.specs.Vectors.{pastFields}
+use Rattle.vectors.proofs.Vectors.{past-none, past-more, word-is}
 use Rattle.vectors.proofs.word.Statement.{statement}
 use Rattle.vectors.proofs.word.Tie as tie
 
 abbrev Inv-loop : tie.InvT-loop
-Inv-loop s k at₀ i₀ at i = Unit {0}
+Inv-loop s k at₀ i₀ at i = (i ≤ k) × (at ≡ pastFields s i)
 
 abbrev μ-loop : tie.MeasureT-loop
 μ-loop s k at₀ i₀ at i = k - i
 
 loop-holds : tie.Need-loop-holds Inv-loop μ-loop
-loop-holds c = tt
+loop-holds c = (omega arith, past-none _)
 
 field-requires : tie.Need-field-requires Inv-loop μ-loop
 field-requires c κs = search needs
@@ -24,7 +27,7 @@ loop-less : tie.Need-loop-less Inv-loop μ-loop
 loop-less c = omega arith
 
 loop-again : tie.Need-loop-again Inv-loop μ-loop
-loop-again c = tt
+loop-again c = (omega arith, past-more _ _ _ _ (c .field .ensures .2) (c .before .before .loop .inv .1))
 
 field-requires-2 : tie.Need-field-requires-2 Inv-loop μ-loop
 field-requires-2 c κs = search needs
@@ -39,7 +42,7 @@ part-result-end : tie.Need-part-result-end Inv-loop μ-loop
 part-result-end c = search needs
 
 returns : tie.Need-returns Inv-loop μ-loop
-returns c = search needs
+returns c = word-is _ _ _ _ _ (omega arith) (c .before .field2 .ensures .2) (c .before .before .before .loop .inv .1)
 
 pub word-spec : {M : Type 1} → statement M
 word-spec =
