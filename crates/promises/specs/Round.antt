@@ -12,6 +12,7 @@ use Rattle.table.specs.declared.Sort.{Sort}
 use Rattle.table.specs.declared.Sort.the-variants.{Str, Insens, Ident, PushLiteral}
 use Rattle.table.specs.Tree.{Atom, text, range, peekSlice, Wrap, plain, nodeTag, Tree, leaf, one, two, Rule, Nowhere, ruleBy, asideRule, counts, rulesStored}
 use Rattle.table.specs.Record.{rulesIn, rulesOf}
+use Rattle.table.specs.Flat.{nodesOf, recordsOf}
 use Rattle.table.specs.Check.{fineRules, tables}
 use Rattle.table.specs.declared.TableCheck.the-variants as Table
 use Rattle.forms.specs.declared.Style.{Style}
@@ -165,3 +166,11 @@ pub record Sayable (style : Style) (us : List (Rule Nowhere)) : Type 0 where
   pub few-rules : length us ≤ maxRules
   pub short : length (printedRules style us) ≤ maxText
   pub shallow : depths (markedRules style us) ≤ maxOpen
+
+-- the rules that a text is read as, spans aside
+abbrev pub readRules : Level → List ℕ → List (Rule Nowhere)
+readRules level s = map asideRule (Built.rulesRead level s)
+
+-- and the text of their tables
+abbrev pub printedText : Style → Level → List ℕ → List ℕ
+printedText style level s = tableText style (nodesOf (Built.rulesRead level s)) (recordsOf (Built.rulesRead level s)) (rulesStored (Built.rulesRead level s))
