@@ -13,7 +13,7 @@ use Rattle.text.proofs.Booleans.{or-by}
 use Rattle.token.specs.Tokens.{tokenOf, tokenAt}
 use Rattle.token.specs.Lists.{tokensIn, tokensFrom, tokensOf}
 use Rattle.table.specs.declared.Sort.the-variants.{Str, Insens, Ident, PushLiteral}
-use Rattle.table.specs.Tree.{Span, Atom, text, range, peekSlice, Tree, leaf, one, two, Rule, Nowhere, aside, asideRule, rulesStored}
+use Rattle.table.specs.Tree.{Span, Atom, text, range, peekSlice, Tree, leaf, one, two, Rule, aside, asideRule, rulesStored}
 use Rattle.table.specs.Flat.{nodesOf, recordsOf}
 use Rattle.table.proofs.Rules.{flat-back}
 use Rattle.table.proofs.Regroups.{items-aside, rules-counts, rules-fine}
@@ -37,7 +37,7 @@ use Rattle.reader.proofs.Counts.{read-counts}
 use Rattle.reader.proofs.Firsts.{read-counted}
 use Rattle.reader.proofs.Good.{read-fine, read-good}
 use Rattle.promises.specs.Open.{mostOpen}
-use Rattle.promises.specs.Round.{isPushing, pushing, holdsPushLiteral, seen, Sayable, ReadAs}
+use Rattle.promises.specs.Round.{isPushing, pushing, holdsPushLiteral, seen, Sayable, ReadAs, readRules, printedText}
 use Rattle.promises.proofs.Asides.{counted-asides, pushing-asides}
 use Rattle.promises.proofs.Round.{rules-tagged, rules-plain}
 
@@ -75,13 +75,6 @@ none-pushed s us e f = go (holdsPushLiteral us) refl
         absurd (omega arith)
 
 -- ---- texts
-
--- the text of the rules that are read
-abbrev pub printedText : Style → Level → List ℕ → List ℕ
-printedText v level s = tableText v (nodesOf (rulesRead level s)) (recordsOf (rulesRead level s)) (rulesStored (rulesRead level s))
-
-abbrev readRules : Level → List ℕ → List (Rule Nowhere)
-readRules level s = map asideRule (rulesRead level s)
 
 is-printed : (v : Style) (level : Level) (s : List ℕ) → printedRules v (readRules level s) ≡ printedText v level s
 unfolding tableText

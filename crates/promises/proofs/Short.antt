@@ -5,6 +5,7 @@ use mathlib.Core.Bool.{Bool, true, false}
 use mathlib.Core.List.{List, [], _∷_, map}
 use native.Mathlib.Omega.{arith}
 use lib.ListN.{length}
+use Rattle.text.specs.Limits.{maxNodes, maxRules, maxText, maxOpen}
 use Rattle.token.specs.Table.{toks}
 use Rattle.table.specs.Tree.{Rule, Nowhere, ruleBy, asideRule, Same}
 use Rattle.table.specs.Record as Record
@@ -16,11 +17,14 @@ use Rattle.printer.specs.Bounds.{Narrow}
 use Rattle.structure.specs.declared.Level.{Level}
 use Rattle.structure.specs.declared.Level.the-variants.{Tagged, Plain}
 use Rattle.build.specs.Rules.{rulesRead}
+use Rattle.reader.specs.declared.Reading.the-variants as Reading
+use Rattle.reader.specs.Read.{readOf}
 use Rattle.promises.specs.Pieces.{spelled, rulesPieces}
 use Rattle.promises.specs.Pairs.{Pair, cut}
 use Rattle.promises.specs.Styled.{markedRules}
+use Rattle.promises.specs.Open.{mostOpen}
 use Rattle.structure.specs.Counts.{countedRules}
-use Rattle.promises.specs.Round.{holdsPushLiteral, seen, Printable, ReadAs}
+use Rattle.promises.specs.Round.{holdsPushLiteral, seen, Printable, ReadAs, readRules, printedText}
 use Rattle.promises.specs.Fewest.{opensTo, opensIn, needs}
 use Rattle.promises.proofs.Laid.{tokened}
 use Rattle.promises.proofs.Lays.{held-rules}
@@ -33,6 +37,7 @@ use Rattle.promises.proofs.Pairs.{unpaired, every-pair}
 use Rattle.promises.proofs.Cuts.{pair-cut, cut-shorter}
 use Rattle.promises.proofs.Readings.{asides-nowhere, read-same}
 use Rattle.promises.proofs.Round.{printedOnes, is-fine, is-counted, is-text, tagged, plain}
+use Rattle.promises.proofs.Again.{again-tagged}
 
 same-rules : (us : List (Rule Nowhere)) → seen Short Tagged us ≡ us
 same-rules [] = refl
@@ -109,3 +114,10 @@ module _ (ns rs st : List ℕ) (w : Narrow ns) (p : Printable Full ns rs st) whe
 
   pub full-plain : holdsPushLiteral (Record.rulesOf ns rs st) ≡ false → ReadAs Plain (tableText Full ns rs st) (untaggedRules (regroupRules (printedOnes Full ns rs st w p)))
   full-plain h = rw (plain-twice (printedOnes Full ns rs st w p)) at (plain Full ns rs st w p h)
+
+-- ---- a text that was read
+
+-- at either level: the tagged reader reads its short text as the very same rules
+pub short-again : (level : Level) (s : List ℕ) (n r b : ℕ) {x y z : ℕ} → readOf level s n r b ≡ Reading.Read x y z → n ≤ maxNodes → r ≤ maxRules → 1 ≤ y
+    → length (printedText Short level s) ≤ maxText → mostOpen (printedText Short level s) ≤ maxOpen → ReadAs Tagged (printedText Short level s) (readRules level s)
+short-again level s n r b e h l some short shallow = rw (same-rules (readRules level s)) at (again-tagged level s n r b e h l Short some short shallow)

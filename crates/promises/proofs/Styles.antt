@@ -176,6 +176,12 @@ module _ {P : Type 0} (v : Style) where
       ap (λ z. two (brackets v w (Joined j)) j z (marked v (RightOf j) (aside b))) (marked-aside (LeftOf j) a)
       ∙ ap (two (brackets v w (Joined j)) j (marked v (LeftOf j) a)) (marked-aside (RightOf j) b)
 
+  pub marked-asides : (us : List (Rule P)) → markedRules v (map asideRule us) ≡ markedRules v us
+  marked-asides [] = refl
+  marked-asides (r ∷ us) =
+      ap (λ (z : Tree Bool). record { name = r .name; mark = r .mark; tree = z; place = false } ∷ markedRules v (map asideRule us)) (marked-aside Alone (r .tree))
+      ∙ ap (λ (z : List (Rule Bool)). markedRule v r ∷ z) (marked-asides us)
+
 module _ (v : Style) where
   pub seen-style : (level : Level) (us : List (Rule Nowhere)) → map (ruleBy (λ m. sight level (whole m))) (markedRules v us) ≡ seen v level us
   seen-style level [] = refl

@@ -9,8 +9,9 @@ use Rattle.text.specs.Limits.{maxNodes, maxRules, maxText, maxOpen}
 use Rattle.table.specs.declared.Unary.{Unary}
 use Rattle.table.specs.declared.Unary.the-variants.{PosPred, NegPred, Opt, Rep, RepOnce, RepExact, RepMin, RepMax, RepMinMax, Push}
 use Rattle.table.specs.declared.Sort.the-variants.{Str, Insens, Ident, PushLiteral}
-use Rattle.table.specs.Tree.{Span, Atom, text, range, peekSlice, Wrap, plain, nodeTag, Tree, leaf, one, two, Rule, Nowhere, ruleBy, counts, rulesStored, Same}
+use Rattle.table.specs.Tree.{Span, Atom, text, range, peekSlice, Wrap, plain, nodeTag, Tree, leaf, one, two, Rule, Nowhere, ruleBy, asideRule, counts, rulesStored, Same}
 use Rattle.table.specs.Record.{nodeSize, ruleSize, rulesIn, rulesOf}
+use Rattle.table.specs.Flat.{nodesOf, recordsOf}
 use Rattle.table.specs.Check.{tables, fineRules}
 use Rattle.table.specs.declared.TableCheck.the-variants as Table
 use Rattle.forms.specs.declared.Style.{Style}
@@ -121,3 +122,11 @@ pub record Sayable (style : Style) (us : List (Rule Nowhere)) : Type 0 where
   pub few-rules : length us ≤ maxRules
   pub short : length (printedRules style us) ≤ maxText
   pub shallow : mostOpen (printedRules style us) ≤ maxOpen
+
+-- the rules that a text is read as, spans aside
+abbrev pub readRules : Level → List ℕ → List (Rule Nowhere)
+readRules level s = map asideRule (Built.rulesRead level s)
+
+-- and the text of their tables
+abbrev pub printedText : Style → Level → List ℕ → List ℕ
+printedText style level s = tableText style (nodesOf (Built.rulesRead level s)) (recordsOf (Built.rulesRead level s)) (rulesStored (Built.rulesRead level s))

@@ -4,4 +4,3 @@ pub mod Answers
 pub mod Shows
 pub mod Layouts
 pub mod Prints
-pub mod Unique

@@ -29,19 +29,13 @@ use Rattle.reader.proofs.Reasons.{number-range}
 use Rattle.forms.specs.declared.Style.{Style}
 use Rattle.printer.specs.Answers as Printer
 use Rattle.matcher.specs.Sought.{foundBy, foundOf}
-use Rattle.rows.specs.Line.{refusalPut, refusalIn}
 use Rattle.show.specs.declared.Answer.{Answer}
 use Rattle.show.specs.declared.Answer.the-variants as Answer
 use Rattle.show.specs.declared.Layout.the-variants as Layout
 use Rattle.show.specs.declared.Shown.the-variants.{Text}
-use Rattle.show.specs.Shown.{refusedBy}
-use Rattle.show.specs.Desk.{reading, printing, textOf, printed, answerOf, shownBy, deskOf, leftBy, deskIn}
+use Rattle.show.specs.Desk.{reading, printing, textOf, printed, answerOf, shownBy, deskOf, leftBy, deskIn, printedText, Told, Line}
 use Rattle.show.specs.Layout.{layoutBy, layoutIn, layoutOf}
 use Rattle.show.proofs.Fronts.{by-read, by-refused}
-
--- a refusal's number is the reader's, or 23
-abbrev pub Told : ℕ → Type 0
-Told n = ((1 ≤ n) × (n ≤ 13)) ⊎ (n ≡ 23)
 
 -- what is printed of a text for an output of m bytes
 abbrev Put : List ℕ → ℕ → Answer
@@ -55,26 +49,22 @@ by-room true k = refl
 by-room false k = refl
 
 module _ (style : Style) (s : List ℕ) where
-  -- the text that a reading is printed as
-  abbrev pub printedText : List ℕ
-  printedText = textOf style (rulesRead Tagged s)
-
-  put-by : {x y z : ℕ} (m : ℕ) → Read.readOf Tagged s 2048 maxRules maxStore ≡ Reading.Read x y z → answerOf style s m ≡ Put printedText m
+  put-by : {x y z : ℕ} (m : ℕ) → Read.readOf Tagged s 2048 maxRules maxStore ≡ Reading.Read x y z → answerOf style s m ≡ Put (printedText style s) m
   unfolding answerOf reading Read.reported printing Printer.reported textOf
   put-by m e =
-      by-read _ Answer.Refused e ∙ rw (read-good Tagged s 2048 maxRules maxStore e (omega arith) (omega arith)) (by-room (leb (length printedText) m) (length printedText))
+      by-read _ Answer.Refused e ∙ rw (read-good Tagged s 2048 maxRules maxStore e (omega arith) (omega arith)) (by-room (leb (length (printedText style s)) m) (length (printedText style s)))
 
   answer-by : (a : Reading) (m : ℕ) → Read.readOf Tagged s 2048 maxRules maxStore ≡ a → {n p : ℕ} → answerOf style s m ≡ Answer.Refused n p → Told n
   unfolding answerOf reading Read.reported
   answer-by (Reading.Read x y z) m e q =
-      split (leb (length printedText) m) _ _ (λ b w. let z : _≡_ {A = ℕ} 0 1 = cc in absurd (omega arith)) (λ b w. inr (cc)) (sym (put-by m e) ∙ q)
+      split (leb (length (printedText style s)) m) _ _ (λ b w. let z : _≡_ {A = ℕ} 0 1 = cc in absurd (omega arith)) (λ b w. inr (cc)) (sym (put-by m e) ∙ q)
   answer-by (Reading.Refused r) m e {n} q =
       let w = sym (by-refused _ Answer.Refused e) ∙ q in
       let z : Read.numberOf (r .why) ≡ n = cc in
       let l = number-range (r .why) in
       inl (omega arith, omega arith)
 
-  read-by : (a : Reading) → Read.readOf Tagged s 2048 maxRules maxStore ≡ a → reading s .number ≡ 0 → (m : ℕ) → answerOf style s m ≡ Put printedText m
+  read-by : (a : Reading) → Read.readOf Tagged s 2048 maxRules maxStore ≡ a → reading s .number ≡ 0 → (m : ℕ) → answerOf style s m ≡ Put (printedText style s) m
   unfolding reading Read.reported Read.numbered
   read-by (Reading.Read x y z) e h m = put-by m e
   read-by (Reading.Refused r) e h m =
@@ -84,32 +74,25 @@ module _ (style : Style) (s : List ℕ) where
 
   module _ (h : reading s .number ≡ 0) (m : ℕ) where
     -- a text that is read is printed where its text fits
-    pub read-prints : length printedText ≤ m → answerOf style s m ≡ Answer.Printed (length printedText)
-    read-prints l = read-by (Read.readOf Tagged s 2048 maxRules maxStore) refl h m ∙ rw (le-leb (length printedText) m l)
+    pub desk-prints : length (printedText style s) ≤ m → answerOf style s m ≡ Answer.Printed (length (printedText style s))
+    desk-prints l = read-by (Read.readOf Tagged s 2048 maxRules maxStore) refl h m ∙ rw (le-leb (length (printedText style s)) m l)
 
     -- and else it is 23
-    pub read-over : m < length printedText → answerOf style s m ≡ Answer.Refused 23 0
-    read-over l = read-by (Read.readOf Tagged s 2048 maxRules maxStore) refl h m ∙ rw (lt-leb (length printedText) m l)
+    pub desk-over : m < length (printedText style s) → answerOf style s m ≡ Answer.Refused 23 0
+    desk-over l = read-by (Read.readOf Tagged s 2048 maxRules maxStore) refl h m ∙ rw (lt-leb (length (printedText style s)) m l)
 
   -- the desk answers no 20, 21 and 22
   pub desk-told : (m : ℕ) {n p : ℕ} → answerOf style s m ≡ Answer.Refused n p → Told n
   desk-told m e = answer-by (Read.readOf Tagged s 2048 maxRules maxStore) m refl e
 
-  -- what it writes: the text, or the line of such a refusal
-  pub record Line (o : List ℕ) : Type 0 where
-    pub number : ℕ
-    pub place : ℕ
-    pub told : Told number
-    pub answer : deskOf style s (length o) ≡ refusedBy (refusalPut number place (length o))
-    pub left : deskIn style s o ≡ refusalIn number place o (refusalPut number place (length o))
-
   writes-by : (a : Answer) (o : List ℕ) → answerOf style s (length o) ≡ a
-      → ((n : ℕ) × (deskOf style s (length o) ≡ Text n) × (deskIn style s o ≡ fronted printedText o)) ⊎ Line o
+      → ((n : ℕ) × (deskOf style s (length o) ≡ Text n) × (deskIn style s o ≡ fronted (printedText style s) o)) ⊎ Line style s o
   unfolding deskOf deskIn shownBy leftBy
   writes-by (Answer.Printed n) o e = inl (n, rw e, rw e)
   writes-by (Answer.Refused n p) o e = inr (record { number = n; place = p; told = desk-told (length o) e; answer = rw e; left = rw e })
 
-  pub desk-writes : (o : List ℕ) → ((n : ℕ) × (deskOf style s (length o) ≡ Text n) × (deskIn style s o ≡ fronted printedText o)) ⊎ Line o
+  -- what it writes: the text, or the line of a refusal that is none of them
+  pub desk-writes : (o : List ℕ) → ((n : ℕ) × (deskOf style s (length o) ≡ Text n) × (deskIn style s o ≡ fronted (printedText style s) o)) ⊎ Line style s o
   desk-writes o = writes-by (answerOf style s (length o)) o refl
 
 -- ---- a layout

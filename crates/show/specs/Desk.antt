@@ -1,5 +1,7 @@
 -- What the programs desk and short write of a text: it is read, and printed in a style.
-use Prim.Native.Nat.{ℕ}
+use Prim.Native.Nat.{ℕ, _≤_}
+use mathlib.Core.Path.{_≡_}
+use mathlib.Core.Logic.{_⊎_}
 use mathlib.Core.List.{List}
 use lib.Dec.{eqb}
 use lib.ListN.{length}
@@ -61,3 +63,19 @@ leftBy style s o (Answer.Refused n p) = refusalIn n p o (refusalPut n p (length 
 
 unfoldable pub deskIn : Style → List ℕ → List ℕ → List ℕ
 deskIn style s o = leftBy style s o (answerOf style s (length o))
+
+-- the text that the rules of a text are printed as
+abbrev pub printedText : Style → List ℕ → List ℕ
+printedText style s = textOf style (Built.rulesRead Tagged s)
+
+-- a refusal's number that is one of the reader's, or 23
+abbrev pub Told : ℕ → Type 0
+Told n = ((1 ≤ n) × (n ≤ 13)) ⊎ (n ≡ 23)
+
+-- the desk refuses a text, and writes the line of such a number
+pub record Line (style : Style) (s o : List ℕ) : Type 0 where
+  pub number : ℕ
+  pub place : ℕ
+  pub told : Told number
+  pub answer : deskOf style s (length o) ≡ refusedBy (refusalPut number place (length o))
+  pub left : deskIn style s o ≡ refusalIn number place o (refusalPut number place (length o))

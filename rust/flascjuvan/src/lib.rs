@@ -141,8 +141,9 @@ pub fn read(text: impl AsRef<[u8]>, level: Level) -> Result<Grammar, Refusal> {
 
 /// Prints a grammar, a rule to a line, every bracket shown.
 ///
-/// What was read always prints. A grammar of rules that were made by hand may be refused: by 20 if it is too large, by
-/// 21 or 22 if a name or a tag in it is no word, or a name begins with PUSH.
+/// What was read always prints: a theorem, `read-prints` of promises/proofs/Again. A grammar of rules that were made by
+/// hand may be refused: by 20 if it is too large, by 21 or 22 if a name or a tag in it is no word, or a name begins with
+/// PUSH.
 ///
 /// It wants [2 MB of stack](crate#stack).
 ///
