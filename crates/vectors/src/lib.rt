@@ -206,7 +206,8 @@ fn repeat(piece: &[u8], times: usize, out: &mut [u8], from: usize) -> usize
 
 // A text in pieces, at most nine: how many times, and what in hex, from behind the line's first fields on.
 pub fn pieces(line: &[u8], fields: u8, out: &mut [u8]) -> usize
-    ensures { λ r. ⌜ Counts r (now (out .exit)) ⌝ }
+    ensures counts { λ r. ⌜ Counts r (now (out .exit)) ⌝ }
+    ensures left { λ r. ⌜ filled r (now (out .exit)) ≡ piecesFrom 9 (now (line .entry)) fields (filled 0 (now (out .entry))) ⌝ }
 {
     let mut piece = [0u8; 4096];
     let mut k = 0;
@@ -223,7 +224,8 @@ pub fn pieces(line: &[u8], fields: u8, out: &mut [u8]) -> usize
 
 // The text of pieces: how often, a colon, in hex what, a comma.
 pub fn parts(s: &[u8], out: &mut [u8]) -> usize
-    ensures { λ r. ⌜ Counts r (now (out .exit)) ⌝ }
+    ensures counts { λ r. ⌜ Counts r (now (out .exit)) ⌝ }
+    ensures left { λ r. ⌜ filled r (now (out .exit)) ≡ partsFrom (length (now (s .entry))) (now (s .entry)) 0 (filled 0 (now (out .entry))) ⌝ }
 {
     let mut piece = [0u8; 1024];
     let mut at = 0;
