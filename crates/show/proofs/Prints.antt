@@ -33,7 +33,7 @@ use Rattle.show.specs.declared.Answer.{Answer}
 use Rattle.show.specs.declared.Answer.the-variants as Answer
 use Rattle.show.specs.declared.Layout.the-variants as Layout
 use Rattle.show.specs.declared.Shown.the-variants.{Text}
-use Rattle.show.specs.Desk.{reading, printing, textOf, printed, answerOf, shownBy, deskOf, leftBy, deskIn, printedText, Told, Line}
+use Rattle.show.specs.Desk.{reading, printing, textOf, printed, answerOf, shownBy, deskOf, leftBy, deskIn, printedText, Tellable, LineWritten}
 use Rattle.show.specs.Layout.{layoutBy, layoutIn, layoutOf}
 use Rattle.show.proofs.Fronts.{by-read, by-refused}
 
@@ -54,7 +54,7 @@ module _ (style : Style) (s : List ℕ) where
   put-by m e =
       by-read _ Answer.Refused e ∙ rw (read-good Tagged s 2048 maxRules maxStore e (omega arith) (omega arith)) (by-room (leb (length (printedText style s)) m) (length (printedText style s)))
 
-  answer-by : (a : Reading) (m : ℕ) → Read.readOf Tagged s 2048 maxRules maxStore ≡ a → {n p : ℕ} → answerOf style s m ≡ Answer.Refused n p → Told n
+  answer-by : (a : Reading) (m : ℕ) → Read.readOf Tagged s 2048 maxRules maxStore ≡ a → {n p : ℕ} → answerOf style s m ≡ Answer.Refused n p → Tellable n
   unfolding answerOf reading Read.reported
   answer-by (Reading.Read x y z) m e q =
       split (leb (length (printedText style s)) m) _ _ (λ b w. let z : _≡_ {A = ℕ} 0 1 = cc in absurd (omega arith)) (λ b w. inr (cc)) (sym (put-by m e) ∙ q)
@@ -82,17 +82,17 @@ module _ (style : Style) (s : List ℕ) where
     desk-over l = read-by (Read.readOf Tagged s 2048 maxRules maxStore) refl h m ∙ rw (lt-leb (length (printedText style s)) m l)
 
   -- the desk answers no 20, 21 and 22
-  pub desk-told : (m : ℕ) {n p : ℕ} → answerOf style s m ≡ Answer.Refused n p → Told n
+  pub desk-told : (m : ℕ) {n p : ℕ} → answerOf style s m ≡ Answer.Refused n p → Tellable n
   desk-told m e = answer-by (Read.readOf Tagged s 2048 maxRules maxStore) m refl e
 
   writes-by : (a : Answer) (o : List ℕ) → answerOf style s (length o) ≡ a
-      → ((n : ℕ) × (deskOf style s (length o) ≡ Text n) × (deskIn style s o ≡ fronted (printedText style s) o)) ⊎ Line style s o
+      → ((n : ℕ) × (deskOf style s (length o) ≡ Text n) × (deskIn style s o ≡ fronted (printedText style s) o)) ⊎ LineWritten style s o
   unfolding deskOf deskIn shownBy leftBy
   writes-by (Answer.Printed n) o e = inl (n, rw e, rw e)
   writes-by (Answer.Refused n p) o e = inr (record { number = n; place = p; told = desk-told (length o) e; answer = rw e; left = rw e })
 
   -- what it writes: the text, or the line of a refusal that is none of them
-  pub desk-writes : (o : List ℕ) → ((n : ℕ) × (deskOf style s (length o) ≡ Text n) × (deskIn style s o ≡ fronted (printedText style s) o)) ⊎ Line style s o
+  pub desk-writes : (o : List ℕ) → ((n : ℕ) × (deskOf style s (length o) ≡ Text n) × (deskIn style s o ≡ fronted (printedText style s) o)) ⊎ LineWritten style s o
   desk-writes o = writes-by (answerOf style s (length o)) o refl
 
 -- ---- a layout

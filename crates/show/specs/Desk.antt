@@ -69,13 +69,13 @@ abbrev pub printedText : Style → List ℕ → List ℕ
 printedText style s = textOf style (Built.rulesRead Tagged s)
 
 -- a refusal's number that is one of the reader's, or 23
-abbrev pub Told : ℕ → Type 0
-Told n = ((1 ≤ n) × (n ≤ 13)) ⊎ (n ≡ 23)
+abbrev pub Tellable : ℕ → Type 0
+Tellable n = ((1 ≤ n) × (n ≤ 13)) ⊎ (n ≡ 23)
 
 -- the desk refuses a text, and writes the line of such a number
-pub record Line (style : Style) (s o : List ℕ) : Type 0 where
+pub record LineWritten (style : Style) (s o : List ℕ) : Type 0 where
   pub number : ℕ
   pub place : ℕ
-  pub told : Told number
+  pub told : Tellable number
   pub answer : deskOf style s (length o) ≡ refusedBy (refusalPut number place (length o))
   pub left : deskIn style s o ≡ refusalIn number place o (refusalPut number place (length o))

@@ -26,7 +26,7 @@ use Rattle.table.specs.declared.End.the-variants.{Open, At}
 use Rattle.structure.specs.Tokens.{across, same, spells, peek}
 use Rattle.structure.specs.Values.{number, isInteger, integer, string, character}
 use Rattle.structure.specs.Structure.{Parsed, got, refused, next, want, join, closed, prefixed, postfixed, inTag, post, postfixAt, sliceTo, slice, leafAt, Call, expr, term, signed, node, chain, posts, body, place, Run, isName, silent, markAt, pastMark, pastBar, Ruled, rules, unruled, withRule, Ruling, ruling, noRule, thenRules, ruleFrom, rulesUpTo, docsIn, docs, grammar}
-use Rattle.structure.specs.Held.{Value, exact, least, most, peeked, single, bytes, pushes, unaryValues, wrapValues, atomValues, treeValues, rulesValues, before, numberValue, valueBy, valueAt, valuesTo, valuesIn}
+use Rattle.structure.specs.Held.{Value, exact, least, most, peeked, single, bytes, pushes, unaryValues, wrapValues, atomValues, treeValues, rulesValues, kindBefore, numberValue, valueBy, valueAt, valuesTo, valuesIn}
 use Rattle.structure.proofs.Steps.{inside-is, is-kind, spelled-word, begins-more, next-got, want-got, opened-got, posts-by}
 use Rattle.structure.proofs.Cases.{PostfixRead, opt, rep, once, both, greatest, postfix-read, LeafRead, literal, sliced, ident, str, insens, ranges, leaf-read, rule-read}
 use Rattle.structure.proofs.Cases as Cases
@@ -37,8 +37,8 @@ use Rattle.structure.proofs.Descent.{descent}
 -- ---- a token
 
 module _ (s : List ℕ) (i : ℕ) where
-  pub value-is : (k : ℕ) → is s i k ≡ true → valueAt s i ≡ valueBy s (before s i) i k
-  value-is k e = ap (valueBy s (before s i) i) (is-kind s i k e)
+  pub value-is : (k : ℕ) → is s i k ≡ true → valueAt s i ≡ valueBy s (kindBefore s i) i k
+  value-is k e = ap (valueBy s (kindBefore s i) i) (is-kind s i k e)
 
   pub values-next : valuesTo s (i + 1) ≡ valuesTo s i ++ valueAt s i
   unfolding valuesTo
@@ -52,13 +52,13 @@ module _ (s : List ℕ) (i : ℕ) where
   values-skip : valueAt s i ≡ [] → valuesTo s (i + 1) ≡ valuesTo s i
   values-skip e = values-by [] e ∙ append-nil (valuesTo s i)
 
-  pub before-next : before s (i + 1) ≡ kind s i
+  pub before-next : kindBefore s (i + 1) ≡ kind s i
   before-next = rw (add-one i)
 
-  after : (k : ℕ) → is s i k ≡ true → before s (i + 1) ≡ k
+  after : (k : ℕ) → is s i k ≡ true → kindBefore s (i + 1) ≡ k
   after k e = before-next ∙ is-kind s i k e
 
-  values-kind : (k : ℕ) → is s i k ≡ true → valueBy s (before s i) i k ≡ [] → valuesTo s (i + 1) ≡ valuesTo s i
+  values-kind : (k : ℕ) → is s i k ≡ true → valueBy s (kindBefore s i) i k ≡ [] → valuesTo s (i + 1) ≡ valuesTo s i
   values-kind k e q = values-skip (value-is k e ∙ q)
 
   -- a word but PUSH_LITERAL
@@ -67,7 +67,7 @@ module _ (s : List ℕ) (i : ℕ) where
   values-word e q = values-kind 18 e (choose-false (spells pushLiteral s i) _ _ q)
 
   -- a number, by the kind before it
-  values-number : (b : ℕ) (v : Value) → is s i 20 ≡ true → before s i ≡ b → numberValue s b i ≡ v → valuesTo s (i + 1) ≡ valuesTo s i ++ (v ∷ [])
+  values-number : (b : ℕ) (v : Value) → is s i 20 ≡ true → kindBefore s i ≡ b → numberValue s b i ≡ v → valuesTo s (i + 1) ≡ valuesTo s i ++ (v ∷ [])
   unfolding valueBy
   values-number b v e f q = values-by (v ∷ []) (value-is 20 e ∙ ap (λ (x : ℕ). numberValue s x i ∷ []) f ∙ ap (λ (x : Value). x ∷ []) q)
 
@@ -94,7 +94,7 @@ at-most-one s i =
     choose-by AtMostOne (eqb k 18) _ _ (λ a. choose-by AtMostOne (spells pushLiteral s i) _ _ (λ b. inr (_, refl)) (λ b. inl refl))
     (λ a. choose-by AtMostOne (eqb k 20) _ _ (λ b. inr (_, refl))
     (λ b. choose-by AtMostOne (eqb k 21) _ _ (λ c. inr (_, refl))
-    (λ c. choose-by AtMostOne (eqb k 22) _ _ (λ d. choose-by AtMostOne (eqb (before s i) 4) _ _ (λ f. inr (_, refl)) (λ f. inl refl))
+    (λ c. choose-by AtMostOne (eqb k 22) _ _ (λ d. choose-by AtMostOne (eqb (kindBefore s i) 4) _ _ (λ f. inr (_, refl)) (λ f. inl refl))
     (λ d. choose-by AtMostOne (or (eqb k 23) (eqb k 24)) _ _ (λ f. inr (_, refl)) (λ f. choose-by AtMostOne (eqb k 25) _ _ (λ g. inr (_, refl)) (λ g. inl refl))))))
 
 not-true : (b : Bool) → not b ≡ true → b ≡ false
@@ -135,17 +135,17 @@ module _ (s : List ℕ) (at : ℕ) where
   brace e = values-kind s at 2 e refl
 
   -- a number behind `{`: before `}` it is exact, else a minimum
-  exact-one : (i : ℕ) → is s i 20 ≡ true → before s i ≡ 2 → is s (i + 1) 3 ≡ true → valuesTo s (i + 1) ≡ valuesTo s i ++ (exact (number s i) ∷ [])
+  exact-one : (i : ℕ) → is s i 20 ≡ true → kindBefore s i ≡ 2 → is s (i + 1) 3 ≡ true → valuesTo s (i + 1) ≡ valuesTo s i ++ (exact (number s i) ∷ [])
   exact-one i e g c = values-number s i 2 (exact (number s i)) e g (choose-true (is s (i + 1) 3) _ _ c)
 
-  least-one : (i : ℕ) → is s i 20 ≡ true → before s i ≡ 2 → is s (i + 1) 3 ≡ false → valuesTo s (i + 1) ≡ valuesTo s i ++ (least (number s i) ∷ [])
+  least-one : (i : ℕ) → is s i 20 ≡ true → kindBefore s i ≡ 2 → is s (i + 1) 3 ≡ false → valuesTo s (i + 1) ≡ valuesTo s i ++ (least (number s i) ∷ [])
   least-one i e g c = values-number s i 2 (least (number s i)) e g (choose-false (is s (i + 1) 3) _ _ c)
 
   -- behind a comma: a maximum
-  most-one : (i : ℕ) → is s i 20 ≡ true → before s i ≡ 15 → is s (i + 1) 3 ≡ true → valuesTo s (i + 1) ≡ valuesTo s i ++ (most (number s i) ∷ [])
+  most-one : (i : ℕ) → is s i 20 ≡ true → kindBefore s i ≡ 15 → is s (i + 1) 3 ≡ true → valuesTo s (i + 1) ≡ valuesTo s i ++ (most (number s i) ∷ [])
   most-one i e g c = values-number s i 15 (most (number s i)) e g (choose-true (is s (i + 1) 3) _ _ c)
 
-  plainly : (k : ℕ) → is s at k ≡ true → valueBy s (before s at) at k ≡ [] → valuesTo s (at + 1) ≡ valuesTo s at ++ []
+  plainly : (k : ℕ) → is s at k ≡ true → valueBy s (kindBefore s at) at k ≡ [] → valuesTo s (at + 1) ≡ valuesTo s at ++ []
   plainly k e q = values-kind s at k e q ∙ sym (append-nil (valuesTo s at))
 
   postfix-by : (v : Unary) (n : ℕ) → PostfixRead s at v n → valuesTo s n ≡ valuesTo s at ++ unaryValues v
@@ -184,21 +184,21 @@ module _ (s : List ℕ) where
       sym (ap (valuesTo s) z) ∙ h ∙ ap (λ (x : Tree Span). vs ++ treeValues x) y
 
   -- a number of a slice stands behind `[` or `..`
-  integer-value : (b i : ℕ) → or (eqb b 4) (eqb b 22) ≡ true → before s i ≡ b → isInteger s i ≡ true → valuesTo s (i + 1) ≡ valuesTo s i ++ (peeked (integer s i) ∷ [])
+  integer-value : (b i : ℕ) → or (eqb b 4) (eqb b 22) ≡ true → kindBefore s i ≡ b → isInteger s i ≡ true → valuesTo s (i + 1) ≡ valuesTo s i ++ (peeked (integer s i) ∷ [])
   unfolding valueBy
   integer-value b i o e f =
       or-by (is s i 20) (is s i 21) f (λ g. values-number s i b (peeked (integer s i)) g e (choose-true (or (eqb b 4) (eqb b 22)) _ _ o))
       (λ g. values-by s i (peeked (integer s i) ∷ []) (value-is s i 21 g))
 
   -- `..` says nothing behind anything but `[`
-  dots-skip : (b i : ℕ) → before s i ≡ b → eqb b 4 ≡ false → is s i 22 ≡ true → valuesTo s (i + 1) ≡ valuesTo s i
+  dots-skip : (b i : ℕ) → kindBefore s i ≡ b → eqb b 4 ≡ false → is s i 22 ≡ true → valuesTo s (i + 1) ≡ valuesTo s i
   unfolding valueBy
-  dots-skip b i e n d = values-kind s i 22 d (choose-false (eqb (before s i) 4) _ _ (ap (λ (x : ℕ). eqb x 4) e ∙ n))
+  dots-skip b i e n d = values-kind s i 22 d (choose-false (eqb (kindBefore s i) 4) _ _ (ap (λ (x : ℕ). eqb x 4) e ∙ n))
 
   dots-behind : (i : ℕ) → isInteger s i ≡ true → is s (i + 1) 22 ≡ true → valuesTo s (i + 1 + 1) ≡ valuesTo s (i + 1)
   dots-behind i f d = or-by (is s i 20) (is s i 21) f (λ g. dots-skip 20 (i + 1) (after s i 20 g) refl d) (λ g. dots-skip 21 (i + 1) (after s i 21 g) refl d)
 
-  slice-to : (vs : List Value) (at from i : ℕ) {t : Tree Span} {n : ℕ} → before s i ≡ 22 → valuesTo s i ≡ vs ++ (peeked from ∷ []) → sliceTo s at from i ≡ got t n → valuesTo s n ≡ vs ++ treeValues t
+  slice-to : (vs : List Value) (at from i : ℕ) {t : Tree Span} {n : ℕ} → kindBefore s i ≡ 22 → valuesTo s i ≡ vs ++ (peeked from ∷ []) → sliceTo s at from i ≡ got t n → valuesTo s n ≡ vs ++ treeValues t
   unfolding sliceTo valueBy
   slice-to vs at from i b h e =
       split (isInteger s i) _ _
@@ -210,7 +210,7 @@ module _ (s : List ℕ) where
       let (c, p, e₁) = want-got s i 5 _ (omega arith) e₀ in
       leaf-is vs (across s at i) (peekSlice from Open) (i + 1) (values-kind s i 5 c refl ∙ h) e₁) e
 
-  slice-values : (at i : ℕ) {t : Tree Span} {n : ℕ} → before s i ≡ 4 → slice s at i ≡ got t n → valuesTo s n ≡ valuesTo s i ++ treeValues t
+  slice-values : (at i : ℕ) {t : Tree Span} {n : ℕ} → kindBefore s i ≡ 4 → slice s at i ≡ got t n → valuesTo s n ≡ valuesTo s i ++ treeValues t
   unfolding slice valueBy
   slice-values at i b e =
       split (isInteger s i) _ _
@@ -220,7 +220,7 @@ module _ (s : List ℕ) where
       (λ a e₀.
       let (c, p, e₁) = want-got s i 22 _ (omega arith) e₀ in
       slice-to (valuesTo s i) at 0 (i + 1) (after s i 22 c)
-      (values-by s i (peeked 0 ∷ []) (value-is s i 22 c ∙ choose-true (eqb (before s i) 4) _ _ (ap (λ (x : ℕ). eqb x 4) b))) e₁) e
+      (values-by s i (peeked 0 ∷ []) (value-is s i 22 c ∙ choose-true (eqb (kindBefore s i) 4) _ _ (ap (λ (x : ℕ). eqb x 4) b))) e₁) e
 
   leaf-by : (o at : ℕ) (t : Tree Span) (n : ℕ) → LeafRead o s at t n → valuesTo s n ≡ valuesTo s at ++ treeValues t
   unfolding valueBy treeValues
@@ -235,7 +235,7 @@ module _ (s : List ℕ) where
       let (c, d) = and-true (spells peek s at) (is s (at + 1) 4) b in
       let z : at + 2 ≡ at + 1 + 1 = omega arith in
       let y : valuesTo s (at + 2) ≡ valuesTo s at = ap (valuesTo s) z ∙ values-kind s (at + 1) 4 d refl ∙ values-word s at (spelled-word peek s at c) a in
-      slice-values at (at + 2) (ap (before s) z ∙ after s (at + 1) 4 d) e ∙ ap (λ (x : List Value). x ++ treeValues t) y
+      slice-values at (at + 2) (ap (kindBefore s) z ∙ after s (at + 1) 4 d) e ∙ ap (λ (x : List Value). x ++ treeValues t) y
   leaf-by o at t n (ident a b c e g) = rw (e, g) (values-word s at c a ∙ sym (append-nil (valuesTo s at)))
   leaf-by o at t n (str a b e g) = rw (e, g) (values-by s at (bytes (string s at) ∷ []) (value-is s at 23 b))
   leaf-by o at t n (insens a b c e g) = rw (e, g) (values-by s at (bytes (string s at) ∷ []) (value-is s at 24 c))

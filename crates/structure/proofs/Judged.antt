@@ -30,7 +30,7 @@ use Rattle.structure.specs.declared.Why.the-variants.{Over, Zero, NotSca
 use Rattle.structure.specs.Refusals.{because}
 use Rattle.structure.specs.Tokens.{spells}
 use Rattle.structure.specs.Values.{valueOf, number, negated, isInteger, integerOf, integer, opening, literalBytes, string, character, repeatFault, peekFault, literalFault, wordFault, numberFault, faultAt, orFault, faultsFrom, faults}
-use Rattle.structure.specs.Held.{Value, exact, least, most, peeked, single, bytes, pushes, before, repeatValue, numberValue, valueBy, valueAt, valuesTo, rulesValues, Counts, TooMany, NoTimes, NoCharacter, Right, Wrong, RightTo, FirstWrong}
+use Rattle.structure.specs.Held.{Value, exact, least, most, peeked, single, bytes, pushes, kindBefore, repeatValue, numberValue, valueBy, valueAt, valuesTo, rulesValues, Counts, TooMany, NoTimes, NoCharacter, Right, Wrong, RightTo, FirstWrong}
 use Rattle.structure.specs.Structure.{rules, grammar}
 use Rattle.structure.proofs.Steps.{is-kind}
 use Rattle.structure.proofs.Held.{at-most-one, before-next, values-next, grammar-values}
@@ -117,18 +117,18 @@ module _ (level : Level) (s : List ℕ) (i : ℕ) where
   literal-none : or (is s i 23) (or (is s i 24) (is s i 25)) ≡ false → (vs : List Value) → Judged Sound vs → Judged literalPart vs
   literal-none o vs h = rw (choose-false (or (is s i 23) (or (is s i 24) (is s i 25))) (λ u. literalFault s i (badEscape (literalBytes s i))) (λ u. Sound) o) h
 
-  judged : Judged (faultAt level s (before s i) i) (valueAt s i)
+  judged : Judged (faultAt level s (kindBefore s i) i) (valueAt s i)
   unfolding faultAt valueBy is
   judged =
       let k = kind s i in
       choose-both Judged (eqb k 18) _ _ _ _ (λ a. word-judged level refl)
-      (λ a. choose-both Judged (eqb k 20) _ _ _ _ (λ b. number-judged (before s i) b)
+      (λ a. choose-both Judged (eqb k 20) _ _ _ _ (λ b. number-judged (kindBefore s i) b)
       (λ b. choose-both Judged (eqb k 21) _ _ _ _ (λ c. peek-judged (or-second (is s i 20) (is s i 21) c) (integerOf s i) refl)
       (λ c. choose-by (Judged literalPart) (eqb k 22) _ _
       (λ d.
       let q : kind s i ≡ 22 = eqb-true (kind s i) 22 d in
       literal-none (ap (λ (x : ℕ). or (eqb x 23) (or (eqb x 24) (eqb x 25))) q) _
-      (choose-by (Judged Sound) (eqb (before s i) 4) _ _ (λ f. is-right (peeked 0) (inl (d, refl))) (λ f. has-none)))
+      (choose-by (Judged Sound) (eqb (kindBefore s i) 4) _ _ (λ f. is-right (peeked 0) (inl (d, refl))) (λ f. has-none)))
       (λ d. choose-by (Judged literalPart) (or (eqb k 23) (eqb k 24)) _ _
       (λ f. literal-here (or-by (is s i 23) (is s i 24) f (λ g. or-first (is s i 23) _ g) (λ g. or-second (is s i 23) _ (or-first (is s i 24) (is s i 25) g))) (bytes (string s i)) (λ e. e) (λ r h. h))
       (λ f. choose-by (Judged literalPart) (eqb k 25) _ _ (λ g. literal-here (or-second (is s i 23) _ (or-second (is s i 24) (is s i 25) g)) (single (character s i)) (λ e. e) (λ r h. h))
@@ -157,7 +157,7 @@ module _ (level : Level) (s : List ℕ) (i : ℕ) where
 
 module _ (level : Level) (s : List ℕ) where
   abbrev faultOf : ℕ → Fault
-  faultOf i = faultAt level s (before s i) i
+  faultOf i = faultAt level s (kindBefore s i) i
 
   -- the first fault among n tokens from an index on
   abbrev First : ℕ → ℕ → Fault → Type 0
@@ -175,7 +175,7 @@ module _ (level : Level) (s : List ℕ) where
       let (j, a, b, f, g) = h in
       (j, omega arith, omega arith, f, λ k c d. here-or i k c (λ q. ap faultOf (sym q) ∙ e) (λ l. g k l d))
 
-  first-is : (n i b : ℕ) → before s i ≡ b → First i n (faultsFrom level s b i n)
+  first-is : (n i b : ℕ) → kindBefore s i ≡ b → First i n (faultsFrom level s b i n)
   unfolding faultsFrom
   first-is zero i b e = λ j a c. absurd (omega arith)
   first-is (suc n) i b e =

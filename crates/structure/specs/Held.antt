@@ -86,9 +86,9 @@ rulesValues (r ∷ rs) = treeValues (r .tree) ++ rulesValues rs
 -- ---- of tokens
 
 -- the kind of the token before one; before the first there is none
-abbrev pub before : List ℕ → ℕ → ℕ
-before s zero = 0
-before s (suc i) = kind s i
+abbrev pub kindBefore : List ℕ → ℕ → ℕ
+kindBefore s zero = 0
+kindBefore s (suc i) = kind s i
 
 -- a repeat number, by the kind before it: before `}` a maximum if a comma stands before it, else an exact count; elsewhere a minimum
 abbrev pub repeatValue : List ℕ → ℕ → ℕ → Value
@@ -111,7 +111,7 @@ valueBy s b i k =
 
 -- the value of a token, if it has one
 abbrev pub valueAt : List ℕ → ℕ → List Value
-valueAt s i = valueBy s (before s i) i (kind s i)
+valueAt s i = valueBy s (kindBefore s i) i (kind s i)
 
 -- the values of the first n tokens
 unfoldable pub valuesTo : List ℕ → ℕ → List Value
