@@ -184,14 +184,6 @@ module _ (prog : ℕ → Act) (st line : List ℕ) where
         let w = same-give u v n m (sym (complete prog st line r n) ∙ (rw z (complete prog st line s m))) in
         (w .0, omega (arith, w .1))
 
-    -- a larger allowance never alters a length or a none already given
-    pub monotone : (k m : ℕ) (v : Verdict) (l : ℕ) → see d k i at ≡ give v l → see d (k + m) i at ≡ give v (l + m)
-    unfolding act
-    monotone k m v l q =
-        let c = sound d k i at v l q in
-        let z : k + m ≡ c .steps + (l + m) = omega (arith, c .sum) in
-        rw z (complete prog st line (c .runs) (l + m))
-
     -- 34 exactly where the definition comes to nothing within the nested visits and the steps
     pub over-needs : (k : ℕ) → see d k i at ≡ Over → (v : Verdict) (n : ℕ) → Runs prog st line d (node i) at v n → k < n
     unfolding act

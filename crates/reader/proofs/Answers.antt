@@ -250,16 +250,6 @@ pub record Meets (level : Level) (s ns rs st : List ℕ) (r : Reading) (ns′ rs
   pub report : numbered r ≡ reported level s (roomForNodes ns) (roomForRules rs) (length st)
   pub left : Leaves level s r ns rs st ns′ rs′ st′
 
--- two results that meet it are equal
-pub read-unique : {level : Level} {s ns rs st a b c x y z : List ℕ} {r q : Reading} → Meets level s ns rs st r a b c → Meets level s ns rs st q x y z → (r ≡ q) × (a ≡ x) × (b ≡ y) × (c ≡ z)
-read-unique {level} {s} {ns} {rs} {st} v w =
-    let e = v .answer ∙ sym (w .answer) in (
-      e,
-      v .left .nodes ∙ ap (λ (k : Reading). leftIn k (nodesOf (rulesRead level s)) ns) e ∙ sym (w .left .nodes),
-      v .left .rules ∙ ap (λ (k : Reading). leftIn k (recordsOf (rulesRead level s)) rs) e ∙ sym (w .left .rules),
-      v .left .store ∙ ap (λ (k : Reading). leftIn k (rulesStored (rulesRead level s)) st) e ∙ sym (w .left .store),
-    )
-
 module _ (level : Level) (s ns rs st : List ℕ) where
   met : {r : Reading} {ns′ rs′ st′ : List ℕ} → r ≡ readOf level s (roomForNodes ns) (roomForRules rs) (length st) → Leaves level s r ns rs st ns′ rs′ st′ → Meets level s ns rs st r ns′ rs′ st′
   unfolding reported

@@ -114,9 +114,6 @@ module _ (ns rs st : List ℕ) (start : ℕ) (text : List ℕ) (allowance : ℕ)
       ready : readyOf ns rs st start ≡ Ready.Yes
       ready = ran-ready _ _ (told q)
 
-      abbrev ran-lines : List (List ℕ)
-      ran-lines = take mostLines (lines text)
-
       room-is : length (replicate {A = ℕ} 5120 0) / rowSize ≡ mostLines
       room-is = ap (λ n. n / rowSize) (length-replicate {A = ℕ} 5120 0)
 

@@ -52,10 +52,6 @@ pub refused-good : (c : Conf) → refusedAt c ≡ Through → codeOf (c .state) 
 unfolding refusedAt
 refused-good c g e = let z : StopsAt (c .start) ≡ Through = rw e at g in let y : _≡_ {A = ℕ} 0 1 = cc in omega arith
 
-utf-by : (n : ℕ) (b : Bool) (u v : Utf) → utfFits u n ≡ true → utfFits v n ≡ true → utfFits (choose b (λ w. u) (λ w. v)) n ≡ true
-utf-by n true u v e f = e
-utf-by n false u v e f = f
-
 next-fits : (t : Tail) (s n : ℕ) → s < n → utfFits (utfNext t s) n ≡ true
 next-fits T1 s n h = refl
 next-fits T2 s n h = lt-ltb s n h

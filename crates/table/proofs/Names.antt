@@ -2,23 +2,21 @@
 use mathlib.Core.Path.{_≡_, refl, sym, ap, _∙_}
 use mathlib.Core.Bool.{Bool, true, false, not}
 use mathlib.Core.List.{List, [], _∷_}
-use Prim.Native.Nat.{ℕ, suc, _+_, _-_, _≤_, _<_}
+use Prim.Native.Nat.{ℕ, _+_, _-_, _≤_, _<_}
 use native.Mathlib.Omega.{arith}
 use lib.Dec.{eqb}
 use lib.ListN.{length, take, drop}
 use borrow.Author.Tests.{eq-eqb, ne-eqb, eqb-true}
-use Rattle.text.specs.Booleans.{and}
 use Rattle.text.specs.Words.{begins}
 use Rattle.text.specs.declared.Scan.{Scan}
 use Rattle.text.specs.declared.Scan.the-variants.{Through, StopsAt}
-use Rattle.text.proofs.Booleans.{and-both, and-first, and-true, not-false}
+use Rattle.text.proofs.Booleans.{and-true, not-false}
 use Rattle.table.specs.declared.Head.{Head}
-use Rattle.table.specs.declared.Named.{Named}
 use Rattle.table.specs.declared.Named.the-variants.{By, Nobody}
-use Rattle.table.specs.Record.{rulesIn, nameOffset, nameLength, nameAt, rootAt, part, headAt}
+use Rattle.table.specs.Record.{rulesIn, nameAt, part, headAt}
 use Rattle.table.specs.Check.{lowest, Valid}
 use Rattle.table.specs.Names.{sameText, otherName, namedBy, ruleNamed, NamesInside}
-use Rattle.table.proofs.Lowest.{lowest-good, lowest-bad, lowest-fails}
+use Rattle.table.proofs.Lowest.{lowest-bad, lowest-fails}
 use Rattle.table.proofs.Texts.{part-between}
 use Rattle.table.proofs.Tables.{sound-at}
 
@@ -43,11 +41,6 @@ begins-all (x ∷ xs) (y ∷ ys) h e =
     let p : x ≡ y = sym (eqb-true y x (b .0)) in
     let q : xs ≡ ys = begins-all xs ys (omega arith) (b .1) in
     cc
-
-begins-itself : (xs : List ℕ) → begins xs xs ≡ true
-unfolding begins
-begins-itself [] = refl
-begins-itself (x ∷ xs) = and-both _ _ (eq-eqb x x refl) (begins-itself xs)
 
 -- the test passes exactly for equal texts
 pub same-equal : (xs ys : List ℕ) → sameText xs ys ≡ true → xs ≡ ys
