@@ -1,3 +1,4 @@
+-- A comma is wanted, and then what `most_end` says from the maximum on: a law for each way out (`comma-none`, `comma-most`).
 use Rattle.structure.proofs.Leaves.{comma-none, comma-most}
 use borrow.Author.Needs.{needs}
 use Rattle.structure.proofs.inner.leaves.comma_end.Statement.{statement}
