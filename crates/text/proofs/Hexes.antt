@@ -26,11 +26,11 @@ unfolding hexes
 length-hexes zero c = refl
 length-hexes (suc k) c = length-append (hexes k (c / 16)) (hexDigit (c % 16) ∷ []) ∙ ap (λ (n : ℕ). n + 1) (length-hexes k (c / 16)) ∙ omega arith
 
-digit-low : (d : ℕ) → d < 10 → hexDigit d ≡ 48 + d
+pub digit-low : (d : ℕ) → d < 10 → hexDigit d ≡ 48 + d
 unfolding hexDigit
 digit-low d h = rw (lt-ltb d 10 h)
 
-digit-high : (d : ℕ) → 10 ≤ d → hexDigit d ≡ 87 + d
+pub digit-high : (d : ℕ) → 10 ≤ d → hexDigit d ≡ 87 + d
 unfolding hexDigit
 digit-high d h = rw (le-ltb d 10 h)
 

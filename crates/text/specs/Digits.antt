@@ -47,13 +47,9 @@ hexOf x =
     choose (within 48 57 x) (λ u. Number (x - 48))
     (λ u. choose (within 65 70 x) (λ u. Number (x - 55)) (λ u. choose (within 97 102 x) (λ u. Number (x - 87)) (λ u. Nothing)))
 
--- the hex digit of a value below sixteen: 0 to 9, a to f
+-- the hex digit of a value below sixteen, 0 to 9 and a to f: 48 and the value below ten, 87 and the value from ten on
 unfoldable pub hexDigit : ℕ → ℕ
 hexDigit d = choose (ltb d 10) (λ u. 48 + d) (λ u. 87 + d)
-
--- the fixed table of sixteen
-abbrev pub hexDigits : List ℕ
-hexDigits = 48 ∷ 49 ∷ 50 ∷ 51 ∷ 52 ∷ 53 ∷ 54 ∷ 55 ∷ 56 ∷ 57 ∷ 97 ∷ 98 ∷ 99 ∷ 100 ∷ 101 ∷ 102 ∷ []
 
 -- the last k hex digits of a number
 unfoldable pub hexes : ℕ → ℕ → List ℕ
