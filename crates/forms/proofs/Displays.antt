@@ -31,7 +31,7 @@ formOf (leaf s a) = atomForm a
 formOf (one s o t) = wrapForm o
 formOf (two s j a b) = Joined j
 
-bare : (x : List ℕ) → enclosed false x ≡ x
+pub bare : (x : List ℕ) → enclosed false x ≡ x
 unfolding enclosed
 bare x = append-nil x
 

@@ -1,5 +1,6 @@
 -- The laws of texts and of their parts, for this crate's own functions and for the crates above.
 pub mod Displays
+pub mod Shown
 pub mod Levels
 pub mod Joins
 pub mod Spans

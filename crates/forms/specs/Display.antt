@@ -1,9 +1,14 @@
--- The same text in the words of ast.rs: `Display`, `as_postfix_operand`, and the loop over a chain.
+-- The same text in the words of ast.rs: `Display`, `as_postfix_operand`, `fmt_literal`, and the loop over a chain.
 use Prim.Native.Nat.{ℕ}
-use mathlib.Core.Bool.{Bool, false}
+use mathlib.Core.Bool.{Bool, false, not}
 use mathlib.Core.List.{List, [], _∷_, _++_, map}
-use Rattle.text.specs.Booleans.{choose}
-use Rattle.text.specs.Digits.{decimal}
+use lib.Dec.{ltb, eqb}
+use Rattle.text.specs.Booleans.{choose, or, within, among}
+use Rattle.text.specs.Utf8.{encoded}
+use Rattle.text.specs.Digits.{decimal, hexes}
+use Rattle.literal.specs.Literals.{hexCount}
+use Rattle.table.specs.declared.Sort.{Sort}
+use Rattle.table.specs.declared.Sort.the-variants.{Str, Insens, Ident, PushLiteral}
 use Rattle.table.specs.declared.Join.{Join}
 use Rattle.table.specs.declared.Unary.the-variants.{PosPred, NegPred, Opt, Rep, RepOnce, RepExact, RepMin, RepMax, RepMinMax, Push}
 use Rattle.table.specs.Tree.{Wrap, plain, nodeTag, Tree, leaf, one, two}
@@ -15,6 +20,62 @@ use Rattle.forms.specs.Printing.{isPrefix, wrapForm, separator, printed}
 -- `format!("{self}")`
 abbrev pub display : {P : Type 0} → Tree P → List ℕ
 display t = printed Full Alone t
+
+-- ---- literals, for characters of ASCII and of U+00A1 to U+024F. What lies behind `escape_debug` is not in ast.rs: for these
+-- it is said here
+
+abbrev pub told : ℕ → Bool
+told c = or (ltb c 0x80) (within 0xa1 0x24f c)
+
+-- all of them are printable but control characters, U+007F and U+00AD
+abbrev pub isPrintable : ℕ → Bool
+isPrintable c = not (or (ltb c 0x20) (among (0x7f ∷ 0xad ∷ []) c))
+
+-- as many hex digits as a number needs, one at least
+abbrev pub needed : ℕ → ℕ
+needed c = choose (ltb c 0x10) (λ u. 1) (λ u. hexCount c)
+
+-- `\u{..}` with n digits
+abbrev pub unicode : ℕ → ℕ → List ℕ
+unicode n c = 92 ∷ 117 ∷ 123 ∷ (hexes n c ++ (125 ∷ []))
+
+-- `c.escape_debug()`
+unfoldable pub escapeDebug : ℕ → List ℕ
+escapeDebug c =
+    choose (eqb c 0) (λ u. 92 ∷ 48 ∷ [])
+    (λ u. choose (eqb c 9) (λ u. 92 ∷ 116 ∷ [])
+    (λ u. choose (eqb c 13) (λ u. 92 ∷ 114 ∷ [])
+    (λ u. choose (eqb c 10) (λ u. 92 ∷ 110 ∷ [])
+    (λ u. choose (among (92 ∷ 34 ∷ 39 ∷ []) c) (λ u. 92 ∷ encoded c)
+    (λ u. choose (isPrintable c) (λ u. encoded c) (λ u. unicode (needed c) c))))))
+
+-- the arms of `fmt_literal`
+unfoldable pub fmtChar : ℕ → ℕ → List ℕ
+fmtChar q c =
+    choose (eqb c q) (λ u. 92 ∷ encoded c)
+    (λ u. choose (among (39 ∷ 34 ∷ []) c) (λ u. encoded c)
+    (λ u. choose (or (within 0x1 0x8 c) (among (0xb ∷ 0xc ∷ 0xe ∷ 0xf ∷ []) c)) (λ u. unicode 2 c) (λ u. escapeDebug c)))
+
+-- `for c in string.chars()`
+unfoldable pub eachChar : (ℕ → List ℕ) → List ℕ → List ℕ
+eachChar f [] = []
+eachChar f (c ∷ cs) = f c ++ eachChar f cs
+
+-- `fmt_literal`, of a string that is given by its characters
+unfoldable pub fmtLiteral : ℕ → List ℕ → List ℕ
+fmtLiteral q cs = q ∷ (eachChar (fmtChar q) cs ++ (q ∷ []))
+
+-- what `Display` writes for a leaf with a text, and for a range
+unfoldable pub displayText : Sort → List ℕ → List ℕ
+displayText Str cs = fmtLiteral 34 cs
+displayText Insens cs = 94 ∷ fmtLiteral 34 cs
+displayText Ident cs = eachChar encoded cs
+displayText PushLiteral cs = 80 ∷ 85 ∷ 83 ∷ 72 ∷ 95 ∷ 76 ∷ 73 ∷ 84 ∷ 69 ∷ 82 ∷ 65 ∷ 76 ∷ 40 ∷ (fmtLiteral 34 cs ++ (41 ∷ []))
+
+unfoldable pub displayRange : ℕ → ℕ → List ℕ
+displayRange x y = 40 ∷ (fmtLiteral 39 (x ∷ []) ++ (46 ∷ 46 ∷ (fmtLiteral 39 (y ∷ []) ++ (41 ∷ []))))
+
+-- ---- expressions
 
 -- `Expr::PosPred(_) | Expr::NegPred(_)`
 abbrev pub isPredicate : {P : Type 0} → Tree P → Bool

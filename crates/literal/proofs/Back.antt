@@ -10,12 +10,11 @@ use lib.Seq.{take-at}
 use borrow.Author.Tests.{eq-eqb, ne-eqb}
 use Rattle.text.specs.Booleans.{choose, nextIs}
 use Rattle.text.specs.Scans.{spelled, sought, later}
-use Rattle.text.specs.Utf8.{scalar, encoded, charOf, seqLook, firstBad}
+use Rattle.text.specs.Utf8.{scalar, encoded, seqLook, firstBad}
 use Rattle.text.specs.declared.Value.the-variants.{Number}
 use Rattle.text.specs.declared.Scan.the-variants.{Through, StopsAt}
 use Rattle.text.specs.declared.Look.{Look}
 use Rattle.text.specs.declared.Look.the-variants.{Past, Stop}
-use Rattle.text.specs.declared.Sequence.the-variants.{Is}
 use Rattle.text.proofs.Encodes.{encoded-read}
 use Rattle.literal.specs.declared.Escape.{Escape}
 use Rattle.literal.specs.declared.Escape.the-variants.{Means, Plain}
@@ -27,7 +26,7 @@ use Rattle.literal.proofs.Stands.{Escapes, Stands, escape, itself, pair
 
 -- ---- a printed string, piece by piece
 
-inside-char : (q c : ℕ) → scalar c ≡ true → Gives (charPiece q) (encoded c) (shown q c)
+pub inside-char : (q c : ℕ) → scalar c ≡ true → Gives (charPiece q) (encoded c) (shown q c)
 inside-char q c s = gives-piece (charPiece q) (encoded c) (shown q c) (encoded-some c s) (λ ys. ap (charPieceBy q) (encoded-read c ys s))
 
 -- P of a text and the string it stands for: what holds of nothing, and of one more piece before them, holds of what was printed
@@ -61,10 +60,6 @@ PastEscapes p = (xs : List ℕ) (c n : ℕ) → scalar c ≡ true → escapeOf x
 abbrev pub PastBytes : ℕ → (List ℕ → Look) → Type 0
 PastBytes q p = (x : ℕ) (ys : List ℕ) → (x ≡ 92 → ⊥) → (x ≡ q → ⊥) → p (x ∷ ys) ≡ Past 0
 
--- or past other characters
-abbrev pub PastChars : ℕ → (List ℕ → Look) → Type 0
-PastChars q p = (xs : List ℕ) (c n : ℕ) → charOf xs ≡ Is c n → (c ≡ 92 → ⊥) → (c ≡ q → ⊥) → p xs ≡ Past (n - 1)
-
 escapes-over : (p : List ℕ → Look) → PastEscapes p → (x : List ℕ) (c : ℕ) → scalar c ≡ true → Escapes x c → Over p x
 escapes-over p f x c s e = over-piece p x (omega (arith, escapes-some x c e)) (λ ys. f (x ++ ys) c (length x) s (e .means ys))
 
@@ -76,9 +71,6 @@ bytes-over : (q : ℕ) → q < 128 → (p : List ℕ → Look) → PastBytes q p
 bytes-over q h p f c m n =
     over-bytes p (λ (x : ℕ). (x ≡ 92 → ⊥) × (x ≡ q → ⊥)) (λ x ys a. f x ys (a .0) (a .1)) (encoded c)
     (each-two (λ (x : ℕ). x ≡ 92 → ⊥) (λ (x : ℕ). x ≡ q → ⊥) (encoded c) (encoded-free 92 c (omega arith) m) (encoded-free q c h n))
-
-chars-over : (q : ℕ) (p : List ℕ → Look) → PastChars q p → (c : ℕ) → scalar c ≡ true → (c ≡ 92 → ⊥) → (c ≡ q → ⊥) → Over p (encoded c)
-chars-over q p f c s m n = over-piece p (encoded c) (encoded-some c s) (λ ys. f (encoded c ++ ys) c (length (encoded c)) (encoded-read c ys s) m n)
 
 -- past whatever stands for a character: past its escapes, and past the character itself
 stands-over : (q : ℕ) (p : List ℕ → Look) → ((x : List ℕ) (c : ℕ) → scalar c ≡ true → Escapes x c → Over p x)
@@ -142,12 +134,9 @@ module _ (q : ℕ) (w : simpleOf q ≡ Number q) (s : List ℕ) (h : firstBad s 
   unfolding unescaped
   unescaped-inside = gives-all escapePiece (inside q s) s inside-gives
 
-  -- a search by bytes, and one by characters, that stops at none of the pieces goes past what was printed
+  -- a search by bytes that stops at none of the pieces goes past what was printed
   pub bytes-over-inside : (p : List ℕ → Look) → PastEscapes p → PastBytes q p → Over p (inside q s)
   bytes-over-inside p f k = printed-over q w p (stands-over q p (escapes-over p f) (λ c g m n. bytes-over q (quote-ascii q w) p k c m n)) s h
-
-  pub chars-over-inside : (p : List ℕ → Look) → PastEscapes p → PastChars q p → Over p (inside q s)
-  chars-over-inside p f k = printed-over q w p (stands-over q p (escapes-over p f) (chars-over q p k)) s h
 
   -- no escape is bad
   pub inside-scalars : badEscape (inside q s) ≡ Through

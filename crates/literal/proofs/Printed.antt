@@ -3,26 +3,27 @@ use Prim.Native.Nat.{ℕ, _+_, _-_, _<_}
 use mathlib.Core.Path.{_≡_, refl, ap, _∙_}
 use mathlib.Core.Bool.{Bool, true, false, not}
 use mathlib.Core.List.{List, [], _∷_, _++_}
+use mathlib.Core.Logic.{⊎-elim}
 use native.Mathlib.Omega.{arith}
-use lib.Dec.{eqb, ltb}
+use lib.Dec.{eqb}
 use lib.ListN.{length, getD, drop, length-append}
-use borrow.Author.Tests.{ne-eqb, lt-ltb, ltb-true}
-use Rattle.text.specs.Booleans.{and}
+use borrow.Author.Tests.{ne-eqb, lt-ltb, le-ltb}
+use Rattle.text.specs.Booleans.{and, within}
 use Rattle.text.specs.Scans.{spelled}
 use Rattle.text.specs.Splice.{Room, Wrote, spent}
 use Rattle.text.specs.Utf8.{charOf, encoded}
 use Rattle.text.specs.Digits.{hexes}
 use Rattle.text.specs.declared.Sequence.{Sequence}
 use Rattle.text.specs.declared.Sequence.the-variants.{Is, Broken}
-use Rattle.text.proofs.Tests.{at-byte, within-is}
+use Rattle.text.proofs.Tests.{lt-or-ge, at-byte, within-low, within-high, within-is}
 use Rattle.text.proofs.Decodes.{one, decoded, encoded-one}
 use Rattle.text.proofs.Encodes.{found-read, scalar-below}
 use Rattle.text.proofs.Hexes.{length-hexes}
 use Rattle.text.proofs.Splices.{wrote-then, room-front, room-next}
 use Rattle.text.proofs.Walks.{spelled-step}
-use Rattle.text.proofs.Booleans.{and-second, and-true}
+use Rattle.text.proofs.Booleans.{or-nothing}
 use Rattle.literal.specs.declared.Show.the-variants.{Pair, Bare, Hex}
-use Rattle.literal.specs.Literals.{hexCount, bare, bareIn, bareByte, showOf, shownBy, shown, charPieceBy, charPiece, inside, literal}
+use Rattle.literal.specs.Literals.{hexCount, bare, bareByte, showOf, shownBy, shown, charPieceBy, charPiece, inside, literal}
 use Rattle.literal.proofs.Turns.{Turn}
 
 pub char-below : (xs : List ℕ) (c n : ℕ) → charOf xs ≡ Is c n → c < 0x110000
@@ -89,23 +90,22 @@ three-true true false true e = let z : _≡_ {A = ℕ} 0 1 = cc in absurd (omega
 three-true true true z e = let z : _≡_ {A = ℕ} 0 1 = cc in absurd (omega arith)
 three-true false y z e = let z : _≡_ {A = ℕ} 0 1 = cc in absurd (omega arith)
 
--- of a byte below 0x80 it is what is asked of the character; where that is false, so is it of any byte
-pub byte-is : (q b : ℕ) → b < 0x80 → bareByte q b ≡ bareIn q b
-byte-is q b h = rw (lt-ltb b 0x80 h)
+-- ASCII prints bare from U+0020 to U+007E
+pub bare-ascii : (c : ℕ) → c < 0xa1 → bare c ≡ within 0x20 0x7e c
+bare-ascii c h = rw (within-low 0xa1 0x24f c h) (or-nothing (within 0x20 0x7e c))
 
-pub byte-not : (q b : ℕ) → bareIn q b ≡ false → bareByte q b ≡ false
-byte-not q b e = rw e (and-second (ltb b 0x80) false refl)
+-- and so does a byte: one from 0x80 on doesn't, whatever character has its number
+pub byte-is : (q b : ℕ) → bareByte q b ≡ and (within 0x20 0x7e b) (and (not (eqb b q)) (not (eqb b 92)))
+byte-is q b =
+    ⊎-elim (λ h. rw (lt-ltb b 0x80 h, bare-ascii b (omega arith))) (λ h. rw (le-ltb b 0x80 h, within-high 0x20 0x7e b (omega arith))) (lt-or-ge b 0x80)
 
 bare-shown : (q b : ℕ) → bareByte q b ≡ true → (shown q b ≡ b ∷ []) × (b < 0x80)
 unfolding showOf
 bare-shown q b d =
-    let y = and-true (ltb b 0x80) (bareIn q b) d in
-    let h = ltb-true b 0x80 (y .0) in
-    let e = y .1 in
-    let t = three-true (bare b) (eqb b q) (eqb b 92) e in
-    let l = within-is 0x20 0x7e b (t .0) .low in
+    let t = three-true (within 0x20 0x7e b) (eqb b q) (eqb b 92) (rw (byte-is q b) at d) in
+    let l = within-is 0x20 0x7e b (t .0) in
     let s : showOf q b ≡ Bare = rw (t .1, t .2, ne-eqb b 0 (omega arith), ne-eqb b 9 (omega arith), ne-eqb b 10 (omega arith), ne-eqb b 13 (omega arith), t .0) in
-    (shown-bare q b s ∙ encoded-one b h, h)
+    (shown-bare q b s ∙ encoded-one b (omega arith), omega arith)
 
 -- ---- a turn of the loops
 

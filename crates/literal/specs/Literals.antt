@@ -4,7 +4,7 @@ use mathlib.Core.Bool.{Bool, true, false, not}
 use mathlib.Core.List.{List, [], _∷_, _++_}
 use lib.Dec.{leb, ltb, eqb}
 use lib.ListN.{length}
-use Rattle.text.specs.Booleans.{choose, and, within}
+use Rattle.text.specs.Booleans.{choose, and, or, within}
 use Rattle.text.specs.Scans.{Piece, spelled}
 use Rattle.text.specs.Splice.{fronted}
 use Rattle.text.specs.Utf8.{charOf, encoded, firstBad}
@@ -26,9 +26,9 @@ hexCount c =
     choose (ltb c 0x100) (λ u. 2)
     (λ u. choose (ltb c 0x1000) (λ u. 3) (λ u. choose (ltb c 0x10000) (λ u. 4) (λ u. choose (ltb c 0x100000) (λ u. 5) (λ u. 6))))
 
--- the characters that print bare: U+0020 to U+007E
+-- the characters that print bare: U+0020 to U+007E, and U+00A1 to U+024F but for U+00AD
 abbrev pub bare : ℕ → Bool
-bare c = within 0x20 0x7e c
+bare c = or (within 0x20 0x7e c) (and (within 0xa1 0x24f c) (not (eqb c 0xad)))
 
 -- a character that stands for itself between quotes q
 abbrev pub bareIn : ℕ → ℕ → Bool

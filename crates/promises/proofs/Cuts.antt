@@ -46,7 +46,7 @@ module _ (s : List ℕ) where
   rest-gap i c f ps r = record {
     view = rw (length-append f (c ∷ [])) (view-gap s i (length f) c ps (r .view));
     before = r .before;
-    laid = r .laid .2;
+    laid = r .laid .1;
     text = r .text ∙ sym (append-assoc f (c ∷ []) (spelled ps));
   }
 

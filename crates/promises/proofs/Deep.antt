@@ -45,7 +45,8 @@ use Rattle.promises.specs.Round.{nonzeroRules}
 use Rattle.promises.proofs.Narrow.{tables-counted}
 use Rattle.promises.proofs.Rules.{reads}
 use Rattle.promises.proofs.Sinks.{grammar-deep}
-use Rattle.promises.proofs.Text.{printed-lexed, printed-stands, printed-deep, printed-utf8}
+use Rattle.promises.proofs.Utf8.{rules-utf8}
+use Rattle.promises.proofs.Text.{printed-lexed, printed-stands, printed-deep}
 use Rattle.promises.proofs.Styles.{rules-fit, marked-rules-fine, marked-rules-counted}
 
 -- ---- past structure nothing is refused as too deep
@@ -91,7 +92,7 @@ module _ (level : Level) (s : List ℕ) (n r b : ℕ) where
 
 module _ {P : Type 0} (v : Style) (us : List (Rule P)) (f : fineRules us ≡ true) (c : countedRules us ≡ true) (e : 1 ≤ length us) (l : length (printedRules v us) ≤ maxText) (level : Level) where
   printed-judged : (n r b : ℕ) → readOf level (printedRules v us) n r b ≡ judgedOf level (printedRules v us) n r b
-  printed-judged n r b = past-tokens level (printedRules v us) n r b l (printed-utf8 v us f c) (printed-lexed v us f c)
+  printed-judged n r b = past-tokens level (printedRules v us) n r b l (rules-utf8 v us f) (printed-lexed v us f c)
 
   printed-limited : Limited level (printedRules v us)
   printed-limited =

@@ -3,6 +3,7 @@
 -- from printed text to its tokens
 pub mod Spelled
 pub mod Values
+pub mod Utf8
 pub mod Tokens
 pub mod Laid
 pub mod Lays

@@ -115,7 +115,7 @@ pub fn by_callgrind(held_to: fn(&str) -> bool) -> io::Result<()> {
     if good {
         return Ok(());
     }
-    Err(io::Error::new(io::ErrorKind::Other, "the run under callgrind failed"))
+    Err(io::Error::other("the run under callgrind failed"))
 }
 
 struct Counted {

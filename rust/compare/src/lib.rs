@@ -2,6 +2,7 @@
 //! answer for them.
 
 pub mod by_hand;
+pub mod characters;
 pub mod instructions;
 pub mod layouts;
 pub mod lines;
@@ -58,6 +59,7 @@ impl Tally {
 pub struct Random(pub u64);
 
 impl Random {
+    #[allow(clippy::should_implement_trait)]
     pub fn next(&mut self) -> u64 {
         self.0 = self.0.wrapping_add(0x9e37_79b9_7f4a_7c15);
         let mut z = self.0;

@@ -6,7 +6,7 @@ use std::collections::BTreeMap;
 use std::time::Instant;
 
 use compare::texts::Source;
-use compare::{argument, on_stack, printing, quiet_panics, second_reads, texts, Tally};
+use compare::{argument, characters, on_stack, printing, quiet_panics, second_reads, texts, Tally};
 use oracle::{Answer, Tables};
 use second::read::Used;
 use second::token::{Next, BAR};
@@ -329,37 +329,9 @@ fn compare_texts(seed: u64, scale: usize) -> bool {
     faults.is_empty()
 }
 
-/// Every character between both quotes: what prints alike, and what comes back.
-fn compare_characters() -> bool {
-    oracle::limit_calls(0);
-    let (mut alike, mut otherwise, mut bad) = (0u64, 0u64, 0u64);
-    let mut least = None;
-    for character in '\0'..=char::MAX {
-        let text = character.to_string();
-        let mut out = [0; 64];
-        let rule = [0, 1, 0, 0, 0, 0];
-        let store = format!("a{text}");
-        let mut print = |node: [u32; 6]| {
-            let length = second::print::print(&node, &rule, store.as_bytes(), &mut out);
-            String::from_utf8(out[6..length.expect("a good table") - 3].to_vec()).expect("UTF-8")
-        };
-        let string = print([1, 0, 0, 1, text.len() as u32, 0]);
-        let range = print([3, 0, 0, character as u32, character as u32, 0]);
-        let quoted = oracle::fmt_literal(&text, '\'');
-        let same =
-            oracle::fmt_literal(&text, '"') == string && format!("({quoted}..{quoted})") == range;
-        if same {
-            alike += 1;
-        } else {
-            otherwise += 1;
-            least.get_or_insert(character);
-            bad += u64::from(character.is_ascii());
-        }
-        let unescaped = oracle::unescape(&string);
-        bad += u64::from(unescaped != Some(format!("\"{text}\"")));
-    }
-    println!("\ncharacters: {alike} print alike, {otherwise} otherwise, the first {least:?}");
-    println!("ASCII that prints otherwise, or what `unescape` doesn't give back: {bad}");
+/// Every character; and two of the Rust's own ways with literals and comments.
+fn compare_characters(scale: usize) -> bool {
+    let good = characters::compare(scale);
     for open in [4, 8, 12, 16] {
         let text = format!("a={{b}}{}", "/* ".repeat(open));
         let start = Instant::now();
@@ -372,13 +344,13 @@ fn compare_characters() -> bool {
         oracle::unescape("\\x+4"),
         oracle::unescape("\\u{+4}")
     );
-    bad == 0
+    good
 }
 
 /// The parts that want the product's library.
 #[cfg(feature = "product")]
 mod linked {
-    use super::{texts, Source};
+    use super::{characters, texts, Source, Tables};
     use compare::printing::Style;
     use compare::{product, tables, Random};
     use second::arrive;
@@ -450,18 +422,20 @@ mod linked {
         differences.0 == 0
     }
 
-    /// The printer, both its texts; and the reader over the short ones.
+    /// The printer, both its texts, of random tables and of every character; and the reader over the short ones.
     pub fn printer(seed: u64, scale: usize) -> bool {
         let (mut count, mut trees, mut prints, mut reads) = (0u64, 0u64, 0u64, 0u64);
         let mut differences = Differences::default();
-        tables::all(seed, scale, &mut |made| {
+        let mut hold = |made: &Tables| {
             count += 1;
             trees += made.rules.len() as u64 / 6;
             for style in Style::BOTH {
                 differences.note(product::check_print(style, made, &mut prints));
             }
             differences.note(product::check_short(made, &mut reads));
-        });
+        };
+        tables::all(seed, scale, &mut hold);
+        characters::all(scale, &mut |_, made| hold(made));
         println!("\nproduct and second program: {count} tables of {trees} trees: {prints} printings in full and short, {reads} readings of short texts and of these without a pair of brackets, {} different", differences.0);
         differences.0 == 0
     }
@@ -491,14 +465,17 @@ mod linked {
     }
 }
 
+/// Answers whether nothing is different.
+type Part = Box<dyn Fn() -> bool + Send + Sync>;
+
 fn main() {
     let (seed, scale) = (argument("--seed", 1), argument("--scale", 100) as usize);
     println!("seed {seed}, scale {scale} of 100");
     quiet_panics();
-    let parts: [(&str, usize, Box<dyn Fn() -> bool + Send + Sync>); 7] = [
+    let parts: [(&str, usize, Part); 7] = [
         ("texts", 4 << 30, Box::new(move || compare_texts(seed, scale))),
         ("tables", 1 << 30, Box::new(move || printing::compare(seed, scale))),
-        ("characters", 8 << 20, Box::new(compare_characters)),
+        ("characters", 8 << 20, Box::new(move || compare_characters(scale))),
         // The product gets the stack that a program has.
         ("reader", 8 << 20, Box::new(move || linked::reader(seed, scale))),
         ("stream", 8 << 20, Box::new(move || linked::stream(seed, scale))),
@@ -512,7 +489,7 @@ fn main() {
             continue;
         }
         let start = Instant::now();
-        good &= on_stack(*stack, || part());
+        good &= on_stack(*stack, part);
         println!("{name}: {:.1} s", start.elapsed().as_secs_f64());
     }
     println!("\n{}", if good { "no difference that isn't explained" } else { "DIFFERENT" });

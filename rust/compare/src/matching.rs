@@ -9,7 +9,7 @@ use second::Refusal;
 
 use crate::lines::{spoilt, text, Liner, Maker};
 use crate::product::{match_into, match_lines_into, rule_named, Lent};
-use crate::tables::{falsified, limits, Grower};
+use crate::tables::{falsified, limits, Characters, Grower};
 use crate::{by_hand, shown, Random};
 
 /// More steps than most need. What needs more is asked with no more, since it may be endless.
@@ -422,7 +422,7 @@ pub fn compare(seed: u64, scale: usize) -> bool {
     }
     let mut grower = Grower::new(Random(seed ^ 0x6e0de5));
     for _ in 0..200 * scale {
-        grower.wide = random.one_in(3);
+        grower.characters = random.of(&Characters::EACH);
         let rules = random.of(&[1, 1, 2, 3]);
         let size = random.of(&[1, 1, 2, 3, 5, 8, 20]);
         let made = grower.grow(rules, size);

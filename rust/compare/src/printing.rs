@@ -5,6 +5,7 @@ use second::brackets::{depth, pairs, without};
 use second::print::{print, print_short};
 use second::{Refusal, BYTES, OPEN};
 
+use crate::characters::is_in_domain;
 use crate::trees::{self, Rule, Tree};
 use crate::{second_reads, tables, Tally};
 
@@ -119,11 +120,12 @@ impl Printing {
     fn display(&mut self, made: &Tables, rules: &[Rule], text: &[u8]) {
         let rust = oracle::print(&made.nodes, &made.rules, &made.store);
         if rust.as_bytes() == text {
-            self.answers.add("Full: printed alike by `Display`".to_string(), text);
-        } else if ascii(rules) {
+            let what = if text.is_ascii() { "ASCII" } else { "beyond ASCII" };
+            self.answers.add(format!("Full: printed alike by `Display`, {what}"), text);
+        } else if in_domain(rules) {
             self.faults.add("PRINTED OTHERWISE".to_string(), text);
         } else {
-            self.answers.add("Full: other than ASCII: printed otherwise".to_string(), text);
+            self.answers.add("Full: with other characters: printed otherwise".to_string(), text);
         }
     }
 
@@ -177,10 +179,13 @@ impl Printing {
     }
 }
 
-fn ascii(rules: &[Rule]) -> bool {
+/// Whether all strings and range ends are such as print as in the Rust.
+fn in_domain(rules: &[Rule]) -> bool {
     fn tree_is(tree: &Tree) -> bool {
-        let ends = tree.kind != 3 || tree.numbers[..2].iter().all(|n| *n < 128);
-        ends && tree.text.is_ascii() && tree.children.iter().all(tree_is)
+        let end_is = |end: &u32| char::from_u32(*end).is_some_and(is_in_domain);
+        let ends = tree.kind != 3 || tree.numbers[..2].iter().all(end_is);
+        let text = std::str::from_utf8(&tree.text).expect("UTF-8");
+        ends && text.chars().all(is_in_domain) && tree.children.iter().all(tree_is)
     }
     rules.iter().all(|rule| tree_is(&rule.tree))
 }

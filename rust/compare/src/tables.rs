@@ -9,13 +9,34 @@ const WORDS: [&str; 9] = ["a", "b", "_", "foo_1", "PEEK", "ANY", "pUSH", "Z9", "
 const TAGS: [&str; 5] = ["t", "_", "PUSH", "PUSHx", "PUSH_LITERAL"];
 const ASCII: [&str; 10] =
     ["", "x", "ab", "\"", "'", "\\", "\n\t\r\0", "\u{1}\u{1f}\u{7f}", " ~", "}"];
-const OTHER: [&str; 6] = ["é", "\u{80}", "€\u{301}", "😀", "\u{ad}", "\u{10ffff}\u{fffe}"];
+const OTHER: [&str; 6] = ["\u{a0}", "\u{80}", "€\u{301}", "😀", "\u{250}µ", "\u{10ffff}\u{fffe}"];
+
+/// The characters of strings and of range ends.
+#[derive(Clone, Copy, Debug, PartialEq, Eq)]
+pub enum Characters {
+    Ascii,
+    /// Those of U+00A1 to U+024F too: all that must print as in the Rust.
+    Letters,
+    All,
+}
+
+impl Characters {
+    pub const EACH: [Characters; 3] = [Characters::All, Characters::Letters, Characters::Ascii];
+}
+
+/// A character of U+00A1 to U+024F; often one that a mistake would be made with.
+pub fn letter(random: &mut Random) -> char {
+    let edges = ['\u{a1}', '\u{ac}', '\u{ad}', '\u{ae}', '\u{ff}', '\u{100}', '\u{24f}', 'µ'];
+    if random.one_in(3) {
+        return random.of(&edges);
+    }
+    char::from_u32(0xa1 + random.below(0x1af) as u32).expect("a character")
+}
 
 /// Grows good tables.
 pub struct Grower {
     pub random: Random,
-    /// Strings and range ends may be other than ASCII.
-    pub wide: bool,
+    pub characters: Characters,
     made: Tables,
     /// Parts of the store that can be used again: words, tags, strings.
     parts: [Vec<(u32, u32)>; 3],
@@ -23,7 +44,8 @@ pub struct Grower {
 
 impl Grower {
     pub fn new(random: Random) -> Grower {
-        Grower { random, wide: false, made: Tables::default(), parts: Default::default() }
+        let (made, parts) = Default::default();
+        Grower { random, characters: Characters::Ascii, made, parts }
     }
 
     /// Tables of some `rules` rules with trees of some `size`.
@@ -57,10 +79,9 @@ impl Grower {
             return (offset, length);
         }
         let text = match sort {
-            0 => self.random.of(&WORDS),
-            1 => self.random.of(&TAGS),
-            _ if self.wide && self.random.one_in(3) => self.random.of(&OTHER),
-            _ => self.random.of(&ASCII),
+            0 => self.random.of(&WORDS).to_string(),
+            1 => self.random.of(&TAGS).to_string(),
+            _ => self.string(),
         };
         let part = (self.made.store.len() as u32, text.len() as u32);
         self.made.store.extend_from_slice(text.as_bytes());
@@ -68,9 +89,26 @@ impl Grower {
         part
     }
 
+    fn string(&mut self) -> String {
+        if self.characters == Characters::All && self.random.one_in(3) {
+            return self.random.of(&OTHER).to_string();
+        }
+        if self.characters == Characters::Ascii || self.random.one_in(2) {
+            return self.random.of(&ASCII).to_string();
+        }
+        let after = self.random.of(&["", "", "m", "\"", "\\"]);
+        (0..1 + self.random.below(3))
+            .map(|_| letter(&mut self.random))
+            .chain(after.chars())
+            .collect()
+    }
+
     fn end(&mut self) -> u32 {
-        if self.wide && self.random.one_in(3) {
-            return self.random.of(&[0x80, 0xd7ff, 0xe000, 0x10ffff, 0x301, 0xe9]);
+        if self.characters == Characters::All && self.random.one_in(3) {
+            return self.random.of(&[0x80, 0xa0, 0x250, 0xd7ff, 0xe000, 0x10ffff, 0x301]);
+        }
+        if self.characters != Characters::Ascii && self.random.one_in(2) {
+            return letter(&mut self.random).into();
         }
         match self.random.below(4) {
             0 => self.random.of(&[0, 9, 10, 13, 34, 39, 92, 127, 11, 31]),
@@ -374,7 +412,7 @@ pub fn all(seed: u64, scale: usize, f: &mut dyn FnMut(&Tables)) {
     let mut random = Random(seed ^ 0x7ab1e5);
     let mut grower = Grower::new(Random(seed ^ 0x6e0de5));
     for _ in 0..3_000 * scale {
-        grower.wide = random.one_in(3);
+        grower.characters = random.of(&Characters::EACH);
         let rules = random.of(&[1, 1, 1, 2, 3, 5]);
         let size = random.of(&[1, 2, 3, 5, 8, 13, 20, 40]);
         let tables = grower.grow(rules, size);

@@ -350,7 +350,7 @@ impl Grower {
                 .of(&["\\u{d800}", "\\u{DFFF}", "\\u{110000}", "\\u{ffffff}"])
                 .into();
         }
-        match self.random.below(10) {
+        match self.random.below(12) {
             0 => self.random.of(&["\\\"", "\\\\", "\\r", "\\n", "\\t", "\\0", "\\'"]).into(),
             1 => format!("\\x{:02x}", self.random.below(256)),
             2 => format!("\\x{:02X}", self.random.below(256)),
@@ -362,6 +362,11 @@ impl Grower {
             4 => self.random.of(&["\\u{10ffff}", "\\u{E000}", "\\u{00007f}", "\\u{d7fF}"]).into(),
             5 => self.random.of(&["é", "€", "😀", "\u{301}", "\u{10ffff}", "\u{7f}"]).into(),
             6 => self.random.of(&["\n", "\t", "\r", "\0", "/", "*", "#", "^", "{", "//"]).into(),
+            // Characters that print bare, and those around them.
+            7 => {
+                char::from_u32(0xa0 + self.random.below(0x1b1) as u32).expect("a character").into()
+            }
+            8 => format!("\\u{{{:x}}}", 0xa0 + self.random.below(0x1b1)),
             _ => {
                 let byte = 32 + self.random.below(95) as u8;
                 match byte as char {

@@ -141,6 +141,9 @@ pub fn read(text: impl AsRef<[u8]>, level: Level) -> Result<Grammar, Refusal> {
 
 /// Prints a grammar, a rule to a line, every bracket shown.
 ///
+/// In strings and ranges the characters of U+00A1 to U+024F but U+00AD stand as they are; all others beyond ASCII are
+/// escaped.
+///
 /// What was read always prints: a theorem, `read-prints` of promises/proofs/Again. A grammar of rules that were made by
 /// hand may be refused: by 20 if it is too large, by 21 or 22 if a name or a tag in it is no word, or a name begins with
 /// PUSH.
@@ -154,6 +157,8 @@ pub fn read(text: impl AsRef<[u8]>, level: Level) -> Result<Grammar, Refusal> {
 /// assert_eq!(print(&Grammar::from(vec![rule("a")])).unwrap(), "a = { \"x\" }\n");
 /// let refusal = print(&Grammar::from(vec![rule("a"), rule("no word")])).unwrap_err();
 /// assert_eq!((refusal.reason, refusal.place), (Reason::Rule, 1));
+/// let text = "size = { \"µm\\u{ad}€\" }".parse::<Grammar>().unwrap().to_string();
+/// assert_eq!(text, "size = { \"µm\\u{ad}\\u{20ac}\" }\n");
 /// ```
 pub fn print(grammar: &Grammar) -> Result<String, Refusal> {
     printed_by(raw::print, grammar)
@@ -196,7 +201,8 @@ fn printed_by(printer: RawPrinter, grammar: &Grammar) -> Result<String, Refusal>
         }
         judged(number, place)?;
         out.truncate(printed as usize);
-        return Ok(String::from_utf8(out).expect("a printed text is ASCII"));
+        // A theorem, `printed-utf8` of docs/PROMISES.md.
+        return Ok(String::from_utf8(out).expect("a printed text is UTF-8"));
     }
 }
 

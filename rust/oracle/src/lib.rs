@@ -200,11 +200,6 @@ pub fn unescape(text: &str) -> Option<String> {
     pest_meta_tagged::parser::unescaped(text)
 }
 
-/// ast.rs `fmt_literal`.
-pub fn fmt_literal(text: &str, quote: char) -> String {
-    pest_meta_tagged::literal(text, quote)
-}
-
 /// Rules as ast.rs has them, made from tables that are known to be good.
 pub struct Printable(Vec<(String, ast::RuleType, ast::Expr)>);
 

@@ -77,7 +77,8 @@ fn is_name(store: &[u8], offset: u32, length: u32) -> bool {
 
 /// 20, 21 and 22.
 pub fn check(nodes: &[u32], rules: &[u32], store: &[u8]) -> Result<(), Refusal> {
-    let whole = nodes.len() % RECORD == 0 && rules.len() % RECORD == 0;
+    let is_whole = |numbers: &[u32]| numbers.chunks_exact(RECORD).remainder().is_empty();
+    let whole = is_whole(nodes) && is_whole(rules);
     let (node_count, rule_count) = (nodes.len() / RECORD, rules.len() / RECORD);
     if !whole || node_count > NODES || rule_count > RULES || store.len() > BYTES {
         return refuse(20, 0);
@@ -127,6 +128,11 @@ pub fn check(nodes: &[u32], rules: &[u32], store: &[u8]) -> Result<(), Refusal> 
     Ok(())
 }
 
+/// Whether a character that is neither a quote in use nor `\` prints as it is.
+fn is_bare(character: char) -> bool {
+    matches!(character, ' '..='~' | '\u{a1}'..='\u{24f}') && character != '\u{ad}'
+}
+
 /// What a character prints as, between quotes of one kind.
 fn character(character: char, quote: char, out: &mut Vec<u8>) {
     match character {
@@ -137,7 +143,9 @@ fn character(character: char, quote: char, out: &mut Vec<u8>) {
         _ if character == quote || character == '\\' => {
             out.extend_from_slice(&[b'\\', character as u8]);
         }
-        ' '..='~' => out.push(character as u8),
+        _ if is_bare(character) => {
+            out.extend_from_slice(character.encode_utf8(&mut [0; 4]).as_bytes());
+        }
         _ => {
             const DIGITS: &[u8; 16] = b"0123456789abcdef";
             let number = character as u32;
@@ -160,7 +168,7 @@ fn character_length(character: char, quote: char) -> u64 {
     match character {
         '\0' | '\t' | '\n' | '\r' | '\\' => 2,
         _ if character == quote => 2,
-        ' '..='~' => 1,
+        _ if is_bare(character) => character.len_utf8() as u64,
         _ => u64::from(hex_digits(character as u32)) + 4,
     }
 }

@@ -5,7 +5,7 @@ use text::Sequence;
 ghost use mathlib.Core.Path.{_≡_};
 ghost use Prim.Native.Nat.{_<_};
 ghost use Rattle.text.specs.Splice.{Room, Wrote, spent};
-ghost use Rattle.literal.specs.Literals.{hexCount, bareByte, showOf, shown, inside, literal, quoteByte};
+ghost use Rattle.literal.specs.Literals.{hexCount, bare, bareByte, showOf, shown, inside, literal, quoteByte};
 
 pub fn quote_byte(q: Quote) -> u8
     ensures { λ r. ⌜ r ≡ quoteByte q ⌝ }
@@ -29,6 +29,25 @@ fn hex_count(c: u32) -> usize
     n as usize
 }
 
+// Whether a character prints bare. ASCII is told first, by as many tests as ASCII alone would take.
+fn prints_bare(c: u32) -> bool
+    ensures { λ r. ⌜ r ≡ bare c ⌝ }
+{
+    if c < 0x20 {
+        return false;
+    }
+    if c < 0x7f {
+        return true;
+    }
+    if c < 0xa1 {
+        return false;
+    }
+    if 0x24f < c {
+        return false;
+    }
+    c != 0xad
+}
+
 fn show_of(q: u8, c: u32) -> Show
     ensures { λ r. ⌜ r ≡ showOf q c ⌝ }
 {
@@ -42,13 +61,10 @@ fn show_of(q: u8, c: u32) -> Show
         10 => Show::Pair(110),
         13 => Show::Pair(114),
         _ => {
-            if c < 0x20 {
-                return Show::Hex;
+            if prints_bare(c) {
+                return Show::Bare;
             }
-            if 0x7e < c {
-                return Show::Hex;
-            }
-            Show::Bare
+            Show::Hex
         }
     }
 }

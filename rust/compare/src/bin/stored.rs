@@ -34,7 +34,9 @@ use std::io::{BufWriter, Write};
 
 use compare::lines::{self, Liner, Maker};
 use compare::printing::Style;
-use compare::{argument, hex, on_stack, quiet_panics, second_reads, tables, texts, Random};
+use compare::{
+    argument, characters, hex, on_stack, quiet_panics, second_reads, tables, texts, Random,
+};
 use oracle::{Answer, Tables};
 use second::arrive::{self, Arrival};
 use second::matching::{match_line, match_lines, record, Record};
@@ -376,10 +378,25 @@ fn short(stored: &mut Stored, seed: u64, scale: usize) {
     }
     let mut grower = tables::Grower::new(Random(seed ^ 6));
     for i in 0..2 * scale {
-        grower.wide = i % 3 == 0;
+        grower.characters = tables::Characters::EACH[i % 3];
         let made = grower.grow(i % 4, 1 + i % 11);
         stored.tables(Style::Short, &made, random.of(&[0, 0, 9, -1]));
         stored.tables(Style::Short, &tables::falsified(&mut random, &made), 0);
+    }
+}
+
+/// Every character around those that print bare, and some others: many in a literal, each kind by
+/// turns, and as ends of ranges.
+fn bare(stored: &mut Stored) {
+    let above = ['\u{2ff}', '\u{300}', '\u{7ff}', '\u{800}', '\u{ffff}', '\u{10000}', '\u{10ffff}'];
+    let all: Vec<char> = ('\u{7e}'..='\u{260}').chain(above).collect();
+    for (some, kind) in all.chunks(40).zip([1, 2, 18].into_iter().cycle()) {
+        let literal = characters::literal(kind, &some.iter().collect::<String>());
+        for style in Style::BOTH {
+            stored.tables(style, &literal, 0);
+            stored.tables(style, &literal, -1);
+            stored.tables(style, &characters::ranges(some), 0);
+        }
     }
 }
 
@@ -481,7 +498,7 @@ fn write(folder: &str, seed: u64, scale: usize) {
     }
     let mut grower = tables::Grower::new(Random(seed ^ 2));
     for i in 0..6 * scale {
-        grower.wide = i % 3 == 0;
+        grower.characters = tables::Characters::EACH[i % 3];
         let made = grower.grow(i % 4, 1 + i % 12);
         let more = random.of(&[0, 0, 1, 9, -1, -5]);
         stored.tables(Style::Full, &made, more);
@@ -497,6 +514,7 @@ fn write(folder: &str, seed: u64, scale: usize) {
     short(&mut stored, seed, scale);
     broken(&mut stored, seed, scale);
     arriving(&mut stored, seed, scale);
+    bare(&mut stored);
     stored.end();
     println!("seed {seed}");
     for (class, count) in &stored.counts {

@@ -12,7 +12,7 @@ fn written(c: char, quote: char) -> String {
         '\t' => "\\t".to_owned(),
         '\n' => "\\n".to_owned(),
         '\r' => "\\r".to_owned(),
-        ' '..='~' => c.to_string(),
+        ' '..='~' | '\u{a1}'..='\u{ac}' | '\u{ae}'..='\u{24f}' => c.to_string(),
         _ => format!("\\u{{{:02x}}}", u32::from(c)),
     }
 }
@@ -35,7 +35,7 @@ fn shown(leaf: Expr, name: &str) -> [String; 3] {
 fn every_character() {
     let above = [0x7ff, 0x800, 0x2028, 0xd7ff, 0xe000, 0xfeff, 0xffff, 0x10000, 0x1f600, 0x10ffff];
     let mut seen = 0;
-    for c in (0..0x250).chain(above).filter_map(char::from_u32) {
+    for c in (0..0x300).chain(above).filter_map(char::from_u32) {
         let string = format!("\"{}\"", written(c, '"'));
         for (leaf, name, sign) in [(Expr::Str(c.to_string()), "Str", ""), (Expr::Insens(c.to_string()), "Insens", "^")]
         {
@@ -55,14 +55,14 @@ fn every_character() {
         );
         seen += 1;
     }
-    assert_eq!(seen, 0x250 + above.len());
+    assert_eq!(seen, 0x300 + above.len());
 }
 
 #[test]
 fn strings_of_any_length() {
     for length in [0, 1, 2, 8191, 16384, 16385, 30000] {
         let text = "é\u{1}\"\u{10000}".repeat(length);
-        let literal = format!("Str(\"{}\")", "\\u{e9}\\u{01}\\\"\\u{10000}".repeat(length));
+        let literal = format!("Str(\"{}\")", "é\\u{01}\\\"\\u{10000}".repeat(length));
         assert!(format!("{:?}", Expr::Str(text)) == literal, "{length} times");
     }
 }

@@ -44,7 +44,7 @@ fn pictures_with_lines() {
     let picture = "\
 a  0..1  1:1
 └─ Seq  8..17  2:2
-   ├─ Str \"\\u{e9}\"  8..12  2:2
+   ├─ Str \"é\"  8..12  2:2
    └─ Opt  15..17  2:8
       └─ Ident b  15..16  2:8
 ";
@@ -100,6 +100,6 @@ fn names_that_are_no_words() {
     assert_eq!(picture, "\"no word\" _  0..0\n└─ NodeTag #\"\"  0..0\n   └─ Ident \"b\\nc\"  0..0\n");
     let drawn = |name| format!("{:#?}", ident(name));
     let names = ["PUSHED", "_1a", "1a", "", "a-b", "ä"];
-    let shown = ["Ident PUSHED", "Ident _1a", "Ident \"1a\"", "Ident \"\"", "Ident \"a-b\"", "Ident \"\\u{e4}\""];
+    let shown = ["Ident PUSHED", "Ident _1a", "Ident \"1a\"", "Ident \"\"", "Ident \"a-b\"", "Ident \"ä\""];
     assert_eq!(names.map(drawn), shown);
 }

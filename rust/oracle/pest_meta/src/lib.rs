@@ -15,17 +15,6 @@ mod validator {
     }
 }
 
-/// `fmt_literal`, for callers outside.
-pub fn literal(string: &str, quote: char) -> String {
-    struct Literal<'a>(&'a str, char);
-    impl core::fmt::Display for Literal<'_> {
-        fn fmt(&self, f: &mut core::fmt::Formatter<'_>) -> core::fmt::Result {
-            ast::fmt_literal(f, self.0, self.1)
-        }
-    }
-    Literal(string, quote).to_string()
-}
-
 /// `print_rule`, which ast.rs compiles for its tests alone, word for word.
 pub fn print_rule(name: &str, ty: ast::RuleType, expr: impl core::fmt::Display) -> String {
     use ast::RuleType;
