@@ -129,14 +129,19 @@ fn spend_inside(s: &[u8], q: u8, room: usize) -> usize
     let mut left = room;
     let mut i = 0;
     while i < s.len() {
-        let sequence = text::char_at(s, i);
-        match sequence {
-            Sequence::Is(c, n) => {
-                left = spend_shown(left, q, c);
-                i += n;
-            }
-            Sequence::Broken => {
-                i += 1;
+        if is_bare(q, s[i]) {
+            left = text::inner::splice::spend(left, 1);
+            i += 1;
+        } else {
+            let sequence = text::char_at(s, i);
+            match sequence {
+                Sequence::Is(c, n) => {
+                    left = spend_shown(left, q, c);
+                    i += n;
+                }
+                Sequence::Broken => {
+                    i += 1;
+                }
             }
         }
     }
