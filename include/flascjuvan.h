@@ -246,6 +246,9 @@ void flascjuvan_read(const uint8_t *text, size_t text_len, uint32_t tagged,
  *
  * Read again, a chain that was grouped to the right comes back grouped to the left: a ~ (b ~ c) prints as (a ~ b ~ c).
  *
+ * The text is UTF-8. In strings and ranges the characters of U+00A1 to U+024F but U+00AD stand as they are; all others
+ * beyond ASCII are escaped.
+ *
  * answer: number, place, bytes printed. */
 void flascjuvan_print(const uint32_t *nodes, size_t nodes_len,
                       const uint32_t *rules, size_t rules_len,
