@@ -108,11 +108,9 @@ enum flascjuvan_answer {
 /* Numbers in the record of a line. */
 #define FLASCJUVAN_LINE_RECORD 5
 
-/* Numbers in a node record and in a rule record. FLASCJUVAN_RECORD is the older name of both, and right only while they
- * are equal. */
-#define FLASCJUVAN_NODE_RECORD 6
+/* Numbers in a node record and in a rule record. */
+#define FLASCJUVAN_NODE_RECORD 7
 #define FLASCJUVAN_RULE_RECORD 6
-#define FLASCJUVAN_RECORD 6
 
 /* The most that is ever used: numbers of nodes, numbers of rules, bytes of a text or a printed store. Buffers of these
  * sizes are always enough to read into. A text of n bytes never uses more than n nodes, n rules and n store bytes. */
@@ -124,14 +122,16 @@ enum flascjuvan_answer {
 #define FLASCJUVAN_LIST (FLASCJUVAN_TEXT * FLASCJUVAN_TOKEN_RECORD)
 
 /* Where the numbers of a node record stand. Start and end are the bytes of the text that the node spans; the end is the
- * byte after the last. */
+ * byte after the last. Line is one plus the LF bytes before the start, wherever they stand; CR counts nothing. It is 0
+ * where a table did not come from flascjuvan_read, and no function looks at it. */
 enum flascjuvan_node_field {
     FLASCJUVAN_FIELD_KIND = 0, /* a number of enum flascjuvan_node */
     FLASCJUVAN_FIELD_START = 1,
     FLASCJUVAN_FIELD_END = 2,
     FLASCJUVAN_FIELD_P = 3,
     FLASCJUVAN_FIELD_Q = 4,
-    FLASCJUVAN_FIELD_R = 5
+    FLASCJUVAN_FIELD_R = 5,
+    FLASCJUVAN_FIELD_LINE = 6
 };
 
 /* Kinds of nodes, with an example of each, and what p, q and r are; those that aren't named are 0.
@@ -223,7 +223,7 @@ enum flascjuvan_token {
 #endif
 #ifdef FLASCJUVAN_ASSERT
 FLASCJUVAN_ASSERT(sizeof(size_t) == sizeof(uint64_t), "flascjuvan needs a machine with 64-bit sizes");
-FLASCJUVAN_ASSERT(FLASCJUVAN_FIELD_R + 1 == FLASCJUVAN_NODE_RECORD, "a node record has six numbers");
+FLASCJUVAN_ASSERT(FLASCJUVAN_FIELD_LINE + 1 == FLASCJUVAN_NODE_RECORD, "a node record has seven numbers");
 FLASCJUVAN_ASSERT(FLASCJUVAN_RULE_END + 1 == FLASCJUVAN_RULE_RECORD, "a rule record has six numbers");
 FLASCJUVAN_ASSERT(FLASCJUVAN_MATCH_STEPS + 1 == FLASCJUVAN_LINE_RECORD, "a line's record has five numbers");
 #undef FLASCJUVAN_ASSERT
@@ -232,7 +232,8 @@ FLASCJUVAN_ASSERT(FLASCJUVAN_MATCH_STEPS + 1 == FLASCJUVAN_LINE_RECORD, "a line'
 /* Reads a text into tables.
  *
  * tagged: 0 reads plain (tags are dropped, PUSH_LITERAL is 13); every other value reads tagged (tags are kept).
- * answer: number, place, nodes, rules, store bytes. Nodes and rules are counted in records of six numbers.
+ * answer: number, place, nodes, rules, store bytes. Nodes are counted in records of seven numbers, rules in records of
+ * six.
  *
  * The store holds names, tags and strings in the order of the text. */
 void flascjuvan_read(const uint8_t *text, size_t text_len, uint32_t tagged,

@@ -14,7 +14,7 @@
 
 #include <flascjuvan.h>
 
-#define NODE(kind, p, q, r) kind, 0, 0, p, q, r
+#define NODE(kind, p, q, r) kind, 0, 0, p, q, r, 0
 #define RULE(name, length, root) name, length, 0, root, 0, 0
 #define UNTOUCHED 7
 #define LENGTH(numbers) (sizeof(numbers) / sizeof *(numbers))
@@ -223,6 +223,12 @@ static const uint32_t good_rules[] = {RULE(0, 1, 1), RULE(1, 1, 2)};
 static const struct tables good = {good_nodes, LENGTH(good_nodes), good_rules, LENGTH(good_rules), "rsab"};
 /* the same, its last record cut short */
 static const struct tables cut = {good_nodes, LENGTH(good_nodes) - 1, good_rules, LENGTH(good_rules), "rsab"};
+/* the same in records of six numbers, as they were before a node had its line */
+static const uint32_t sixes[] = {1, 0, 0, 2, 1, 0, 11, 0, 0, 0, 0, 0, 1, 0, 0, 3, 1, 0};
+static const struct tables of_six = {sixes, LENGTH(sixes), good_rules, LENGTH(good_rules), "rsab"};
+/* the same with lines, which nothing looks at */
+static const uint32_t lined_nodes[] = {1, 0, 0, 2, 1, 0, 4, 11, 0, 0, 0, 0, 0, UINT32_MAX, 1, 0, 0, 3, 1, 0, 1};
+static const struct tables lined = {lined_nodes, LENGTH(lined_nodes), good_rules, LENGTH(good_rules), "rsab"};
 /* r = { "a"* }  s = { PUSH("b") } */
 static const uint32_t unfit_nodes[] = {NODE(1, 2, 1, 0), NODE(11, 0, 0, 0), NODE(1, 3, 1, 0), NODE(17, 2, 0, 0)};
 static const uint32_t unfit_rules[] = {RULE(0, 1, 1), RULE(1, 1, 3)};
@@ -268,7 +274,9 @@ static void texts(void)
     for (i = 0; i < LENGTH(both); i++) {
         text("two rules", both[i], &good, "r = { \"a\"* }\ns = { \"b\" }\n");
         print("no rule", both[i], &nothing, 0, 0, 0, "");
+        print("lines", both[i], &lined, 40, 0, 0, "r = { \"a\"* }\ns = { \"b\" }\n");
         print("20", both[i], &cut, 40, 20, 0, "");
+        print("20, records of six", both[i], &of_six, 40, 20, 0, "");
         print("21", both[i], &childless, 40, 21, 1, "");
         print("22", both[i], &rootless, 40, 22, 1, "");
         print("20 before 23", both[i], &cut, 0, 20, 0, "");

@@ -13,7 +13,7 @@ use Rattle.table.specs.declared.Join.the-variants.{Seq, Choice}
 use Rattle.table.specs.declared.Node.the-variants.{Two}
 use Rattle.table.specs.Tree.{Span, Tree, below, count, size, stored, placeOf}
 use Rattle.table.specs.Record.{nodeSize}
-use Rattle.table.specs.Flat.{recordOf, flat}
+use Rattle.table.specs.Flat.{noLine, recordOf, flat}
 use Rattle.structure.specs.declared.Level.{Level}
 use Rattle.structure.specs.Answers.{unread}
 use Rattle.structure.specs.Structure.{got, next, join, closed, expr, term, chain, Run}
@@ -101,20 +101,20 @@ unfolding closed join written
 closed-laid none l table store used free tbl st tbl′ chosen left u a z h m e e₁ e₂ q =
     record { holds = q ∙ ap (λ (b : Bool). written tbl u (chosenOf b left u a z)) m ∙ h .holds; keeps = h .keeps }
 closed-laid (some c) l table store used free tbl st tbl′ chosen left u a z h m e e₁ e₂ q =
-    let r : tbl′ ≡ written tbl u (recordOf (spanned (placeOf c .start) (placeOf l .stop)) (Two Choice left (u - 1))) =
-    q ∙ ap (λ (b : Bool). written tbl u (chosenOf b left u a z)) (m .0) ∙ ap (λ (k : ℕ). written tbl u (recordOf (spanned k z) (Two Choice left (u - 1)))) e₁
-    ∙ ap (λ (k : ℕ). written tbl u (recordOf (spanned (placeOf c .start) k) (Two Choice left (u - 1)))) e₂ in
+    let r : tbl′ ≡ written tbl u (recordOf noLine (spanned (placeOf c .start) (placeOf l .stop)) (Two Choice left (u - 1))) =
+    q ∙ ap (λ (b : Bool). written tbl u (chosenOf b left u a z)) (m .0) ∙ ap (λ (k : ℕ). written tbl u (recordOf noLine (spanned k z) (Two Choice left (u - 1)))) e₁
+    ∙ ap (λ (k : ℕ). written tbl u (recordOf noLine (spanned (placeOf c .start) k) (Two Choice left (u - 1)))) e₂ in
     two-laid table store used free c l (h .table₁) (h .store₁) tbl st tbl′ (spanned (placeOf c .start) (placeOf l .stop)) Choice (used + count c) (free + size c) u left (u - 1) (h .first)
     refl refl (h .second) (omega arith) (m .1) (omega arith) r
 
 -- a `~` joins the last sequence to the next term
 pub seq-held : (c : Option (Tree Span)) (l r : Tree Span) (table store : List ℕ) (used free : ℕ) (tbl st tbl₁ st₁ tbl₂ : List ℕ) (u f g b z : ℕ) → Held c l table store used free tbl st
     → u ≡ used + heldCount c + count l → f ≡ free + heldBytes c + size l → Laid r tbl st u f tbl₁ st₁ → g ≡ u + count r → b ≡ placeOf l .start → z ≡ placeOf r .stop
-    → tbl₂ ≡ written tbl₁ g (recordOf (spanned b z) (Two Seq (u - 1) (g - 1))) → Held c (join Seq l r) table store used free tbl₂ st₁
+    → tbl₂ ≡ written tbl₁ g (recordOf noLine (spanned b z) (Two Seq (u - 1) (g - 1))) → Held c (join Seq l r) table store used free tbl₂ st₁
 unfolding join
 seq-held none l r table store used free tbl st tbl₁ st₁ tbl₂ u f g b z h e₁ e₂ d e₃ e₄ e₅ q =
     two-laid table store used free l r tbl st tbl₁ st₁ tbl₂ (spanned (placeOf l .start) (placeOf r .stop)) Seq u f g (u - 1) (g - 1) h (omega arith) (omega arith) d e₃ (omega arith) (omega arith)
-    (q ∙ ap (λ (k : ℕ). written tbl₁ g (recordOf (spanned k z) (Two Seq (u - 1) (g - 1)))) e₄ ∙ ap (λ (k : ℕ). written tbl₁ g (recordOf (spanned (placeOf l .start) k) (Two Seq (u - 1) (g - 1)))) e₅)
+    (q ∙ ap (λ (k : ℕ). written tbl₁ g (recordOf noLine (spanned k z) (Two Seq (u - 1) (g - 1)))) e₄ ∙ ap (λ (k : ℕ). written tbl₁ g (recordOf noLine (spanned (placeOf l .start) k) (Two Seq (u - 1) (g - 1)))) e₅)
 seq-held (some c) l r table store used free tbl st tbl₁ st₁ tbl₂ u f g b z h e₁ e₂ d e₃ e₄ e₅ q =
     record {
       table₁ = h .table₁;
@@ -122,7 +122,7 @@ seq-held (some c) l r table store used free tbl st tbl₁ st₁ tbl₂ u f g b z
       first = h .first;
       second = two-laid (h .table₁) (h .store₁) (used + count c) (free + size c) l r tbl st tbl₁ st₁ tbl₂ (spanned (placeOf l .start) (placeOf r .stop)) Seq u f g (u - 1) (g - 1) (h .second)
           e₁ e₂ d e₃ (omega arith) (omega arith)
-          (q ∙ ap (λ (k : ℕ). written tbl₁ g (recordOf (spanned k z) (Two Seq (u - 1) (g - 1)))) e₄ ∙ ap (λ (k : ℕ). written tbl₁ g (recordOf (spanned (placeOf l .start) k) (Two Seq (u - 1) (g - 1)))) e₅);
+          (q ∙ ap (λ (k : ℕ). written tbl₁ g (recordOf noLine (spanned k z) (Two Seq (u - 1) (g - 1)))) e₄ ∙ ap (λ (k : ℕ). written tbl₁ g (recordOf noLine (spanned (placeOf l .start) k) (Two Seq (u - 1) (g - 1)))) e₅);
     }
 
 -- a `|` closes the choice and begins a sequence
@@ -134,7 +134,7 @@ bar-held t r table store used free tbl st tbl₁ st₁ u f h e₁ e₂ d =
       store₁ = st;
       first = h;
       second = record {
-        holds = d .holds ∙ ap (λ (k : ℕ). written tbl k (flat k f r)) e₁ ∙ ap (λ (k : ℕ). written tbl (used + count t) (flat (used + count t) k r)) e₂;
+        holds = d .holds ∙ ap (λ (k : ℕ). written tbl k (flat noLine k f r)) e₁ ∙ ap (λ (k : ℕ). written tbl (used + count t) (flat noLine (used + count t) k r)) e₂;
         keeps = d .keeps ∙ ap (λ (k : ℕ). sets st k (stored r)) e₂;
       };
     }
@@ -372,7 +372,7 @@ module _ {level : Level} {s : List ℕ} {o at used free : ℕ} {table store : Li
           let m = d .used-is in
           (record { room = omega arith; from = v .short .1; to = d .short .1; few = omega arith; after = omega arith }, omega arith)
 
-      pub seq-more : {tbl₂ : List ℕ} → tbl₂ ≡ written tbl₁ (r .used) (recordOf (spanned b (r .to)) (Two Seq (u - 1) (r .used - 1)))
+      pub seq-more : {tbl₂ : List ℕ} → tbl₂ ≡ written tbl₁ (r .used) (recordOf noLine (spanned b (r .to)) (Two Seq (u - 1) (r .used - 1)))
           → (i < r .next) × BuildInv level s o at used free table store (r .next) (r .used + 1) (r .free) a b (r .to) chosen left tbl₂ st₁
       unfolding join below
       seq-more {tbl₂} q =

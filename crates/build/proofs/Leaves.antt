@@ -17,7 +17,7 @@ use Rattle.table.specs.declared.Leaf.the-variants.{Text, Range, PeekSlice}
 use Rattle.table.specs.declared.Node.the-variants.{Tip}
 use Rattle.table.specs.Tree.{Span, Atom, text, range, peekSlice, atomStored, leaf, below, count, size, stored}
 use Rattle.table.specs.Record.{nodeSize}
-use Rattle.table.specs.Flat.{recordOf}
+use Rattle.table.specs.Flat.{noLine, recordOf}
 use Rattle.table.specs.Flat as Flat
 use Rattle.text.specs.Booleans.{choose, and}
 use Rattle.text.proofs.Booleans.{choose-false, choose-true, split}
@@ -59,7 +59,7 @@ module _ (table store : List ℕ) (used free : ℕ) where
 
   pub leaf-built : {m : Parsed} (p : Span) (a : Atom) (r : Placed) (tbl st : List ℕ) → m ≡ got (leaf p a) (r .next) → r .used ≡ used + 1
       → r .free ≡ free + length (atomStored a) → r .from ≡ p .start → r .to ≡ p .stop → (p .start ≤ most) × (p .stop ≤ most)
-      → tbl ≡ written table used (recordOf (spanned (r .from) (r .to)) (Tip (Flat.leafAt free a))) → st ≡ sets store free (atomStored a)
+      → tbl ≡ written table used (recordOf noLine (spanned (r .from) (r .to)) (Tip (Flat.leafAt free a))) → st ≡ sets store free (atomStored a)
       → Built m table store used free r tbl st
   unfolding below stored
   leaf-built p a r tbl st e e₁ e₂ e₃ e₄ b q₁ q₂ =
@@ -73,7 +73,7 @@ module _ (table store : List ℕ) (used free : ℕ) where
         to-is = e₄;
         short = (omega arith, omega arith);
         laid = leaf-laid table store used free p a tbl st
-            (q₁ ∙ ap (λ (k : ℕ). written table used (recordOf (spanned k (r .to)) x)) e₃ ∙ ap (λ (k : ℕ). written table used (recordOf (spanned (p .start) k) x)) e₄) q₂;
+            (q₁ ∙ ap (λ (k : ℕ). written table used (recordOf noLine (spanned k (r .to)) x)) e₃ ∙ ap (λ (k : ℕ). written table used (recordOf noLine (spanned (p .start) k) x)) e₄) q₂;
       }
 
 -- ---- a word
@@ -101,7 +101,7 @@ module _ (s table store : List ℕ) (at used free : ℕ) (short : length s ≤ m
       let l = w .low in
       record { room = r; from = omega arith; to = omega arith; first = omega arith; second = omega arith; third = omega arith }
 
-  pub word-built : (k : ℕ) (tbl st : List ℕ) → Wrote store free (between s a z) st k → tbl ≡ written table used (recordOf (spanned a z) (Tip (Text Ident free (z - a))))
+  pub word-built : (k : ℕ) (tbl st : List ℕ) → Wrote store free (between s a z) st k → tbl ≡ written table used (recordOf noLine (spanned a z) (Tip (Text Ident free (z - a))))
       → Built (got (leaf (across s at at) (text Ident (word s at))) (at + 1)) table store used free (record { next = at + 1; used = used + 1; free = k; from = a; to = z }) tbl st
   word-built k tbl st w q =
       let p = word-inside in
@@ -109,7 +109,7 @@ module _ (s table store : List ℕ) (at used free : ℕ) (short : length s ≤ m
       let l : z - a ≡ length (word s at) = sym (part-length s a z (p .1)) ∙ n in
       leaf-built table store used free (across s at at) (text Ident (word s at)) (record { next = at + 1; used = used + 1; free = k; from = a; to = z }) tbl st refl refl
       (w .next ∙ ap (λ (j : ℕ). free + j) n) e₁ e₂ (omega arith, omega arith)
-      (q ∙ ap (λ (j : ℕ). written table used (recordOf (spanned a z) (Tip (Text Ident free j)))) l)
+      (q ∙ ap (λ (j : ℕ). written table used (recordOf noLine (spanned a z) (Tip (Text Ident free j)))) l)
       (w .now ∙ ap (sets store free) (word-is s at a z e₁ e₂))
 
 -- ---- a string, of any sort
@@ -155,7 +155,7 @@ module _ (s table store : List ℕ) (at next used free : ℕ) (sort : Sort) (sho
     pub string-few : used < most
     string-few = string-leaf .few
 
-    pub string-built : (tbl : List ℕ) → tbl ≡ written table used (recordOf (spanned a z) (Tip (Text sort free (end′ - free))))
+    pub string-built : (tbl : List ℕ) → tbl ≡ written table used (recordOf noLine (spanned a z) (Tip (Text sort free (end′ - free))))
         → Built (got (leaf (across s at at) (text sort (string s at))) next) table store used free (record { next = next; used = used + 1; free = end′; from = a; to = z }) tbl st
     string-built tbl q =
         let p = string-inside in
@@ -163,7 +163,7 @@ module _ (s table store : List ℕ) (at next used free : ℕ) (sort : Sort) (sho
         let l : end′ - free ≡ length (string s at) = omega arith in
         leaf-built table store used free (across s at at) (text sort (string s at)) (record { next = next; used = used + 1; free = end′; from = a; to = z }) tbl st refl refl
         e e₁ e₂ (omega arith, omega arith)
-        (q ∙ ap (λ (j : ℕ). written table used (recordOf (spanned a z) (Tip (Text sort free j)))) l)
+        (q ∙ ap (λ (j : ℕ). written table used (recordOf noLine (spanned a z) (Tip (Text sort free j)))) l)
         (w .now ∙ ap (sets store free) string-is)
 
 -- ---- the same reading by another name
@@ -199,24 +199,24 @@ module _ (s table : List ℕ) (used free : ℕ) (short : length s ≤ maxText) (
       record { room = k; from = omega arith; to = omega arith; first = b₁; second = b₂; third = b₃ }
 
   pub range-built : (store : List ℕ) {m : Parsed} (x y n c d : ℕ) → m ≡ got (leaf (across s i j) (range x y)) n → c ≡ x → d ≡ y
-      → (tbl : List ℕ) → tbl ≡ written table used (recordOf (spanned a z) (Tip (Range c d)))
+      → (tbl : List ℕ) → tbl ≡ written table used (recordOf noLine (spanned a z) (Tip (Range c d)))
       → Built m table store used free (record { next = n; used = used + 1; free = free; from = a; to = z }) tbl store
   range-built store x y n c d e q₁ q₂ tbl q =
       leaf-built table store used free (across s i j) (range x y) (record { next = n; used = used + 1; free = free; from = a; to = z }) tbl store e refl (omega arith) e₁ e₂ bare-low
-      (q ∙ ap (λ (k : ℕ). written table used (recordOf (spanned a z) (Tip (Range k d)))) q₁ ∙ ap (λ (k : ℕ). written table used (recordOf (spanned a z) (Tip (Range x k)))) q₂) refl
+      (q ∙ ap (λ (k : ℕ). written table used (recordOf noLine (spanned a z) (Tip (Range k d)))) q₁ ∙ ap (λ (k : ℕ). written table used (recordOf noLine (spanned a z) (Tip (Range x k)))) q₂) refl
 
   pub slice-built : (store : List ℕ) {m : Parsed} (x n : ℕ) → m ≡ got (leaf (across s i j) (peekSlice x Open)) n
-      → (tbl : List ℕ) → tbl ≡ written table used (recordOf (spanned a z) (Tip (PeekSlice x Open)))
+      → (tbl : List ℕ) → tbl ≡ written table used (recordOf noLine (spanned a z) (Tip (PeekSlice x Open)))
       → Built m table store used free (record { next = n; used = used + 1; free = free; from = a; to = z }) tbl store
   slice-built store x n e tbl q =
       leaf-built table store used free (across s i j) (peekSlice x Open) (record { next = n; used = used + 1; free = free; from = a; to = z }) tbl store e refl (omega arith) e₁ e₂ bare-low q refl
 
   pub slice-to-built : (store : List ℕ) {m : Parsed} (x y n d : ℕ) → m ≡ got (leaf (across s i j) (peekSlice x (At y))) n → d ≡ y
-      → (tbl : List ℕ) → tbl ≡ written table used (recordOf (spanned a z) (Tip (PeekSlice x (At d))))
+      → (tbl : List ℕ) → tbl ≡ written table used (recordOf noLine (spanned a z) (Tip (PeekSlice x (At d))))
       → Built m table store used free (record { next = n; used = used + 1; free = free; from = a; to = z }) tbl store
   slice-to-built store x y n d e q₂ tbl q =
       leaf-built table store used free (across s i j) (peekSlice x (At y)) (record { next = n; used = used + 1; free = free; from = a; to = z }) tbl store e refl (omega arith) e₁ e₂ bare-low
-      (q ∙ ap (λ (k : ℕ). written table used (recordOf (spanned a z) (Tip (PeekSlice x (At k))))) q₂) refl
+      (q ∙ ap (λ (k : ℕ). written table used (recordOf noLine (spanned a z) (Tip (PeekSlice x (At k))))) q₂) refl
 
 -- ---- what stands where something was read
 

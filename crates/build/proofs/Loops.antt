@@ -16,7 +16,7 @@ use Rattle.table.specs.declared.Node.the-variants.{One, Two}
 use Rattle.table.specs.declared.Join.the-variants.{Choice}
 use Rattle.table.specs.Tree.{Span, plain, Tree, one, below, count, stored, placeOf}
 use Rattle.table.specs.Record.{nodeSize}
-use Rattle.table.specs.Flat.{recordOf, flat}
+use Rattle.table.specs.Flat.{noLine, recordOf, flat}
 use Rattle.structure.specs.declared.Level.{Level}
 use Rattle.structure.specs.Answers.{signOf, predicates}
 use Rattle.structure.specs.Structure.{got, prefixed, postfixed, posts, Run, Postfix, post, notPost, noPost, postfixAt, postsBy}
@@ -32,8 +32,8 @@ use Rattle.records.proofs.Patches.{spanned, length-written}
 use Rattle.build.proofs.Lays.{one-laid}
 
 -- a record over a tree's records
-pub one-holds : (o tbl tbl′ : List ℕ) (t : Tree Span) (f free : ℕ) (s : Span) (u : Unary) (g c : ℕ) → tbl ≡ written o f (flat f free t) → g ≡ f + count t → c ≡ f + below t
-    → tbl′ ≡ written tbl g (recordOf s (One (Plain u) c)) → tbl′ ≡ written o f (flat f free (one s (plain u) t))
+pub one-holds : (o tbl tbl′ : List ℕ) (t : Tree Span) (f free : ℕ) (s : Span) (u : Unary) (g c : ℕ) → tbl ≡ written o f (flat noLine f free t) → g ≡ f + count t → c ≡ f + below t
+    → tbl′ ≡ written tbl g (recordOf noLine s (One (Plain u) c)) → tbl′ ≡ written o f (flat noLine f free (one s (plain u) t))
 one-holds o tbl tbl′ t f free s u g c e e₁ e₂ q =
     one-laid o [] f free t tbl (sets [] free (stored t)) tbl′ s u g c (record { holds = e; keeps = refl }) e₁ e₂ q .holds
 
@@ -62,7 +62,7 @@ signs-start s table at last z used g =
       omega arith,
       record {
         long = refl;
-        same = λ o t f free e q h. h ∙ ap (λ (k : ℕ). written o f (flat f free (predicates s last k t))) (sym n);
+        same = λ o t f free e q h. h ∙ ap (λ (k : ℕ). written o f (flat noLine f free (predicates s last k t))) (sym n);
       },
     )
 
@@ -78,7 +78,7 @@ module _ (s table : List ℕ) (at last z used : ℕ) (short : length s ≤ maxTe
       let w = v .2 in
       record { room = omega arith; from = omega arith; to = g .to; few = omega arith; after = (let k = g .after in omega arith) }
 
-  pub signs-more : (a : ℕ) (p : Unary) (tbl′ : List ℕ) → a ≡ start s (i - 1) → p ≡ signOf s (i - 1) → tbl′ ≡ written tbl u (recordOf (spanned a z) (One (Plain p) (u - 1)))
+  pub signs-more : (a : ℕ) (p : Unary) (tbl′ : List ℕ) → a ≡ start s (i - 1) → p ≡ signOf s (i - 1) → tbl′ ≡ written tbl u (recordOf noLine (spanned a z) (One (Plain p) (u - 1)))
       → SignsInv s table at last z used tbl′ (i - 1) (u + 1)
   unfolding predicates prefixed
   signs-more a p tbl′ e₁ e₂ q =
@@ -91,18 +91,18 @@ module _ (s table : List ℕ) (at last z used : ℕ) (short : length s ≤ maxTe
         omega arith,
         omega arith,
         record {
-          long = ap length q ∙ length-written tbl u (recordOf (spanned a z) (One (Plain p) (u - 1))) ∙ v .3 .long;
+          long = ap length q ∙ length-written tbl u (recordOf noLine (spanned a z) (One (Plain p) (u - 1))) ∙ v .3 .long;
           same = λ o t f free e k b.
               let t′ = predicates s i (last - i) t in
               let c = grown-signs s i (last - i) t .counts in
               let d = stop-signs s i (last - i) t in
-              let r : tbl′ ≡ written tbl u (recordOf (spanned (start s (i - 1)) (placeOf t′ .stop)) (One (Plain (signOf s (i - 1))) (u - 1))) =
-              q ∙ ap (λ (j : ℕ). written tbl u (recordOf (spanned j z) (One (Plain p) (u - 1)))) e₁
-              ∙ ap (λ (j : ℕ). written tbl u (recordOf (spanned (start s (i - 1)) j) (One (Plain p) (u - 1)))) (sym k ∙ sym d)
-              ∙ ap (λ (j : Unary). written tbl u (recordOf (spanned (start s (i - 1)) (placeOf t′ .stop)) (One (Plain j) (u - 1)))) e₂ in
+              let r : tbl′ ≡ written tbl u (recordOf noLine (spanned (start s (i - 1)) (placeOf t′ .stop)) (One (Plain (signOf s (i - 1))) (u - 1))) =
+              q ∙ ap (λ (j : ℕ). written tbl u (recordOf noLine (spanned j z) (One (Plain p) (u - 1)))) e₁
+              ∙ ap (λ (j : ℕ). written tbl u (recordOf noLine (spanned (start s (i - 1)) j) (One (Plain p) (u - 1)))) (sym k ∙ sym d)
+              ∙ ap (λ (j : Unary). written tbl u (recordOf noLine (spanned (start s (i - 1)) (placeOf t′ .stop)) (One (Plain j) (u - 1)))) e₂ in
               one-holds o tbl tbl′ t′ f free (spanned (start s (i - 1)) (placeOf t′ .stop)) (signOf s (i - 1)) u (u - 1) (v .3 .same o t f free e k b) (omega arith) (omega arith) r
-              ∙ ap (λ (j : ℕ). written o f (flat f free (one (record { start = start s (i - 1); stop = placeOf (predicates s j (last - i) t) .stop }) (plain (signOf s (i - 1))) (predicates s j (last - i) t)))) (sym m)
-              ∙ ap (λ (j : ℕ). written o f (flat f free (predicates s (i - 1) j t))) n;
+              ∙ ap (λ (j : ℕ). written o f (flat noLine f free (one (record { start = start s (i - 1); stop = placeOf (predicates s j (last - i) t) .stop }) (plain (signOf s (i - 1))) (predicates s j (last - i) t)))) (sym m)
+              ∙ ap (λ (j : ℕ). written o f (flat noLine f free (predicates s (i - 1) j t))) n;
         },
       )
 
@@ -112,7 +112,7 @@ signs-done s table at last z used tbl i u v h =
     let x = v .0 in
     let w = v .2 in
     let e : i ≡ at = omega arith in
-    (omega arith, record { long = v .3 .long; same = λ o t f free p k b. v .3 .same o t f free p k b ∙ ap (λ (j : ℕ). written o f (flat f free (predicates s j (last - j) t))) e })
+    (omega arith, record { long = v .3 .long; same = λ o t f free p k b. v .3 .same o t f free p k b ∙ ap (λ (j : ℕ). written o f (flat noLine f free (predicates s j (last - j) t))) e })
 
 -- ---- a choice
 
@@ -122,7 +122,7 @@ choice-over table chosen left used a z g e =
     let f = g .few in
     (record { room = omega arith; from = g .from; to = g .to; few = omega arith; after = g .after }, g .child)
 
-pub choice-yes : (table table′ : List ℕ) (chosen : Bool) (left used a z : ℕ) → chosen ≡ true → table′ ≡ written table used (recordOf (spanned a z) (Two Choice left (used - 1)))
+pub choice-yes : (table table′ : List ℕ) (chosen : Bool) (left used a z : ℕ) → chosen ≡ true → table′ ≡ written table used (recordOf noLine (spanned a z) (Two Choice left (used - 1)))
     → (used + 1 ≡ chosenEnd chosen used) × (table′ ≡ written table used (chosenOf chosen left used a z))
 choice-yes table table′ chosen left used a z e q =
     (sym (ap (λ (b : Bool). chosenEnd b used) e), q ∙ sym (ap (λ (b : Bool). written table used (chosenOf b left used a z)) e))
@@ -143,7 +143,7 @@ pub record Along (level : Level) (s table : List ℕ) (at used from : ℕ) (t : 
   pub from-is : from ≡ placeOf tree .start
   pub to-is : z ≡ placeOf tree .stop
   pub kept : stored tree ≡ stored t
-  pub holds : (o : List ℕ) (f free : ℕ) → used ≡ f + count t → table ≡ written o f (flat f free t) → tbl ≡ written o f (flat f free tree)
+  pub holds : (o : List ℕ) (f free : ℕ) → used ≡ f + count t → table ≡ written o f (flat noLine f free t) → tbl ≡ written o f (flat noLine f free tree)
 
 pub record PostsInv (s table : List ℕ) (at used from to : ℕ) (tbl : List ℕ) (i u z : ℕ) : Type 0 where
   pub long : length tbl ≡ length table
@@ -218,13 +218,13 @@ module _ (s table : List ℕ) (at used from to : ℕ) (short : length s ≤ maxT
           let b = now .grows in
           record { room = omega arith; from = g .start; to = omega arith; few = omega arith; after = omega arith }
 
-      pub posts-more : (z′ : ℕ) (tbl′ : List ℕ) → z′ ≡ end s (n - 1) → tbl′ ≡ written tbl u (recordOf (spanned from z′) (One (Plain p) (u - 1)))
+      pub posts-more : (z′ : ℕ) (tbl′ : List ℕ) → z′ ≡ end s (n - 1) → tbl′ ≡ written tbl u (recordOf noLine (spanned from z′) (One (Plain p) (u - 1)))
           → PostsInv s table at used from to tbl′ n (u + 1) z′
       unfolding postfixed stored
       posts-more z′ tbl′ k q₁ =
           let l = low s (n - 1) in
           record {
-            long = ap length q₁ ∙ length-written tbl u (recordOf (spanned from z′) (One (Plain p) (u - 1))) ∙ v .long;
+            long = ap length q₁ ∙ length-written tbl u (recordOf noLine (spanned from z′) (One (Plain p) (u - 1))) ∙ v .long;
             stop = omega arith;
             same = λ level t e₁ e₂.
                 let w = v .same level t e₁ e₂ in
@@ -241,8 +241,8 @@ module _ (s table : List ℕ) (at used from to : ℕ) (short : length s ≤ maxT
                   kept = w .kept;
                   holds = λ o f free a b.
                       one-holds o tbl tbl′ x f free (spanned (placeOf x .start) (end s (n - 1))) p u (u - 1) (w .holds o f free a b) (omega arith) (omega arith)
-                      (q₁ ∙ ap (λ (j : ℕ). written tbl u (recordOf (spanned j z′) (One (Plain p) (u - 1)))) (w .from-is)
-                      ∙ ap (λ (j : ℕ). written tbl u (recordOf (spanned (placeOf x .start) j) (One (Plain p) (u - 1)))) k);
+                      (q₁ ∙ ap (λ (j : ℕ). written tbl u (recordOf noLine (spanned j z′) (One (Plain p) (u - 1)))) (w .from-is)
+                      ∙ ap (λ (j : ℕ). written tbl u (recordOf noLine (spanned (placeOf x .start) j) (One (Plain p) (u - 1)))) k);
                 };
           }
 
@@ -266,6 +266,6 @@ module _ (s table : List ℕ) (at used from to : ℕ) (short : length s ≤ maxT
                 from-is = w .from-is ∙ ap (λ (τ : Tree Span). placeOf τ .start) a;
                 to-is = w .to-is ∙ ap (λ (τ : Tree Span). placeOf τ .stop) a;
                 kept = sym (ap (stored {P = Span}) a) ∙ w .kept;
-                holds = λ o f free p₁ p₂. w .holds o f free p₁ p₂ ∙ ap (λ (τ : Tree Span). written o f (flat f free τ)) a;
+                holds = λ o f free p₁ p₂. w .holds o f free p₁ p₂ ∙ ap (λ (τ : Tree Span). written o f (flat noLine f free τ)) a;
               };
         }

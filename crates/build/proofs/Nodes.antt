@@ -18,7 +18,7 @@ use Rattle.table.specs.declared.Op.the-variants.{Plain}
 use Rattle.table.specs.declared.Node.the-variants.{One}
 use Rattle.table.specs.Tree.{Span, plain, Tree, leaf, one, two, count, size, placeOf, placed, endsAt}
 use Rattle.table.specs.Record.{nodeSize}
-use Rattle.table.specs.Flat.{recordOf, flat}
+use Rattle.table.specs.Flat.{noLine, recordOf, flat}
 use Rattle.structure.specs.declared.Level.{Level}
 use Rattle.structure.specs.Answers.{unread}
 use Rattle.structure.specs.Tokens.{spells}
@@ -120,7 +120,7 @@ module _ {level : Level} {s : List ℕ} {o at used free : ℕ} {table store : Li
         to-is = e ∙ sym (ap (λ (k : Span). k .stop) (place-placed q t));
         short = (d .short .0, end-low s (r .next) z (b .short) e);
         laid = record {
-          holds = m .same table t used free (d .used-is) (d .laid .holds) ∙ ap (λ (j : ℕ). written table used (flat used free (endsAt t j))) e;
+          holds = m .same table t used free (d .used-is) (d .laid .holds) ∙ ap (λ (j : ℕ). written table used (flat noLine used free (endsAt t j))) e;
           keeps = d .laid .keeps ∙ ap (sets store free) (sym (stored-placed q t));
         };
       }
@@ -191,7 +191,7 @@ module _ {level : Level} {s : List ℕ} {o at used free : ℕ} {table store : Li
       record { room = omega arith; from = start-low s at a (b .short) e; to = d .short .1; few = omega arith; after = omega arith }
 
   pub push-built : {r : Placed} {tbl st : List ℕ} → Built (Run level s (expr (o + 1) (at + 1 + 1))) table store used free r tbl st → {a : ℕ} → a ≡ start s at
-      → {tbl′ : List ℕ} → tbl′ ≡ written tbl (r .used) (recordOf (spanned a (r .to)) (One (Plain Push) (r .used - 1)))
+      → {tbl′ : List ℕ} → tbl′ ≡ written tbl (r .used) (recordOf noLine (spanned a (r .to)) (One (Plain Push) (r .used - 1)))
       → Built (Run level s (node o at)) table store used free (record { next = r .next + 1; used = r .used + 1; free = r .free; from = a; to = r .to }) tbl′ st
   unfolding prefixed
   push-built {r} {tbl} {st} d {a} e {tbl′} m =
@@ -210,8 +210,8 @@ module _ {level : Level} {s : List ℕ} {o at used free : ℕ} {table store : Li
         to-is = d .to-is;
         short = (start-low s at a (b .short) e, d .short .1);
         laid = one-laid table store used free t tbl st tbl′ (spanned (start s at) (placeOf t .stop)) Push (r .used) (r .used - 1) (d .laid) (d .used-is) (omega arith)
-            (m ∙ ap (λ (k : ℕ). written tbl (r .used) (recordOf (spanned k (r .to)) (One (Plain Push) (r .used - 1)))) e
-            ∙ ap (λ (k : ℕ). written tbl (r .used) (recordOf (spanned (start s at) k) (One (Plain Push) (r .used - 1)))) (d .to-is));
+            (m ∙ ap (λ (k : ℕ). written tbl (r .used) (recordOf noLine (spanned k (r .to)) (One (Plain Push) (r .used - 1)))) e
+            ∙ ap (λ (k : ℕ). written tbl (r .used) (recordOf noLine (spanned (start s at) k) (One (Plain Push) (r .used - 1)))) (d .to-is));
       }
 
 -- ---- a leaf

@@ -13,7 +13,7 @@ use Rattle.text.proofs.Splices.{sets-front}
 use Rattle.text.proofs.Booleans.{split}
 use Rattle.text.specs.Limits.{maxText}
 use Rattle.table.specs.Tree.{Span, Tree, Rule, below, count, counts, size, stored, ruleStored, rulesStored}
-use Rattle.table.specs.Flat.{flat, ruleRecord, nodesFrom, recordsFrom, nodesOf, recordsOf}
+use Rattle.table.specs.Flat.{noLine, flat, ruleRecord, nodesFrom, recordsFrom, nodesOf, recordsOf}
 use Rattle.table.proofs.Flats.{length-flat}
 use Rattle.table.proofs.Rules.{length-rule, length-nodes, length-records}
 use Rattle.structure.specs.declared.Level.{Level}
@@ -137,7 +137,7 @@ module _ (level : Level) (s nodes rows store : List ℕ) (at index used free : �
               read = g .read ∙ ap (λ (y : Rule Span). ruling y (g .end)) rule-is ∙ ap (ruling (made s at (b .tree))) (rule-read level s at (g .read) .next ∙ ap (λ (i : ℕ). i + 1) past-is);
               used-is = b .used-is;
               free-is = omega (arith, b .free-is, length-append (word s at) (stored (b .tree)));
-              table = b .laid .holds ∙ ap (λ (i : ℕ). written nodes used (flat used i (b .tree))) k;
+              table = b .laid .holds ∙ ap (λ (i : ℕ). written nodes used (flat noLine used i (b .tree))) k;
               row = q ∙ rw (n, e₃, u, e₁, e₂);
               texts = sets-on store store₁ store₂ (word s at) (stored (b .tree)) free named (w .now ∙ ap (sets store free) x) (b .laid .keeps) k;
             }
@@ -184,7 +184,7 @@ module _ (level : Level) (s : List ℕ) where
     pub fewer : used + counts left ≡ counts us
     pub bytes : free + length (rulesStored left) ≡ length (rulesStored us)
     pub long : (length nodes ≡ length nodes₀) × (length rows ≡ length rows₀) × (length store ≡ length store₀)
-    pub table : written nodes used (nodesFrom used free left) ≡ written nodes₀ 0 (nodesOf us)
+    pub table : written nodes used (nodesFrom noLine used free left) ≡ written nodes₀ 0 (nodesOf noLine us)
     pub records : ruleWritten rows index (recordsFrom used free left) ≡ ruleWritten rows₀ 0 (recordsOf us)
     pub texts : sets store free (rulesStored left) ≡ sets store₀ 0 (rulesStored us)
 
@@ -215,10 +215,10 @@ module _ (level : Level) (s : List ℕ) where
     unfolding written ruleWritten nodesFrom recordsFrom rulesStored
     rules-done h g =
         let e : v .left ≡ [] = no-rules (v .left) [] (sym (v .rest) ∙ rules-end level s (v .fuel) i h) in
-        let n = length-nodes 0 0 us in
+        let n = length-nodes noLine 0 0 us in
         let m = length-records 0 0 us in
         record {
-          nodes-is = sym (ap (λ (x : List (Rule Span)). written nodes used (nodesFrom used free x)) e) ∙ v .table ∙ sets-front nodes₀ (nodesOf us) (omega (arith, g .room));
+          nodes-is = sym (ap (λ (x : List (Rule Span)). written nodes used (nodesFrom noLine used free x)) e) ∙ v .table ∙ sets-front nodes₀ (nodesOf noLine us) (omega (arith, g .room));
           rules-is = sym (ap (λ (x : List (Rule Span)). ruleWritten rows index (recordsFrom used free x)) e) ∙ v .records ∙ sets-front rows₀ (recordsOf us) (omega (arith, g .rows));
           store-is = sym (ap (λ (x : List (Rule Span)). sets store free (rulesStored x)) e) ∙ v .texts ∙ sets-front store₀ (rulesStored us) (g .fits);
         }
@@ -297,7 +297,7 @@ module _ (level : Level) (s : List ℕ) where
               let v₃ = v .bytes in
               let u₁ = d .used-is in
               let u₂ = d .free-is in
-              let t₁ = flat used (free + length (d .rule .name)) (d .rule .tree) in
+              let t₁ = flat noLine used (free + length (d .rule .name)) (d .rule .tree) in
               let t₂ = ruleRecord free (used + below (d .rule .tree)) (d .rule) in (
                 omega arith,
                 record {
@@ -316,10 +316,10 @@ module _ (level : Level) (s : List ℕ) where
                     ap length (d .texts) ∙ length-sets store free (ruleStored (d .rule)) ∙ v .long .2,
                   );
                   table =
-                      written-on nodes nodes₁ _ used (count (d .rule .tree)) (r .used) t₁ (nodesFrom (r .used) (r .free) (n .later)) (d .table) refl (length-flat used (free + length (d .rule .name)) (d .rule .tree)) u₁
-                      ∙ ap (λ (y : ℕ). written nodes used (t₁ ++ nodesFrom y (r .free) (n .later))) u₁
-                      ∙ ap (λ (y : ℕ). written nodes used (t₁ ++ nodesFrom (used + count (d .rule .tree)) y (n .later))) u₂
-                      ∙ sym (ap (λ (y : List (Rule Span)). written nodes used (nodesFrom used free y)) are) ∙ v .table;
+                      written-on nodes nodes₁ _ used (count (d .rule .tree)) (r .used) t₁ (nodesFrom noLine (r .used) (r .free) (n .later)) (d .table) refl (length-flat noLine used (free + length (d .rule .name)) (d .rule .tree)) u₁
+                      ∙ ap (λ (y : ℕ). written nodes used (t₁ ++ nodesFrom noLine y (r .free) (n .later))) u₁
+                      ∙ ap (λ (y : ℕ). written nodes used (t₁ ++ nodesFrom noLine (used + count (d .rule .tree)) y (n .later))) u₂
+                      ∙ sym (ap (λ (y : List (Rule Span)). written nodes used (nodesFrom noLine used free y)) are) ∙ v .table;
                   records =
                       rule-written-on rows rows₁ _ index 1 (index + 1) t₂ (recordsFrom (r .used) (r .free) (n .later)) (d .row) refl (length-rule free (used + below (d .rule .tree)) (d .rule)) refl
                       ∙ ap (λ (y : ℕ). ruleWritten rows index (t₂ ++ recordsFrom y (r .free) (n .later))) u₁

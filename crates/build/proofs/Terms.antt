@@ -18,7 +18,7 @@ use Rattle.token.proofs.Table.{low, spans}
 use Rattle.table.specs.declared.Op.the-variants.{NodeTag}
 use Rattle.table.specs.declared.Node.the-variants.{One}
 use Rattle.table.specs.Tree.{Span, nodeTag, Tree, stored, placeOf, startsAt}
-use Rattle.table.specs.Flat.{recordOf, flat}
+use Rattle.table.specs.Flat.{noLine, recordOf, flat}
 use Rattle.structure.specs.declared.Level.{Level}
 use Rattle.structure.specs.declared.Level.the-variants as Level
 use Rattle.structure.specs.Answers.{tagNodes}
@@ -79,10 +79,10 @@ opened-yes s table table′ i used x a e h e₁ m =
     let f = sees s i x 6 e h in
     record {
       long = m .long;
-      same = λ o t k at p q. m .same o t k at p q ∙ ap (λ (j : ℕ). written o k (flat k at (startsAt t j))) e₁ ∙ sym (bracket-yes s i t f o k at);
+      same = λ o t k at p q. m .same o t k at p q ∙ ap (λ (j : ℕ). written o k (flat noLine k at (startsAt t j))) e₁ ∙ sym (bracket-yes s i t f o k at);
     }
   where
-    bracket-yes : (s : List ℕ) (i : ℕ) (t : Tree Span) → is s i 6 ≡ true → (o : List ℕ) (k at : ℕ) → written o k (flat k at (bracketed s i t)) ≡ written o k (flat k at (startsAt t (start s i)))
+    bracket-yes : (s : List ℕ) (i : ℕ) (t : Tree Span) → is s i 6 ≡ true → (o : List ℕ) (k at : ℕ) → written o k (flat noLine k at (bracketed s i t)) ≡ written o k (flat noLine k at (startsAt t (start s i)))
     bracket-yes s i t f o k at = rw f
 
 pub opened-no : (s table : List ℕ) (i used x : ℕ) → x ≡ kind s i → (x ≡ 6 → ⊥) → Opened s i used table table
@@ -90,7 +90,7 @@ opened-no s table i used x e h =
     let f = misses s i x 6 e h in
     record { long = refl; same = λ o t k at p q. q ∙ sym (bracket-no s i t f o k at) }
   where
-    bracket-no : (s : List ℕ) (i : ℕ) (t : Tree Span) → is s i 6 ≡ false → (o : List ℕ) (k at : ℕ) → written o k (flat k at (bracketed s i t)) ≡ written o k (flat k at t)
+    bracket-no : (s : List ℕ) (i : ℕ) (t : Tree Span) → is s i 6 ≡ false → (o : List ℕ) (k at : ℕ) → written o k (flat noLine k at (bracketed s i t)) ≡ written o k (flat noLine k at t)
     bracket-no s i t f o k at = rw f
 
 -- ---- where a term starts, its tag aside
@@ -123,7 +123,7 @@ built-as m m′ o store₁ store tbl st used mid free p d e e₁ e₂ =
       to-is = d .to-is;
       short = d .short;
       laid = record {
-        holds = d .laid .holds ∙ ap (λ (k : ℕ). written o used (flat used k t)) e₂;
+        holds = d .laid .holds ∙ ap (λ (k : ℕ). written o used (flat noLine used k t)) e₂;
         keeps = d .laid .keeps ∙ ap (λ (k : ℕ). sets store₁ k (stored t)) e₂ ∙ ap (λ (l : List ℕ). sets l free (stored t)) e₁;
       };
     }
@@ -180,7 +180,7 @@ module _ (s : List ℕ) (at free mid : ℕ) (p : Placed) (table : List ℕ) (x :
           let h₄ = g .low in
           (record { room = omega arith; from = start-low s at a short e₁; to = g .to; few = omega arith; after = g .after }, (omega arith, omega arith), omega arith)
 
-      pub tie-tagged : {level : Level} → level ≡ Level.Tagged → (table′ : List ℕ) → table′ ≡ written table (p .used) (recordOf (spanned a (p .to)) (One (NodeTag free (mid - free)) (p .used - 1)))
+      pub tie-tagged : {level : Level} → level ≡ Level.Tagged → (table′ : List ℕ) → table′ ≡ written table (p .used) (recordOf noLine (spanned a (p .to)) (One (NodeTag free (mid - free)) (p .used - 1)))
           → Tied level s at free mid p table (record { next = p .next; used = p .used + 1; free = p .free; from = a; to = p .to }) table′
       unfolding inTag prefixed
       tie-tagged {level} v table′ q =
@@ -188,7 +188,7 @@ module _ (s : List ℕ) (at free mid : ℕ) (p : Placed) (table : List ℕ) (x :
           let b = label s at in
           let n : tagText level s at ≡ b = choose-true (is s at 19) _ _ f ∙ ap (λ (l : Level). labelled l b) v in
           record {
-            long = ap length q ∙ length-written table (p .used) (recordOf (spanned a (p .to)) (One (NodeTag free (mid - free)) (p .used - 1)));
+            long = ap length q ∙ length-written table (p .used) (recordOf noLine (spanned a (p .to)) (One (NodeTag free (mid - free)) (p .used - 1)));
             same = λ deep used o store store₁ st w g d.
                 let t = d .tree in
                 let k = w .next in
@@ -207,7 +207,7 @@ module _ (s : List ℕ) (at free mid : ℕ) (p : Placed) (table : List ℕ) (x :
                   short = (start-low s at a short e₁, d .short .1);
                   laid = tag-laid o store used free t store₁ table st table′ (spanned (start s at) (placeOf t .stop)) b mid (p .used) (p .used - 1) (mid - free)
                       (w .now ∙ ap (sets store free) n) (omega arith) (d .laid) (d .used-is) (omega arith) (omega arith)
-                      (q ∙ ap (λ (j : ℕ). written table (p .used) (recordOf (spanned j (p .to)) (One (NodeTag free (mid - free)) (p .used - 1)))) e₁
-                      ∙ ap (λ (j : ℕ). written table (p .used) (recordOf (spanned (start s at) j) (One (NodeTag free (mid - free)) (p .used - 1)))) (d .to-is));
+                      (q ∙ ap (λ (j : ℕ). written table (p .used) (recordOf noLine (spanned j (p .to)) (One (NodeTag free (mid - free)) (p .used - 1)))) e₁
+                      ∙ ap (λ (j : ℕ). written table (p .used) (recordOf noLine (spanned (start s at) j) (One (NodeTag free (mid - free)) (p .used - 1)))) (d .to-is));
                 };
           }

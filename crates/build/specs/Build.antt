@@ -12,7 +12,7 @@ use Rattle.literal.specs.Escapes.{badEscape}
 use Rattle.table.specs.Tree.{Span, text, Tree, leaf, count, size, stored, placeOf, startsAt}
 use Rattle.table.specs.Record.{nodeSize}
 use Rattle.records.specs.Records.{written, most}
-use Rattle.table.specs.Flat.{recordOf, flat}
+use Rattle.table.specs.Flat.{noLine, recordOf, flat}
 use Rattle.table.specs.declared.Join.the-variants.{Choice}
 use Rattle.table.specs.declared.Node.the-variants.{Two}
 use Rattle.table.specs.declared.Sort.{Sort}
@@ -44,7 +44,7 @@ pub record TreeRoom (m : Parsed) (table store : List ℕ) (used free : ℕ) : Ty
 
 -- the buffers have a tree's records and texts where they were to be put, and nothing else is new
 pub record Laid (t : Tree Span) (table store : List ℕ) (used free : ℕ) (table′ store′ : List ℕ) : Type 0 where
-  pub holds : table′ ≡ written table used (flat used free t)
+  pub holds : table′ ≡ written table used (flat noLine used free t)
   pub keeps : store′ ≡ sets store free (stored t)
 
 -- the buffers have m's tree; r has the token, the record and the store byte after it, and its span
@@ -82,8 +82,8 @@ pub record SignsRoom (table : List ℕ) (at last z used : ℕ) : Type 0 where
 -- the records of the predicates from one index to another were put over any tree that ends at z
 pub record SignsPut (s : List ℕ) (at last z used : ℕ) (table table′ : List ℕ) : Type 0 where
   pub long : length table′ ≡ length table
-  pub same : (o : List ℕ) (t : Tree Span) (f free : ℕ) → used ≡ f + count t → placeOf t .stop ≡ z → table ≡ written o f (flat f free t)
-      → table′ ≡ written o f (flat f free (predicates s at (last - at) t))
+  pub same : (o : List ℕ) (t : Tree Span) (f free : ℕ) → used ≡ f + count t → placeOf t .stop ≡ z → table ≡ written o f (flat noLine f free t)
+      → table′ ≡ written o f (flat noLine f free (predicates s at (last - at) t))
 
 -- a tree and the postfixes from an index on are read, and there is room for their records
 pub record PostsRoom (s table : List ℕ) (at used from to : ℕ) : Type 0 where
@@ -107,7 +107,7 @@ pub record Trails (t v : Tree Span) (n used from : ℕ) (table : List ℕ) (r : 
   pub from-is : from ≡ placeOf v .start
   pub to-is : r .to ≡ placeOf v .stop
   pub kept : stored v ≡ stored t
-  pub holds : (o : List ℕ) (f free : ℕ) → used ≡ f + count t → table ≡ written o f (flat f free t) → table′ ≡ written o f (flat f free v)
+  pub holds : (o : List ℕ) (f free : ℕ) → used ≡ f + count t → table ≡ written o f (flat noLine f free t) → table′ ≡ written o f (flat noLine f free v)
 
 -- the records of the postfixes from an index on were put over any tree with that span
 pub record PostsPut (s : List ℕ) (at used from to : ℕ) (table : List ℕ) (r : PutPostfixes) (table′ : List ℕ) : Type 0 where
@@ -122,7 +122,7 @@ chosenEnd true f = f + 1
 chosenEnd false f = f
 
 abbrev pub chosenOf : Bool → ℕ → ℕ → ℕ → ℕ → List ℕ
-chosenOf true p f a z = recordOf (record { start = a; stop = z }) (Two Choice p (f - 1))
+chosenOf true p f a z = recordOf noLine (record { start = a; stop = z }) (Two Choice p (f - 1))
 chosenOf false p f a z = []
 
 -- there is room for a choice's record, if one is pending
@@ -153,7 +153,7 @@ bracketed s i t = choose (is s i 6) (λ u. startsAt t (start s i)) (λ u. t)
 -- the last record's start was moved if a bracket opened its node
 pub record Opened (s : List ℕ) (i used : ℕ) (table table′ : List ℕ) : Type 0 where
   pub long : length table′ ≡ length table
-  pub same : (o : List ℕ) (t : Tree Span) (f at : ℕ) → used ≡ f + count t → table ≡ written o f (flat f at t) → table′ ≡ written o f (flat f at (bracketed s i t))
+  pub same : (o : List ℕ) (t : Tree Span) (f at : ℕ) → used ≡ f + count t → table ≡ written o f (flat noLine f at t) → table′ ≡ written o f (flat noLine f at (bracketed s i t))
 
 -- where a term starts, its tag aside: with its predicates, its bracket, or its node
 abbrev pub termStart : List ℕ → ℕ → ℕ → ℕ → ℕ

@@ -7,7 +7,7 @@ use lib.Seq.{sets}
 use Rattle.text.specs.Splice.{fronted}
 use Rattle.table.specs.Tree.{Span, Rule, below, count, counts, ruleStored, rulesStored}
 use Rattle.table.specs.Record.{nodeSize, ruleSize}
-use Rattle.table.specs.Flat.{flat, ruleRecord, nodesOf, recordsOf}
+use Rattle.table.specs.Flat.{noLine, flat, ruleRecord, nodesOf, recordsOf}
 use Rattle.structure.specs.Structure.{Ruling, ruling, Ruled, grammar}
 use Rattle.structure.specs.Structure as Structure
 use Rattle.structure.specs.declared.Level.{Level}
@@ -39,7 +39,7 @@ pub record RuleBuilt (m : Ruling) (nodes rules store : List ℕ) (index used fre
   pub read : m ≡ ruling rule (r .next)
   pub used-is : r .used ≡ used + count (rule .tree)
   pub free-is : r .free ≡ free + length (ruleStored rule)
-  pub table : nodes′ ≡ written nodes used (flat used (free + length (rule .name)) (rule .tree))
+  pub table : nodes′ ≡ written nodes used (flat noLine used (free + length (rule .name)) (rule .tree))
   pub row : rules′ ≡ ruleWritten rules index (ruleRecord free (used + below (rule .tree)) rule)
   pub texts : store′ ≡ sets store free (ruleStored rule)
 
@@ -54,6 +54,6 @@ pub record GrammarRoom (m : Ruled) (us : List (Rule Span)) (nodes rules store : 
 
 -- the buffers have rules at their fronts, and nothing else is new
 pub record RulesBuilt (us : List (Rule Span)) (nodes rules store nodes′ rules′ store′ : List ℕ) : Type 0 where
-  pub nodes-is : nodes′ ≡ fronted (nodesOf us) nodes
+  pub nodes-is : nodes′ ≡ fronted (nodesOf noLine us) nodes
   pub rules-is : rules′ ≡ fronted (recordsOf us) rules
   pub store-is : store′ ≡ fronted (rulesStored us) store

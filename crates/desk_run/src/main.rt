@@ -101,7 +101,7 @@ fn run_block(
 }
 
 fn run_layout(text: &[u8], name: &[u8], camera: &[u8], steps: u64, room: usize, out: &mut [u8]) {
-    let mut nodes = [0u32; 600];
+    let mut nodes = [0u32; 700];
     let mut rules = [0u32; 60];
     let mut store = [0u8; 400];
     let layout = show::read_layout(text, name, &mut nodes, &mut rules, &mut store);

@@ -23,6 +23,7 @@ use Rattle.printer.proofs.Answers.{print-fits, print-length}
 use Rattle.reader.specs.declared.Reading.{Reading}
 use Rattle.reader.specs.declared.Reading.the-variants as Reading
 use Rattle.reader.specs.Read.{roomForNodes, roomForRules, readOf, leftIn}
+use Rattle.reader.specs.Lines.{lineIn}
 use Rattle.build.specs.Rules.{rulesRead}
 use Rattle.pass.specs.declared.Passed.{Passed}
 use Rattle.pass.specs.declared.Passed.the-variants as Passed
@@ -87,7 +88,7 @@ module _ (style : Style) (level : Level) (ns rs st o ns₀ rs₀ st₀ : List �
 
   -- the text was read, or refused
   pub passed : {k : ℕ} {r : Reading} (q : Reading) {ns′ rs′ st′ : List ℕ} → printed ≡ Printed.Used k → r ≡ readOf level (take k o′) (roomForNodes ns₀) (roomForRules rs₀) (length st₀)
-      → ns′ ≡ leftIn r (nodesOf (rulesRead level (take k o′))) ns₀ → rs′ ≡ leftIn r (recordsOf (rulesRead level (take k o′))) rs₀ → st′ ≡ leftIn r (rulesStored (rulesRead level (take k o′))) st₀
+      → ns′ ≡ leftIn r (nodesOf (lineIn (take k o′)) (rulesRead level (take k o′))) ns₀ → rs′ ≡ leftIn r (recordsOf (rulesRead level (take k o′))) rs₀ → st′ ≡ leftIn r (rulesStored (rulesRead level (take k o′))) st₀
       → r ≡ q → Passes style level ns rs st o ns₀ rs₀ st₀ (backBy k q) o′ ns′ rs′ st′
   unfolding reported
   passed {k} {r} q u f n m b w =
@@ -98,7 +99,7 @@ module _ (style : Style) (level : Level) (ns rs st o ns₀ rs₀ st₀ : List �
         answer = g;
         report = ap numbered g;
         text = text-left style ns rs st o e h;
-        nodes = n ∙ ap (λ x. leftIn r (nodesOf (rulesRead level x)) ns₀) t ∙ ap (λ x. leftIn x (nodesOf (rulesRead level (tableText style ns rs st))) ns₀) w ∙ back-left k q _ ns₀;
+        nodes = n ∙ ap (λ x. leftIn r (nodesOf (lineIn x) (rulesRead level x)) ns₀) t ∙ ap (λ x. leftIn x (nodesOf (lineIn (tableText style ns rs st)) (rulesRead level (tableText style ns rs st))) ns₀) w ∙ back-left k q _ ns₀;
         rules = m ∙ ap (λ x. leftIn r (recordsOf (rulesRead level x)) rs₀) t ∙ ap (λ x. leftIn x (recordsOf (rulesRead level (tableText style ns rs st))) rs₀) w ∙ back-left k q _ rs₀;
         store = b ∙ ap (λ x. leftIn r (rulesStored (rulesRead level x)) st₀) t ∙ ap (λ x. leftIn x (rulesStored (rulesRead level (tableText style ns rs st))) st₀) w ∙ back-left k q _ st₀;
       }

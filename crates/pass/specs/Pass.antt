@@ -21,6 +21,7 @@ use Rattle.reader.specs.declared.Reading.{Reading}
 use Rattle.reader.specs.declared.Reading.the-variants as Reading
 use Rattle.reader.specs.Read as Reader
 use Rattle.reader.specs.Read.{roomForNodes, roomForRules, roomBy, readOf}
+use Rattle.reader.specs.Lines.{lineIn}
 use Rattle.build.specs.Rules.{rulesRead}
 use Rattle.promises.specs.Pieces.{rulesPieces, firstPushLiteral}
 use Rattle.promises.specs.Styled.{markedRules}
@@ -91,7 +92,7 @@ pub record Passes (style : Style) (level : Level) (ns rs st o ns₀ rs₀ st₀ 
   pub answer : a ≡ passOf style level ns rs st (length o) (roomForNodes ns₀) (roomForRules rs₀) (length st₀)
   pub report : numbered a ≡ reported style level ns rs st (length o) (roomForNodes ns₀) (roomForRules rs₀) (length st₀)
   pub text : o′ ≡ textIn style ns rs st o
-  pub nodes : ns′ ≡ newIn a (nodesOf (rulesRead level (tableText style ns rs st))) ns₀
+  pub nodes : ns′ ≡ newIn a (nodesOf (lineIn (tableText style ns rs st)) (rulesRead level (tableText style ns rs st))) ns₀
   pub rules : rs′ ≡ newIn a (recordsOf (rulesRead level (tableText style ns rs st))) rs₀
   pub store : st′ ≡ newIn a (rulesStored (rulesRead level (tableText style ns rs st))) st₀
 

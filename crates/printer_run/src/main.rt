@@ -235,7 +235,7 @@ fn run_line(line: &[u8]) {
 }
 
 fn main() {
-    let mut input = io::large_buffer();
+    let mut input = [0u8; 131072];
     let n = io::read_full(0, &mut input);
     let mut at = 0;
     while at < n {

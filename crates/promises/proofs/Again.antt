@@ -29,6 +29,7 @@ use Rattle.structure.specs.declared.Why.the-variants.{NotAllowed}
 use Rattle.structure.specs.Structure.{rules, docsIn, grammar}
 use Rattle.structure.specs.Held.{pushes, wrapValues, atomValues, treeValues, rulesValues}
 use Rattle.structure.proofs.Judged.{each-right}
+use Rattle.reader.specs.Lines.{lineIn}
 use Rattle.build.specs.Rules.{rulesRead}
 use Rattle.reader.specs.declared.Reading.{Reading}
 use Rattle.reader.specs.declared.Reading.the-variants as Reading
@@ -78,7 +79,7 @@ none-pushed s us e f = go (holdsPushLiteral us) refl
 
 is-printed : (v : Style) (level : Level) (s : List ℕ) → printedRules v (readRules level s) ≡ printedText v level s
 unfolding tableText
-is-printed v level s = printed-rules v (rulesRead level s) ∙ sym (ap (printedRules v) (flat-back (rulesRead level s)))
+is-printed v level s = printed-rules v (rulesRead level s) ∙ sym (ap (printedRules v) (flat-back (lineIn s) (rulesRead level s)))
 
 no-rules : (us : List (Rule Span)) → length us ≡ 0 → us ≡ []
 no-rules [] e = refl
@@ -90,7 +91,7 @@ nothing-read level n r b = refl
 
 module _ (level : Level) (s : List ℕ) (n r b : ℕ) {x y z : ℕ} (e : readOf level s n r b ≡ Reading.Read x y z) (h : n ≤ maxNodes) (l : r ≤ maxRules) (v : Style) where
   -- what was read prints, at either level and in either style: 20, 21 and 22 are never answered
-  pub read-prints : (m : ℕ) → printOf v (nodesOf (rulesRead level s)) (recordsOf (rulesRead level s)) (rulesStored (rulesRead level s)) m ≡ roomOf (printedText v level s) m
+  pub read-prints : (m : ℕ) → printOf v (nodesOf (lineIn s) (rulesRead level s)) (recordsOf (rulesRead level s)) (rulesStored (rulesRead level s)) m ≡ roomOf (printedText v level s) m
   unfolding printOf
   read-prints m = rw (read-good level s n r b e h l)
 

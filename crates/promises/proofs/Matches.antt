@@ -7,6 +7,7 @@ use lib.ListN.{take, drop, getD}
 use Rattle.table.specs.Tree.{rulesStored}
 use Rattle.table.specs.Flat.{nodesOf, recordsOf}
 use Rattle.structure.specs.declared.Level.the-variants.{Tagged}
+use Rattle.reader.specs.Lines.{lineIn}
 use Rattle.build.specs.Rules.{rulesRead}
 use Rattle.replies.specs.declared.Answer.{Answer}
 use Rattle.replies.specs.declared.Answer.the-variants.{Matched, NoMatch, Unfit, NoRule, NotUtf8, Over}
@@ -17,12 +18,12 @@ use Rattle.promises.proofs.Opened.{all-opened}
 
 -- rule 0 of a layout, read at the tagged level, over a line
 abbrev pub ran : List ℕ → List ℕ → ℕ → Answer
-ran layout line allowance = matchOf (nodesOf (rulesRead Tagged layout)) (recordsOf (rulesRead Tagged layout)) (rulesStored (rulesRead Tagged layout)) 0 line allowance
+ran layout line allowance = matchOf (nodesOf (lineIn layout) (rulesRead Tagged layout)) (recordsOf (rulesRead Tagged layout)) (rulesStored (rulesRead Tagged layout)) 0 line allowance
 
 -- its records for the lines of a text
 abbrev pub ranLines : List ℕ → List ℕ → List ℕ → List ℕ
 ranLines layout text records =
-    linesRecordsOf (nodesOf (rulesRead Tagged layout)) (recordsOf (rulesRead Tagged layout)) (rulesStored (rulesRead Tagged layout)) 0 text 99 records
+    linesRecordsOf (nodesOf (lineIn layout) (rulesRead Tagged layout)) (recordsOf (rulesRead Tagged layout)) (rulesStored (rulesRead Tagged layout)) 0 text 99 records
 
 abbrev zeros : List ℕ
 zeros = 0 ∷ 0 ∷ 0 ∷ 0 ∷ 0 ∷ 0 ∷ 0 ∷ 0 ∷ 0 ∷ 0 ∷ []

@@ -29,6 +29,7 @@ use Rattle.structure.specs.Values as Values
 use Rattle.records.specs.Records as Records
 use Rattle.build.specs.Build as Build
 use Rattle.reader.specs.Read as Read
+use Rattle.reader.specs.Lines as ReaderLines
 use Rattle.links.specs.Ready as Ready
 use Rattle.replies.specs.Replies as Replies
 use Rattle.links.specs.Program as Program
@@ -73,7 +74,7 @@ unfolding Build.suffixOf
 build-opened = tt
 
 unfoldable pub reader-opened : Unit {0}
-unfolding Read.roomBy Read.listedOf Read.judgedOf Read.readOf Read.leftIn Read.numberOf Read.numbered
+unfolding Read.roomBy Read.listedOf Read.judgedOf Read.readOf Read.leftIn Read.numberOf Read.numbered ReaderLines.feeds ReaderLines.lineIn
 reader-opened = tt
 
 unfoldable pub links-opened : Unit {0}

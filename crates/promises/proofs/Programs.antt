@@ -11,6 +11,7 @@ use Rattle.reader.specs.Read.{reported, leftIn}
 use Rattle.printer.specs.declared.Printed.{Printed}
 use Rattle.printer.specs.Answers.{printIn}
 use Rattle.printer.proofs.Answers.{print-reported}
+use Rattle.reader.specs.Lines.{lineIn}
 use Rattle.build.specs.Rules.{rulesRead}
 use Rattle.promises.specs.Programs.{Tables, tablesOf, Program, Lent, Meets, defined}
 
@@ -35,7 +36,7 @@ module _ (p : Program) (m : Meets p) where
   pub read-as : (level : Level) (s : List ℕ) (t : Tables) → p .read level s t ≡ defined .read level s t
   read-as level s t =
       let h = m .reads level (lend s) (lendAll t) lifetimes in
-      let us = tablesOf (rulesRead level s) in
+      let us = tablesOf (lineIn s) (rulesRead level s) in
       let e = h .0 in
       let n = h .1 .1 .0 ∙ ap (λ (r : Reading). leftIn r (us .nodes) (t .nodes)) e in
       let r = h .1 .1 .1 .0 ∙ ap (λ (r : Reading). leftIn r (us .rules) (t .rules)) e in

@@ -19,6 +19,7 @@ use Rattle.table.proofs.Regroups.{items-aside, rules-counts, rules-store}
 use Rattle.structure.specs.declared.Level.{Level}
 use Rattle.structure.specs.declared.Refusal.{Refusal}
 use Rattle.structure.specs.declared.Why.the-variants.{NotPlain}
+use Rattle.reader.specs.Lines.{lineIn}
 use Rattle.build.specs.Rules.{rulesRead}
 use Rattle.reader.specs.declared.Reading.{Reading}
 use Rattle.reader.specs.declared.Reading.the-variants as Reading
@@ -41,10 +42,10 @@ module _ (level : Level) (s : List ℕ) (n r b : ℕ) {x y z : ℕ} (e : readOf 
   rules-left {ns} {rs} {st} {ns′} {rs′} {st′} l =
       let us = rulesRead level s in
       let c = read-counts level s n r b e in
-      let a = front-used (nodesOf us) ns ns′ (nodeSize * x) (l .nodes) (omega (arith, c .nodes-are, length-nodes 0 0 us)) in
+      let a = front-used (nodesOf (lineIn s) us) ns ns′ (nodeSize * x) (l .nodes) (omega (arith, c .nodes-are, length-nodes (lineIn s) 0 0 us)) in
       let d = front-used (recordsOf us) rs rs′ (ruleSize * y) (l .rules) (omega (arith, c .rules-are, length-records 0 0 us)) in
       let f = front-used (rulesStored us) st st′ z (l .store) (c .store-is) in
-      rw (a, d, f) (flat-back us)
+      rw (a, d, f) (flat-back (lineIn s) us)
 
 -- ---- the same rules
 

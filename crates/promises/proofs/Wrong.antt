@@ -13,6 +13,7 @@ use Rattle.structure.specs.declared.Level.the-variants.{Tagged, Plain}
 use Rattle.reader.specs.declared.Reading.the-variants as Reading
 use Rattle.reader.specs.Read.{roomForNodes, roomForRules}
 use Rattle.reader.proofs.Counts.{read-counts}
+use Rattle.reader.specs.Lines.{lineIn}
 use Rattle.build.specs.Rules.{rulesRead}
 use Rattle.promises.specs.Programs.{Tables, tablesOf, Readout, Printout, Program, Meets, defined, treesOf, Succeeds}
 use Rattle.promises.specs.Twelve.{ascii}
@@ -40,14 +41,14 @@ right = ascii "r={a~(b~c)}"
 
 -- the tables of a text
 abbrev tables : List ℕ → Tables
-tables s = tablesOf (rulesRead Tagged s)
+tables s = tablesOf (lineIn s) (rulesRead Tagged s)
 
--- lent buffers: twenty numbers or bytes
+-- lent buffers: twenty numbers or bytes, and twenty-one numbers for three nodes
 abbrev twenty : List ℕ
 twenty = 0 ∷ 0 ∷ 0 ∷ 0 ∷ 0 ∷ 0 ∷ 0 ∷ 0 ∷ 0 ∷ 0 ∷ 0 ∷ 0 ∷ 0 ∷ 0 ∷ 0 ∷ 0 ∷ 0 ∷ 0 ∷ 0 ∷ 0 ∷ []
 
 abbrev lent : Tables
-lent = record { nodes = twenty; rules = twenty; store = twenty }
+lent = record { nodes = 0 ∷ twenty; rules = twenty; store = twenty }
 
 -- how many nodes each tree has
 abbrev sizes : List (Tree Nowhere) → List ℕ

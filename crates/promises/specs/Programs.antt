@@ -20,6 +20,7 @@ use Rattle.reader.specs.declared.Reading.{Reading}
 use Rattle.reader.specs.Read.{roomForNodes, roomForRules, readOf, leftIn, numbered}
 use Rattle.reader.proofs.read.{ended as read-ended}
 use Rattle.reader.proofs.read.Reads.{Learnt as ReadLearnt}
+use Rattle.reader.specs.Lines.{lineIn}
 use Rattle.build.specs.Rules.{rulesRead}
 
 -- three tables
@@ -28,9 +29,9 @@ pub record Tables : Type 0 where
   pub rules : List ℕ
   pub store : List ℕ
 
--- the tables of rules
-abbrev pub tablesOf : List (Rule Span) → Tables
-tablesOf us = record { nodes = nodesOf us; rules = recordsOf us; store = rulesStored us }
+-- the tables of rules, with the lines of places
+abbrev pub tablesOf : (ℕ → ℕ) → List (Rule Span) → Tables
+tablesOf line us = record { nodes = nodesOf line us; rules = recordsOf us; store = rulesStored us }
 
 -- the trees in tables, spans aside
 abbrev pub treesIn : Tables → List (Tree Nowhere)
@@ -84,7 +85,7 @@ abbrev pub defined : Program
 defined = record {
   read = λ level s t.
       let r = readOf level s (roomForNodes (t .nodes)) (roomForRules (t .rules)) (length (t .store)) in
-      let x = tablesOf (rulesRead level s) in
+      let x = tablesOf (lineIn s) (rulesRead level s) in
       record {
         answer = r;
         left = record { nodes = leftIn r (x .nodes) (t .nodes); rules = leftIn r (x .rules) (t .rules); store = leftIn r (x .store) (t .store) };

@@ -21,6 +21,7 @@ use Rattle.printer.specs.Answers.{tableText}
 use Rattle.promises.specs.Open.{mostOpen}
 use Rattle.reader.specs.declared.Reading.the-variants as Reading
 use Rattle.reader.specs.Read.{roomBy, readOf, Leaves}
+use Rattle.reader.specs.Lines.{lineIn}
 use Rattle.build.specs.Rules as Built
 use Rattle.table.specs.Regroup.{regroup, untagged}
 use Rattle.structure.specs.Counts.{isZero, countedRules}
@@ -129,4 +130,4 @@ readRules level s = map asideRule (Built.rulesRead level s)
 
 -- and the text of their tables
 abbrev pub printedText : Style → Level → List ℕ → List ℕ
-printedText style level s = tableText style (nodesOf (Built.rulesRead level s)) (recordsOf (Built.rulesRead level s)) (rulesStored (Built.rulesRead level s))
+printedText style level s = tableText style (nodesOf (lineIn s) (Built.rulesRead level s)) (recordsOf (Built.rulesRead level s)) (rulesStored (Built.rulesRead level s))

@@ -10,6 +10,7 @@ use Rattle.table.specs.Tree.{Span, Rule, rulesStored}
 use Rattle.table.specs.Record.{nodeSize, nodesIn, rulesIn, markAt}
 use Rattle.table.specs.Flat.{nodesOf, recordsOf}
 use Rattle.structure.specs.declared.Level.the-variants.{Tagged}
+use Rattle.reader.specs.Lines.{lineIn}
 use Rattle.build.specs.Rules.{rulesRead}
 use Rattle.promises.specs.Twelve.{ascii}
 
@@ -28,7 +29,7 @@ abbrev pub held : String → List (Rule Span)
 held s = rulesRead Tagged (ascii s)
 
 abbrev pub nodesHeld : String → List ℕ
-nodesHeld s = nodesOf (held s)
+nodesHeld s = nodesOf (lineIn (ascii s)) (held s)
 
 abbrev pub rulesHeld : String → List ℕ
 rulesHeld s = recordsOf (held s)

@@ -22,7 +22,9 @@ use Rattle.token.proofs.Table.{flat-length}
 use Rattle.token.proofs.Fills.{used, filled-all, filled-none, filled-over}
 use Rattle.text.proofs.Splices.{length-fronted}
 use Rattle.table.specs.Tree.{Span, Rule, counts, rulesStored}
-use Rattle.table.specs.Flat.{nodesOf, recordsOf}
+use Rattle.table.specs.Record.{nodeSize}
+use Rattle.table.specs.Flat.{noLine, nodesOf}
+use Rattle.table.proofs.Rules.{length-nodes}
 use Rattle.structure.specs.declared.Level.{Level}
 use Rattle.structure.specs.declared.Fault.{Fault}
 use Rattle.structure.specs.declared.Fault.the-variants as Fault
@@ -45,7 +47,9 @@ use Rattle.reader.specs.declared.Reading.{Reading}
 use Rattle.reader.specs.declared.Reading.the-variants as Reading
 use Rattle.reader.specs.declared.Attempt.{Attempt}
 use Rattle.reader.specs.declared.Attempt.the-variants as Attempt
-use Rattle.reader.proofs.Counts.{judged-counts}
+use Rattle.reader.proofs.Counts.{Counts, judged-counts}
+use Rattle.reader.proofs.Lines.{lines-fronted}
+use Rattle.reader.specs.Lines.{lineIn, withLines}
 use Rattle.reader.specs.Read.{roomForNodes, roomForRules, roomBy, faulty, checkedBy, refusedBy, ruledBy, judgedOf, listedOf, attemptOf, readOf, leftIn, Numbered, numberOf, numbered, reported, Leaves, AttemptLeaves}
 use Rattle.build.specs.Build.{Scalars}
 use Rattle.build.specs.Rules.{GrammarRoom, RulesBuilt, rulesRead}
@@ -123,9 +127,14 @@ module _ (level : Level) (s ns rs st : List ℕ) where
       let d = stored-fits s level (rulesRead level s) (c .read) in
       (sound-scalars level s (c .sound), record { read = c .read; rows = omega arith; room = omega arith; few = omega arith; fits = c .store-fits; low = omega arith })
 
-  pub read-left : (x y z : ℕ) (ns′ rs′ st′ : List ℕ) → RulesBuilt (rulesRead level s) ns rs st ns′ rs′ st′ → Leaves level s (Reading.Read x y z) ns rs st ns′ rs′ st′
+  pub read-left : (x y z : ℕ) (ns₁ ns′ rs′ st′ : List ℕ) → x ≡ counts (rulesRead level s) → RulesBuilt (rulesRead level s) ns rs st ns₁ rs′ st′
+      → ns′ ≡ withLines (lineIn s) ns₁ x → Leaves level s (Reading.Read x y z) ns rs st ns′ rs′ st′
   unfolding leftIn
-  read-left x y z ns′ rs′ st′ b = record { nodes = b .nodes-is; rules = b .rules-is; store = b .store-is }
+  read-left x y z ns₁ ns′ rs′ st′ e b l = record {
+    nodes = l ∙ rw (b .nodes-is, e) (lines-fronted (lineIn s) (rulesRead level s) ns);
+    rules = b .rules-is;
+    store = b .store-is;
+  }
 
 -- a refusal changes nothing
 pub kept : (level : Level) (s ns rs st : List ℕ) (r : Refusal) → Leaves level s (Reading.Refused r) ns rs st ns rs st
@@ -143,9 +152,21 @@ module _ (level : Level) (s ns rs st : List ℕ) (x : Reading) (n r : ℕ) (e : 
     pub build-room : length s ≤ maxText → Scalars s × GrammarRoom (grammar level s) (rulesRead level s) ns rs st
     build-room h = build-ready level s ns rs st h (sym judged-is ∙ w)
 
-    pub build-read : (ns′ rs′ st′ : List ℕ) → RulesBuilt (rulesRead level s) ns rs st ns′ rs′ st′
-        → (x ≡ judgedOf level s (roomForNodes ns) (roomForRules rs) (length st)) × Leaves level s x ns rs st ns′ rs′ st′
-    build-read ns′ rs′ st′ d = (judged-is, rw w (read-left level s ns rs st a b c ns′ rs′ st′ d))
+    counted : Counts level s (roomForNodes ns) (roomForRules rs) (length st) a b c
+    counted = judged-counts level s (roomForNodes ns) (roomForRules rs) (length st) (sym judged-is ∙ w)
+
+    -- the nodes that get their lines are there
+    pub build-nodes : (ns₁ rs′ st′ : List ℕ) → RulesBuilt (rulesRead level s) ns rs st ns₁ rs′ st′ → nodeSize * a ≤ length ns₁
+    build-nodes ns₁ rs′ st′ d =
+        let us = rulesRead level s in
+        let l = length-nodes noLine 0 0 us in
+        let m = counted .nodes-are in
+        let f = counted .nodes-fit in
+        omega (arith, ap length (d .nodes-is) ∙ length-fronted (nodesOf noLine us) ns (omega arith))
+
+    pub build-read : (ns₁ ns′ rs′ st′ : List ℕ) → RulesBuilt (rulesRead level s) ns rs st ns₁ rs′ st′ → ns′ ≡ withLines (lineIn s) ns₁ a
+        → (Reading.Read a b c ≡ judgedOf level s (roomForNodes ns) (roomForRules rs) (length st)) × Leaves level s (Reading.Read a b c) ns rs st ns′ rs′ st′
+    build-read ns₁ ns′ rs′ st′ d l = (sym w ∙ judged-is, read-left level s ns rs st a b c ns₁ ns′ rs′ st′ (counted .nodes-are) d l)
 
 -- ---- tokens in the table
 

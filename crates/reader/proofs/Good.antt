@@ -22,6 +22,7 @@ use Rattle.build.specs.Rules.{rulesRead}
 use Rattle.reader.specs.declared.Reading.{Reading}
 use Rattle.reader.specs.declared.Reading.the-variants as Reading
 use Rattle.reader.specs.Read.{roomForNodes, roomForRules, readOf, leftIn, Leaves}
+use Rattle.reader.specs.Lines.{lineIn}
 use Rattle.reader.proofs.Counts.{read-text, read-counts}
 
 module _ (level : Level) (s : List ℕ) (n r b : ℕ) {x y z : ℕ} (e : readOf level s n r b ≡ Reading.Read x y z) where
@@ -32,10 +33,10 @@ module _ (level : Level) (s : List ℕ) (n r b : ℕ) {x y z : ℕ} (e : readOf 
       sound-fine level s (rulesRead level s) (read-text level s n r b e .utf8) (c .read) (c .sound)
 
   -- their tables are good, with room within the limits; the store never has more bytes than the text
-  pub read-good : n ≤ maxNodes → r ≤ maxRules → tables (nodesOf (rulesRead level s)) (recordsOf (rulesRead level s)) (rulesStored (rulesRead level s)) ≡ Table.Good
+  pub read-good : n ≤ maxNodes → r ≤ maxRules → tables (nodesOf (lineIn s) (rulesRead level s)) (recordsOf (rulesRead level s)) (rulesStored (rulesRead level s)) ≡ Table.Good
   read-good h l =
       let c = read-counts level s n r b e in
-      flat-passes (rulesRead level s) read-fine (omega (arith, c .nodes-fit)) (omega (arith, c .rules-fit))
+      flat-passes (lineIn s) (rulesRead level s) read-fine (omega (arith, c .nodes-fit)) (omega (arith, c .rules-fit))
       (omega (arith, stored-fits s level (rulesRead level s) (c .read), read-text level s n r b e .short))
 
 -- and so is what a call leaves in the lent buffers, as far as it is used, whatever was lent
@@ -48,5 +49,5 @@ module _ (level : Level) (s ns rs st ns′ rs′ st′ : List ℕ) {x y z : ℕ}
   used-good =
       let us = rulesRead level s in
       let c = read-counts level s (roomForNodes ns) (roomForRules rs) (length st) e in
-      rw (front (nodesOf us) ns ns′ (nodeSize * x) (h .nodes) (omega (arith, c .nodes-are, length-nodes 0 0 us)), front (recordsOf us) rs rs′ (ruleSize * y) (h .rules) (omega (arith, c .rules-are, length-records 0 0 us)), front (rulesStored us) st st′ z (h .store) (c .store-is))
+      rw (front (nodesOf (lineIn s) us) ns ns′ (nodeSize * x) (h .nodes) (omega (arith, c .nodes-are, length-nodes (lineIn s) 0 0 us)), front (recordsOf us) rs rs′ (ruleSize * y) (h .rules) (omega (arith, c .rules-are, length-records 0 0 us)), front (rulesStored us) st st′ z (h .store) (c .store-is))
       (read-good level s (roomForNodes ns) (roomForRules rs) (length st) e (omega arith) (omega arith))

@@ -1,2 +1,3 @@
 -- The reader: the definitions that the contracts of this crate cite.
 pub mod Read
+pub mod Lines

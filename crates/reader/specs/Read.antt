@@ -27,6 +27,7 @@ use Rattle.structure.specs.Refusals.{because}
 use Rattle.structure.specs.Values.{faults}
 use Rattle.structure.specs.Structure.{Ruled, rules, unruled, grammar}
 use Rattle.build.specs.Rules.{rulesRead}
+use Rattle.reader.specs.Lines.{lineIn}
 
 -- a text that is refused
 abbrev pub refusedBy : Why → ℕ → Reading
@@ -120,7 +121,7 @@ reported level s n r b = numbered (readOf level s n r b)
 
 -- the three buffers afterwards, by the answer
 pub record Leaves (level : Level) (s : List ℕ) (r : Reading) (ns rs st ns′ rs′ st′ : List ℕ) : Type 0 where
-  pub nodes : ns′ ≡ leftIn r (nodesOf (rulesRead level s)) ns
+  pub nodes : ns′ ≡ leftIn r (nodesOf (lineIn s) (rulesRead level s)) ns
   pub rules : rs′ ≡ leftIn r (recordsOf (rulesRead level s)) rs
   pub store : st′ ≡ leftIn r (rulesStored (rulesRead level s)) st
 

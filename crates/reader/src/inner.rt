@@ -1,3 +1,4 @@
-// What a text gets, phase by phase, and the room for its tokens.
+// What a text gets, phase by phase, the room for its tokens, and the lines of nodes.
+pub mod lines;
 pub mod listings;
 pub mod phases;

@@ -14,6 +14,7 @@ ghost use lib.ListN.{length};
 ghost use Rattle.table.specs.Tree.{rulesStored};
 ghost use Rattle.table.specs.Flat.{nodesOf, recordsOf};
 ghost use Rattle.reader.specs.Read.{roomForNodes, roomForRules, readOf, numberOf, numbered, reported, leftIn};
+ghost use Rattle.reader.specs.Lines.{lineIn};
 ghost use Rattle.build.specs.Rules.{rulesRead};
 
 // The nodes, rules and store bytes used, or why nothing was read, and where.
@@ -26,6 +27,12 @@ pub enum Reading {
 pub enum Attempt {
     Done(Reading),
     Full,
+}
+
+// A place in a text and its line.
+pub struct Mark {
+    pub at: usize,
+    pub line: usize,
 }
 
 // The number of a reason, as callers are told it.
@@ -59,7 +66,7 @@ pub fn read(
 ) -> Reading
     ensures answer { λ r. ⌜ r ≡ readOf level (now (text .entry)) (roomForNodes (now (nodes .entry))) (roomForRules (now (rules .entry))) (length (now (store .entry))) ⌝ }
     ensures report { λ r. ⌜ numbered r ≡ reported level (now (text .entry)) (roomForNodes (now (nodes .entry))) (roomForRules (now (rules .entry))) (length (now (store .entry))) ⌝ }
-    ensures nodes { λ r. ⌜ now (nodes .exit) ≡ leftIn r (nodesOf (rulesRead level (now (text .entry)))) (now (nodes .entry)) ⌝ }
+    ensures nodes { λ r. ⌜ now (nodes .exit) ≡ leftIn r (nodesOf (lineIn (now (text .entry))) (rulesRead level (now (text .entry)))) (now (nodes .entry)) ⌝ }
     ensures rules { λ r. ⌜ now (rules .exit) ≡ leftIn r (recordsOf (rulesRead level (now (text .entry)))) (now (rules .entry)) ⌝ }
     ensures store { λ r. ⌜ now (store .exit) ≡ leftIn r (rulesStored (rulesRead level (now (text .entry)))) (now (store .entry)) ⌝ }
 {

@@ -70,7 +70,7 @@ fn level_of(b: u8) -> Level {
 
 fn run_line(line: &[u8]) {
     let mut text = [0u8; 65600];
-    let mut nodes = [2863311530u32; 24588];
+    let mut nodes = [2863311530u32; 28686];
     let mut rules = [2863311530u32; 6156];
     let mut store = [170u8; 65600];
     let op = vectors::word(line, 0);

@@ -15,7 +15,7 @@ use Rattle.table.specs.declared.Op.the-variants.{Plain}
 use Rattle.table.specs.declared.Node.the-variants.{Tip, One, Two}
 use Rattle.table.specs.Tree.{Span, Tree, count, placeOf, placed, endsAt, startsAt}
 use Rattle.table.specs.Record.{nodeSize, ruleSize}
-use Rattle.table.specs.Flat.{leafNumbers, opNumbers, joinNumbers, numbersOf, nodeRecord, recordOf, rootNode, front, flat}
+use Rattle.table.specs.Flat.{leafNumbers, opNumbers, joinNumbers, numbersOf, nodeRecord, recordOf, rootNode, front, flat, noLine}
 use Rattle.table.proofs.Flats.{flat-root, flat-own, length-front}
 use Rattle.records.specs.Records.{written, ruleWritten, EndMoved, StartMoved}
 
@@ -27,7 +27,7 @@ pub length-rule-written : (l : List ℕ) (k : ℕ) (vs : List ℕ) → length (r
 unfolding ruleWritten
 length-rule-written l k vs = length-sets l (ruleSize * k) vs
 
--- six stores are a run of stores: a node record, and a rule record
+-- six stores are a run of stores: a rule record, and a node record but for its line
 six-stores : (l : List ℕ) (i a b c d e g : ℕ) → set (set (set (set (set (set l i a) (i + 1) b) (i + 2) c) (i + 3) d) (i + 4) e) (i + 5) g ≡ sets l i (a ∷ b ∷ c ∷ d ∷ e ∷ g ∷ [])
 six-stores l i a b c d e g =
     let e₁ : i + 1 ≡ suc i = omega arith in
@@ -37,10 +37,13 @@ six-stores l i a b c d e g =
     let e₅ : i + 5 ≡ suc (suc (suc (suc (suc i)))) = omega arith in
     rw (e₁, e₂, e₃, e₄, e₅)
 
-pub put-is : (l : List ℕ) (f i a b c d e g : ℕ) → i ≡ nodeSize * f
-    → set (set (set (set (set (set l i a) (i + 1) b) (i + 2) c) (i + 3) d) (i + 4) e) (i + 5) g ≡ written l f (a ∷ b ∷ c ∷ d ∷ e ∷ g ∷ [])
+pub put-is : (l : List ℕ) (f i a b c d e g h : ℕ) → i ≡ nodeSize * f
+    → set (set (set (set (set (set (set l i a) (i + 1) b) (i + 2) c) (i + 3) d) (i + 4) e) (i + 5) g) (i + 6) h ≡ written l f (a ∷ b ∷ c ∷ d ∷ e ∷ g ∷ h ∷ [])
 unfolding written
-put-is l f i a b c d e g q = six-stores l i a b c d e g ∙ ap (λ (j : ℕ). sets l j (a ∷ b ∷ c ∷ d ∷ e ∷ g ∷ [])) q
+put-is l f i a b c d e g h q =
+    ap (λ (x : List ℕ). set x (i + 6) h) (six-stores l i a b c d e g)
+    ∙ sym (sets-append l i (a ∷ b ∷ c ∷ d ∷ e ∷ g ∷ []) (h ∷ []))
+    ∙ ap (λ (j : ℕ). sets l j (a ∷ b ∷ c ∷ d ∷ e ∷ g ∷ h ∷ [])) q
 
 pub put-rule-is : (l : List ℕ) (k i a b c d e g : ℕ) → i ≡ ruleSize * k
     → set (set (set (set (set (set l i a) (i + 1) b) (i + 2) c) (i + 3) d) (i + 4) e) (i + 5) g ≡ ruleWritten l k (a ∷ b ∷ c ∷ d ∷ e ∷ g ∷ [])
@@ -79,39 +82,39 @@ set-in (x ∷ xs) ys l i j v w e = set-in xs ys (set l i x) (suc i) j v w (omega
 
 -- ---- moving an end or a start
 
-module _ (l tbl : List ℕ) (used v : ℕ) (t : Tree Span) (f at : ℕ) (h : 0 < used) (e : used ≡ f + count t) (q : tbl ≡ written l f (flat f at t)) where
-  end-moved : set tbl (nodeSize * (used - 1) + 2) v ≡ written l f (flat f at (endsAt t v))
+module _ (l tbl : List ℕ) (used v : ℕ) (t : Tree Span) (f at : ℕ) (h : 0 < used) (e : used ≡ f + count t) (q : tbl ≡ written l f (flat noLine f at t)) where
+  end-moved : set tbl (nodeSize * (used - 1) + 2) v ≡ written l f (flat noLine f at (endsAt t v))
   unfolding written endsAt
   end-moved =
-      let w = front f at t in
+      let w = front noLine f at t in
       let x = numbersOf (rootNode f at t) in
       let p = placeOf t in
       let k = x .kind ∷ p .start ∷ [] in
-      let r = x .p ∷ x .q ∷ x .r ∷ [] in
+      let r = x .p ∷ x .q ∷ x .r ∷ 0 ∷ [] in
       let xs = w ++ k in
       let m = length-append w k in
-      let n = length-front f at t in
-      let a : flat f at t ≡ xs ++ (p .stop ∷ r) = flat-own f at t ∙ sym (append-assoc w k (p .stop ∷ r)) in
+      let n = length-front noLine f at t in
+      let a : flat noLine f at t ≡ xs ++ (p .stop ∷ r) = flat-own noLine f at t ∙ sym (append-assoc w k (p .stop ∷ r)) in
       let s : Span = record { start = p .start; stop = v } in
-      let b : xs ++ (v ∷ r) ≡ flat f at (placed s t) = append-assoc w k (v ∷ r) ∙ sym (flat-root f at s t) in
+      let b : xs ++ (v ∷ r) ≡ flat noLine f at (placed s t) = append-assoc w k (v ∷ r) ∙ sym (flat-root noLine f at s t) in
       ap (λ (y : List ℕ). set y (nodeSize * (used - 1) + 2) v) (q ∙ ap (sets l (nodeSize * f)) a)
       ∙ set-in xs r l (nodeSize * f) (nodeSize * (used - 1) + 2) (p .stop) v (omega arith)
       ∙ ap (sets l (nodeSize * f)) b
 
-  start-moved : set tbl (nodeSize * (used - 1) + 1) v ≡ written l f (flat f at (startsAt t v))
+  start-moved : set tbl (nodeSize * (used - 1) + 1) v ≡ written l f (flat noLine f at (startsAt t v))
   unfolding written startsAt
   start-moved =
-      let w = front f at t in
+      let w = front noLine f at t in
       let x = numbersOf (rootNode f at t) in
       let p = placeOf t in
       let k = x .kind ∷ [] in
-      let r = x .p ∷ x .q ∷ x .r ∷ [] in
+      let r = x .p ∷ x .q ∷ x .r ∷ 0 ∷ [] in
       let xs = w ++ k in
       let m = length-append w k in
-      let n = length-front f at t in
-      let a : flat f at t ≡ xs ++ (p .start ∷ p .stop ∷ r) = flat-own f at t ∙ sym (append-assoc w k (p .start ∷ p .stop ∷ r)) in
+      let n = length-front noLine f at t in
+      let a : flat noLine f at t ≡ xs ++ (p .start ∷ p .stop ∷ r) = flat-own noLine f at t ∙ sym (append-assoc w k (p .start ∷ p .stop ∷ r)) in
       let s : Span = record { start = v; stop = p .stop } in
-      let b : xs ++ (v ∷ p .stop ∷ r) ≡ flat f at (placed s t) = append-assoc w k (v ∷ p .stop ∷ r) ∙ sym (flat-root f at s t) in
+      let b : xs ++ (v ∷ p .stop ∷ r) ≡ flat noLine f at (placed s t) = append-assoc w k (v ∷ p .stop ∷ r) ∙ sym (flat-root noLine f at s t) in
       ap (λ (y : List ℕ). set y (nodeSize * (used - 1) + 1) v) (q ∙ ap (sets l (nodeSize * f)) a)
       ∙ set-in xs (p .stop ∷ r) l (nodeSize * f) (nodeSize * (used - 1) + 1) (p .start) v (omega arith)
       ∙ ap (sets l (nodeSize * f)) b
@@ -128,22 +131,22 @@ abbrev pub spanned : ℕ → ℕ → Span
 spanned a z = record { start = a; stop = z }
 
 module _ (l l′ : List ℕ) (f a z : ℕ) where
-  pub unary-is : (c : ℕ) {u v : Unary} → u ≡ v → l′ ≡ written l f (nodeRecord (spanned a z) (opNumbers c (Plain v)))
-      → l′ ≡ written l f (recordOf (spanned a z) (One (Plain u) c))
+  pub unary-is : (c : ℕ) {u v : Unary} → u ≡ v → l′ ≡ written l f (nodeRecord noLine (spanned a z) (opNumbers c (Plain v)))
+      → l′ ≡ written l f (recordOf noLine (spanned a z) (One (Plain u) c))
   unfolding numbersOf
-  unary-is c e q = q ∙ ap (λ (w : Unary). written l f (recordOf (spanned a z) (One (Plain w) c))) (sym e)
+  unary-is c e q = q ∙ ap (λ (w : Unary). written l f (recordOf noLine (spanned a z) (One (Plain w) c))) (sym e)
 
-  pub join-is : (c d : ℕ) {j k : Join} → j ≡ k → l′ ≡ written l f (nodeRecord (spanned a z) (joinNumbers k c d))
-      → l′ ≡ written l f (recordOf (spanned a z) (Two j c d))
+  pub join-is : (c d : ℕ) {j k : Join} → j ≡ k → l′ ≡ written l f (nodeRecord noLine (spanned a z) (joinNumbers k c d))
+      → l′ ≡ written l f (recordOf noLine (spanned a z) (Two j c d))
   unfolding numbersOf
-  join-is c d e q = q ∙ ap (λ (w : Join). written l f (recordOf (spanned a z) (Two w c d))) (sym e)
+  join-is c d e q = q ∙ ap (λ (w : Join). written l f (recordOf noLine (spanned a z) (Two w c d))) (sym e)
 
-  pub text-is : (c d : ℕ) {j k : Sort} → j ≡ k → l′ ≡ written l f (nodeRecord (spanned a z) (leafNumbers (Text k c d)))
-      → l′ ≡ written l f (recordOf (spanned a z) (Tip (Text j c d)))
+  pub text-is : (c d : ℕ) {j k : Sort} → j ≡ k → l′ ≡ written l f (nodeRecord noLine (spanned a z) (leafNumbers (Text k c d)))
+      → l′ ≡ written l f (recordOf noLine (spanned a z) (Tip (Text j c d)))
   unfolding numbersOf
-  text-is c d e q = q ∙ ap (λ (w : Sort). written l f (recordOf (spanned a z) (Tip (Text w c d)))) (sym e)
+  text-is c d e q = q ∙ ap (λ (w : Sort). written l f (recordOf noLine (spanned a z) (Tip (Text w c d)))) (sym e)
 
-  pub slice-is : (c : ℕ) {j k : End} → j ≡ k → l′ ≡ written l f (nodeRecord (spanned a z) (leafNumbers (PeekSlice c k)))
-      → l′ ≡ written l f (recordOf (spanned a z) (Tip (PeekSlice c j)))
+  pub slice-is : (c : ℕ) {j k : End} → j ≡ k → l′ ≡ written l f (nodeRecord noLine (spanned a z) (leafNumbers (PeekSlice c k)))
+      → l′ ≡ written l f (recordOf noLine (spanned a z) (Tip (PeekSlice c j)))
   unfolding numbersOf
-  slice-is c e q = q ∙ ap (λ (w : End). written l f (recordOf (spanned a z) (Tip (PeekSlice c w)))) (sym e)
+  slice-is c e q = q ∙ ap (λ (w : End). written l f (recordOf noLine (spanned a z) (Tip (PeekSlice c w)))) (sym e)

@@ -6,7 +6,7 @@ use lib.ListN.{length}
 use lib.Seq.{sets}
 use Rattle.table.specs.Tree.{Span, Tree, count, endsAt, startsAt}
 use Rattle.table.specs.Record.{nodeSize, ruleSize}
-use Rattle.table.specs.Flat.{flat}
+use Rattle.table.specs.Flat.{noLine, flat}
 
 -- a table of node records with numbers stored from the record f on
 unfoldable pub written : List ℕ → ℕ → List ℕ → List ℕ
@@ -20,7 +20,7 @@ ruleWritten l k vs = sets l (ruleSize * k) vs
 abbrev pub most : ℕ
 most = 4294967295
 
--- a node record fits a table, and its numbers fit 32 bits
+-- a node record fits a table, and its numbers fit 32 bits; the line, which is 0 yet, does
 pub record Fits (table : List ℕ) (f a z p q r : ℕ) : Type 0 where
   pub room : nodeSize * f + nodeSize ≤ length table
   pub from : a ≤ most
@@ -50,9 +50,9 @@ pub record Over (table : List ℕ) (f a z : ℕ) : Type 0 where
 -- the end of the node that was written last is z now, whatever the tree
 pub record EndMoved (table : List ℕ) (used z : ℕ) (table′ : List ℕ) : Type 0 where
   pub long : length table′ ≡ length table
-  pub same : (o : List ℕ) (t : Tree Span) (f at : ℕ) → used ≡ f + count t → table ≡ written o f (flat f at t) → table′ ≡ written o f (flat f at (endsAt t z))
+  pub same : (o : List ℕ) (t : Tree Span) (f at : ℕ) → used ≡ f + count t → table ≡ written o f (flat noLine f at t) → table′ ≡ written o f (flat noLine f at (endsAt t z))
 
 -- and so for its start
 pub record StartMoved (table : List ℕ) (used a : ℕ) (table′ : List ℕ) : Type 0 where
   pub long : length table′ ≡ length table
-  pub same : (o : List ℕ) (t : Tree Span) (f at : ℕ) → used ≡ f + count t → table ≡ written o f (flat f at t) → table′ ≡ written o f (flat f at (startsAt t a))
+  pub same : (o : List ℕ) (t : Tree Span) (f at : ℕ) → used ≡ f + count t → table ≡ written o f (flat noLine f at t) → table′ ≡ written o f (flat noLine f at (startsAt t a))

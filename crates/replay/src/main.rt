@@ -156,7 +156,7 @@ fn level_of(n: u64) -> Level {
 
 fn run_text(line: &[u8], level: Level, long: bool) {
     let mut text = [0u8; 70100];
-    let mut nodes = [2863311530u32; 24640];
+    let mut nodes = [2863311530u32; 28720];
     let mut rules = [2863311530u32; 6200];
     let mut store = [170u8; 65600];
     let used = text_of(vectors::word(line, 2), long, &mut text);

@@ -11,6 +11,7 @@ use borrow.Author.Tests.{ne-eqb}
 use Rattle.text.specs.Booleans.{choose}
 use Rattle.text.specs.Splice.{fronted}
 use Rattle.table.specs.Tree.{rulesStored}
+use Rattle.table.specs.Record.{nodeSize, ruleSize}
 use Rattle.table.specs.Flat.{nodesOf, recordsOf}
 use Rattle.table.proofs.Rules.{length-nodes, length-records}
 use Rattle.structure.specs.declared.Level.the-variants.{Tagged}
@@ -20,6 +21,7 @@ use Rattle.build.specs.Rules.{rulesRead}
 use Rattle.reader.specs.declared.Reading.{Reading}
 use Rattle.reader.specs.declared.Reading.the-variants as Reading
 use Rattle.reader.specs.Read.{refusedBy, roomForNodes, roomForRules, readOf, leftIn, refusal, numberOf, numbered, reported, Leaves}
+use Rattle.reader.specs.Lines.{lineIn}
 use Rattle.reader.proofs.Answers.{numbered-one}
 use Rattle.reader.proofs.Counts.{read-counts}
 
@@ -59,8 +61,8 @@ front x o o′ k e h = let a = ap length e ∙ length-append x (drop (length x) 
 pub record Fronts (s ns rs : List ℕ) (x y z : ℕ) (ns′ rs′ st′ : List ℕ) : Type 0 where
   pub few-nodes : x ≤ roomForNodes ns
   pub few-rules : y ≤ roomForRules rs
-  pub nodes : Front (6 * x) ns′ (nodesOf (rulesRead Tagged s))
-  pub rules : Front (6 * y) rs′ (recordsOf (rulesRead Tagged s))
+  pub nodes : Front (nodeSize * x) ns′ (nodesOf (lineIn s) (rulesRead Tagged s))
+  pub rules : Front (ruleSize * y) rs′ (recordsOf (rulesRead Tagged s))
   pub store : Front z st′ (rulesStored (rulesRead Tagged s))
 
 -- what `read` promises of its answer and of the buffers afterwards
@@ -68,7 +70,7 @@ abbrev pub Promised : (s ns rs st : List ℕ) → Reading → (ns′ rs′ st′
 Promised s ns rs st a ns′ rs′ st′ =
     (a ≡ readOf Tagged s (roomForNodes ns) (roomForRules rs) (length st))
     × ((numbered a ≡ reported Tagged s (roomForNodes ns) (roomForRules rs) (length st))
-    × ((ns′ ≡ leftIn a (nodesOf (rulesRead Tagged s)) ns) × ((rs′ ≡ leftIn a (recordsOf (rulesRead Tagged s)) rs) × (st′ ≡ leftIn a (rulesStored (rulesRead Tagged s)) st))))
+    × ((ns′ ≡ leftIn a (nodesOf (lineIn s) (rulesRead Tagged s)) ns) × ((rs′ ≡ leftIn a (recordsOf (rulesRead Tagged s)) rs) × (st′ ≡ leftIn a (rulesStored (rulesRead Tagged s)) st))))
 
 module _ (s ns rs st : List ℕ) (a : Reading) (ns′ rs′ st′ : List ℕ) (p : Promised s ns rs st a ns′ rs′ st′) where
   pub leaves : Leaves Tagged s (readOf Tagged s (roomForNodes ns) (roomForRules rs) (length st)) ns rs st ns′ rs′ st′
@@ -82,7 +84,7 @@ module _ (s ns rs st : List ℕ) (a : Reading) (ns′ rs′ st′ : List ℕ) (p
       record {
         few-nodes = rw (t .nodes-are) (t .nodes-fit);
         few-rules = rw (t .rules-are) (t .rules-fit);
-        nodes = front (nodesOf us) ns ns′ _ (p .1 .1 .0 ∙ rw q) (ap (λ (k : ℕ). 6 * k) (t .nodes-are) ∙ sym (length-nodes 0 0 us));
-        rules = front (recordsOf us) rs rs′ _ (p .1 .1 .1 .0 ∙ rw q) (ap (λ (k : ℕ). 6 * k) (t .rules-are) ∙ sym (length-records 0 0 us));
+        nodes = front (nodesOf (lineIn s) us) ns ns′ _ (p .1 .1 .0 ∙ rw q) (ap (λ (k : ℕ). nodeSize * k) (t .nodes-are) ∙ sym (length-nodes (lineIn s) 0 0 us));
+        rules = front (recordsOf us) rs rs′ _ (p .1 .1 .1 .0 ∙ rw q) (ap (λ (k : ℕ). ruleSize * k) (t .rules-are) ∙ sym (length-records 0 0 us));
         store = front (rulesStored us) st st′ _ (p .1 .1 .1 .1 ∙ rw q) (t .store-is);
       }

@@ -4,6 +4,7 @@ use mathlib.Core.Path.{_≡_, refl, sym, _∙_}
 use mathlib.Core.List.{List}
 use native.Mathlib.Omega.{arith}
 use lib.ListN.{length, take}
+use Rattle.table.specs.Record.{nodeSize, ruleSize}
 use Rattle.table.proofs.Rules.{length-nodes, length-records}
 use Rattle.structure.specs.declared.Level.the-variants.{Tagged}
 use Rattle.structure.specs.declared.Refusal.{Refusal}
@@ -11,6 +12,7 @@ use Rattle.build.specs.Rules.{rulesRead}
 use Rattle.reader.specs.declared.Reading.{Reading}
 use Rattle.reader.specs.declared.Reading.the-variants as Reading
 use Rattle.reader.specs.Read.{roomForNodes, roomForRules, readOf, numberOf, reported}
+use Rattle.reader.specs.Lines.{lineIn}
 use Rattle.reader.proofs.Counts.{read-counts}
 use Rattle.replies.specs.declared.Found.{Found}
 use Rattle.replies.specs.declared.Found.the-variants as Found
@@ -25,7 +27,7 @@ module _ (s ns rs st : List ℕ) (a : Reading) (ns′ rs′ st′ : List ℕ) (p
   unfolding layoutOf reported
   layout-refused q e = rw e (sym (by-refused _ Layout.Refused (sym (p .0) ∙ q)))
 
-  pub layout-read : {x y z : ℕ} {t : Layout} → a ≡ Reading.Read x y z → t ≡ layoutIn (take (6 * x) ns′) (take (6 * y) rs′) (take z st′) name
+  pub layout-read : {x y z : ℕ} {t : Layout} → a ≡ Reading.Read x y z → t ≡ layoutIn (take (nodeSize * x) ns′) (take (ruleSize * y) rs′) (take z st′) name
       → t ≡ layoutOf s name (roomForNodes ns) (roomForRules rs) (length st)
   unfolding layoutOf reported
   layout-read q e =
@@ -53,7 +55,7 @@ module _ {a b c k : ℕ} where
         let us = rulesRead Tagged s in
         let t = read-counts Tagged s (roomForNodes ns) (roomForRules rs) (length st) q in
         let (n, r, m) = sizes-by _ _ _ _ (sym (by-read _ Layout.Refused q) ∙ e) in
-        let u = length-nodes 0 0 us in
+        let u = length-nodes (lineIn s) 0 0 us in
         let v = length-records 0 0 us in
         (omega arith, (omega arith, omega arith))
 

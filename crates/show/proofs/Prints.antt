@@ -33,7 +33,7 @@ use Rattle.show.specs.declared.Answer.{Answer}
 use Rattle.show.specs.declared.Answer.the-variants as Answer
 use Rattle.show.specs.declared.Layout.the-variants as Layout
 use Rattle.show.specs.declared.Shown.the-variants.{Text}
-use Rattle.show.specs.Desk.{reading, printing, textOf, printed, answerOf, shownBy, deskOf, leftBy, deskIn, printedText, Tellable, LineWritten}
+use Rattle.show.specs.Desk.{reading, printing, printed, answerOf, shownBy, deskOf, leftBy, deskIn, printedText, Tellable, LineWritten}
 use Rattle.show.specs.Layout.{layoutBy, layoutIn, layoutOf}
 use Rattle.show.proofs.Fronts.{by-read, by-refused}
 
@@ -50,7 +50,7 @@ by-room false k = refl
 
 module _ (style : Style) (s : List ℕ) where
   put-by : {x y z : ℕ} (m : ℕ) → Read.readOf Tagged s 2048 maxRules maxStore ≡ Reading.Read x y z → answerOf style s m ≡ Put (printedText style s) m
-  unfolding answerOf reading Read.reported printing Printer.reported textOf
+  unfolding answerOf reading Read.reported printing Printer.reported printedText
   put-by m e =
       by-read _ Answer.Refused e ∙ rw (read-good Tagged s 2048 maxRules maxStore e (omega arith) (omega arith)) (by-room (leb (length (printedText style s)) m) (length (printedText style s)))
 

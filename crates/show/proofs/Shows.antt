@@ -10,12 +10,13 @@ use borrow.Author.Tests.{leb-true}
 use Rattle.text.specs.Booleans.{choose}
 use Rattle.text.specs.declared.Put.{Put}
 use Rattle.text.specs.declared.Put.the-variants as Put
-use Rattle.table.specs.Tree.{Span, Rule, rulesStored}
+use Rattle.table.specs.Tree.{rulesStored}
 use Rattle.table.specs.declared.TableCheck.{TableCheck}
 use Rattle.table.specs.declared.TableCheck.the-variants as Table
 use Rattle.table.specs.Flat.{nodesOf, recordsOf}
 use Rattle.table.specs.Check.{tables}
 use Rattle.structure.specs.declared.Level.the-variants.{Tagged}
+use Rattle.reader.specs.Lines.{lineIn}
 use Rattle.build.specs.Rules.{rulesRead}
 use Rattle.forms.specs.declared.Style.{Style}
 use Rattle.printer.specs.Answers as Printer
@@ -63,11 +64,13 @@ room-fits : (b : Bool) (k n : ℕ) → (b ≡ true → k ≤ n) → choose {A = 
 room-fits true k n h = h refl
 room-fits false k n h = omega arith
 
-used-fits : (style : Style) (us : List (Rule Span)) (n : ℕ) → printing style us n .used ≤ n
+used-fits : (style : Style) (s : List ℕ) (n : ℕ) → printing style s n .used ≤ n
 unfolding printing Printer.reported
-used-fits style us n =
-    by-tables (tables (nodesOf us) (recordsOf us) (rulesStored us)) _ n
-    (room-fits (leb (length (Printer.tableText style (nodesOf us) (recordsOf us) (rulesStored us))) n) _ n (leb-true _ n))
+used-fits style s n =
+    let us = rulesRead Tagged s in
+    let ns = nodesOf (lineIn s) us in
+    by-tables (tables ns (recordsOf us) (rulesStored us)) _ n
+    (room-fits (leb (length (Printer.tableText style ns (recordsOf us) (rulesStored us))) n) _ n (leb-true _ n))
 
 put-fits : (b : Bool) (k n : ℕ) → (b ≡ true → k ≤ n) → Fits (refusedBy (choose b (λ u. Put.Wrote k) (λ u. Put.NoRoom))) n
 unfolding refusedBy
@@ -86,9 +89,8 @@ by-either false x y m h g = g
 pub desk-fits : (style : Style) (s : List ℕ) (m : ℕ) → Fits (deskOf style s m) m
 unfolding deskOf answerOf printed shownBy
 desk-fits style s m =
-    let us = rulesRead Tagged s in
     by-either (eqb (reading s .number) 0) _ _ m
-    (by-either (eqb (printing style us m .number) 0) _ _ m (used-fits style us m) (refusal-fits _ _ m)) (refusal-fits _ _ m)
+    (by-either (eqb (printing style s m .number) 0) _ _ m (used-fits style s m) (refusal-fits _ _ m)) (refusal-fits _ _ m)
 
 -- and still does after the call
 pub fits-after : (style : Style) (s : List ℕ) {x : Shown} (k : ℕ) (o : List ℕ) → x ≡ deskOf style s k → length o ≡ k → Fits x (length o)

@@ -8,10 +8,11 @@ use lib.ListN.{length}
 use Rattle.text.specs.Limits.{maxRules, maxStore}
 use Rattle.text.specs.Booleans.{choose}
 use Rattle.text.specs.Splice.{fronted}
-use Rattle.table.specs.Tree.{Span, Rule, rulesStored}
+use Rattle.table.specs.Tree.{rulesStored}
 use Rattle.table.specs.Flat.{nodesOf, recordsOf}
 use Rattle.structure.specs.declared.Level.the-variants.{Tagged}
 use Rattle.reader.specs.Read as Read
+use Rattle.reader.specs.Lines.{lineIn}
 use Rattle.build.specs.Rules as Built
 use Rattle.forms.specs.declared.Style.{Style}
 use Rattle.printer.specs.Answers as Answers
@@ -26,13 +27,15 @@ use Rattle.show.specs.Shown.{refusedBy}
 unfoldable pub reading : List ℕ → Read.Numbered
 reading s = Read.reported Tagged s 2048 maxRules maxStore
 
--- the printing of rules in a style, to an output of m bytes
-unfoldable pub printing : Style → List (Rule Span) → ℕ → Answers.Numbered
-printing style us m = Answers.reported style (nodesOf us) (recordsOf us) (rulesStored us) m
+-- the printing of a text's rules in a style, to an output of m bytes
+unfoldable pub printing : Style → List ℕ → ℕ → Answers.Numbered
+printing style s m =
+    Answers.reported style (nodesOf (lineIn s) (Built.rulesRead Tagged s)) (recordsOf (Built.rulesRead Tagged s)) (rulesStored (Built.rulesRead Tagged s)) m
 
--- the text of rules
-unfoldable pub textOf : Style → List (Rule Span) → List ℕ
-textOf style us = Answers.tableText style (nodesOf us) (recordsOf us) (rulesStored us)
+-- the text that they are printed as
+unfoldable pub printedText : Style → List ℕ → List ℕ
+printedText style s =
+    Answers.tableText style (nodesOf (lineIn s) (Built.rulesRead Tagged s)) (recordsOf (Built.rulesRead Tagged s)) (rulesStored (Built.rulesRead Tagged s))
 
 -- bytes printed, or a refusal
 unfoldable pub printed : Answers.Numbered → Answer
@@ -41,11 +44,11 @@ printed p = choose (eqb (p .number) 0) (λ u. Answer.Printed (p .used)) (λ u. A
 -- the refusal of the reading; else what the printing of its rules gives
 unfoldable pub answerOf : Style → List ℕ → ℕ → Answer
 answerOf style s m =
-    choose (eqb (reading s .number) 0) (λ u. printed (printing style (Built.rulesRead Tagged s) m)) (λ u. Answer.Refused (reading s .number) (reading s .place))
+    choose (eqb (reading s .number) 0) (λ u. printed (printing style s m)) (λ u. Answer.Refused (reading s .number) (reading s .place))
 
 -- what the printing leaves in the output: a refused text leaves it alone
 unfoldable pub answerIn : Style → List ℕ → List ℕ → Answer → List ℕ
-answerIn style s o (Answer.Printed n) = fronted (textOf style (Built.rulesRead Tagged s)) o
+answerIn style s o (Answer.Printed n) = fronted (printedText style s) o
 answerIn style s o (Answer.Refused n p) = o
 
 -- what is answered for an output of m bytes: the text's bytes, or those of the refusal's line
@@ -58,15 +61,11 @@ deskOf style s m = shownBy (answerOf style s m) m
 
 -- what it leaves in the output: the text, or the refusal's line, at its front
 unfoldable pub leftBy : Style → List ℕ → List ℕ → Answer → List ℕ
-leftBy style s o (Answer.Printed n) = fronted (textOf style (Built.rulesRead Tagged s)) o
+leftBy style s o (Answer.Printed n) = fronted (printedText style s) o
 leftBy style s o (Answer.Refused n p) = refusalIn n p o (refusalPut n p (length o))
 
 unfoldable pub deskIn : Style → List ℕ → List ℕ → List ℕ
 deskIn style s o = leftBy style s o (answerOf style s (length o))
-
--- the text that the rules of a text are printed as
-abbrev pub printedText : Style → List ℕ → List ℕ
-printedText style s = textOf style (Built.rulesRead Tagged s)
 
 -- a refusal's number that is one of the reader's, or 23
 abbrev pub Tellable : ℕ → Type 0

@@ -8,6 +8,7 @@ use Rattle.table.specs.Tree.{rulesStored}
 use Rattle.table.specs.Flat.{nodesOf, recordsOf}
 use Rattle.structure.specs.declared.Level.the-variants.{Tagged}
 use Rattle.reader.specs.Read as Read
+use Rattle.reader.specs.Lines.{lineIn}
 use Rattle.build.specs.Rules as Built
 use Rattle.replies.specs.declared.Answer.the-variants as Answer
 use Rattle.replies.specs.declared.Row.{Row}
@@ -35,5 +36,5 @@ layoutIn ns rs st name = layoutBy (length ns) (length rs) (length st) (foundOf n
 unfoldable pub layoutOf : List ℕ → List ℕ → ℕ → ℕ → ℕ → Layout
 layoutOf s name n r b =
     choose (eqb (Read.reported Tagged s n r b .number) 0)
-    (λ u. layoutIn (nodesOf (Built.rulesRead Tagged s)) (recordsOf (Built.rulesRead Tagged s)) (rulesStored (Built.rulesRead Tagged s)) name)
+    (λ u. layoutIn (nodesOf (lineIn s) (Built.rulesRead Tagged s)) (recordsOf (Built.rulesRead Tagged s)) (rulesStored (Built.rulesRead Tagged s)) name)
     (λ u. Refused (Read.reported Tagged s n r b .number) (Read.reported Tagged s n r b .place))

@@ -29,9 +29,9 @@ pub record Recorded (ns : List ℕ) (i : ℕ) (s : Span) (x : Node) : Type 0 whe
 pub span-is : (s : Span) (a z : ℕ) → a ≡ s .start → z ≡ s .stop → _≡_ {A = Span} (record { start = a; stop = z }) s
 span-is s a z e f = ap (λ (x : ℕ). record { start = x; stop = z }) e ∙ ap (λ (x : ℕ). record { start = s .start; stop = x }) f
 
-numbers-at : (ns : List ℕ) (i : ℕ) (s : Span) (x : Numbers) → Held ns (nodeSize * i) (nodeRecord s x) → (spanAt ns i ≡ s) × (nodeAt ns i ≡ nodeOf (x .kind) (x .p) (x .q) (x .r))
+numbers-at : (line : ℕ → ℕ) (ns : List ℕ) (i : ℕ) (s : Span) (x : Numbers) → Held ns (nodeSize * i) (nodeRecord line s x) → (spanAt ns i ≡ s) × (nodeAt ns i ≡ nodeOf (x .kind) (x .p) (x .q) (x .r))
 unfolding spanAt nodeAt
-numbers-at ns i s x h =
+numbers-at line ns i s x h =
     let e₀ : getD ns (nodeSize * i) 0 ≡ x .kind = held-at 0 (nodeSize * i) h (omega arith) in
     let e₃ : getD ns (nodeSize * i + 3) 0 ≡ x .p = held-at 3 (nodeSize * i + 3) h refl in
     let e₄ : getD ns (nodeSize * i + 4) 0 ≡ x .q = held-at 4 (nodeSize * i + 4) h refl in
@@ -63,25 +63,25 @@ numbers-back (Two Seq a b) = refl
 numbers-back (Two Choice a b) = refl
 numbers-back Unknown = refl
 
-pub recorded : (ns : List ℕ) (i : ℕ) (s : Span) (x : Node) → Held ns (nodeSize * i) (recordOf s x) → Recorded ns i s x
-recorded ns i s x h = let e = numbers-at ns i s (numbersOf x) h in record { span = e .0; node = e .1 ∙ numbers-back x }
+pub recorded : (line : ℕ → ℕ) (ns : List ℕ) (i : ℕ) (s : Span) (x : Node) → Held ns (nodeSize * i) (recordOf line s x) → Recorded ns i s x
+recorded line ns i s x h = let e = numbers-at line ns i s (numbersOf x) h in record { span = e .0; node = e .1 ∙ numbers-back x }
 
 -- ---- a tree
 
-pub length-flat : (i at : ℕ) (t : Tree Span) → length (flat i at t) ≡ nodeSize * count t
+pub length-flat : (line : ℕ → ℕ) (i at : ℕ) (t : Tree Span) → length (flat line i at t) ≡ nodeSize * count t
 unfolding flat below
-length-flat i at (leaf s a) = refl
-length-flat i at (one s o t) =
-    length-append (flat i (at + length (wrapStored o)) t) (recordOf s (One (opAt at o) (i + below t)))
-    ∙ omega (arith, length-flat i (at + length (wrapStored o)) t)
-length-flat i at (two s j a b) =
-    let r = recordOf s (Two j (i + below a) (i + count a + below b)) in
-    length-append (flat i at a) (flat (i + count a) (at + size a) b ++ r)
+length-flat line i at (leaf s a) = refl
+length-flat line i at (one s o t) =
+    length-append (flat line i (at + length (wrapStored o)) t) (recordOf line s (One (opAt at o) (i + below t)))
+    ∙ omega (arith, length-flat line i (at + length (wrapStored o)) t)
+length-flat line i at (two s j a b) =
+    let r = recordOf line s (Two j (i + below a) (i + count a + below b)) in
+    length-append (flat line i at a) (flat line (i + count a) (at + size a) b ++ r)
     ∙ omega (
       arith,
-      length-append (flat (i + count a) (at + size a) b) r,
-      length-flat i at a,
-      length-flat (i + count a) (at + size a) b,
+      length-append (flat line (i + count a) (at + size a) b) r,
+      length-flat line i at a,
+      length-flat line (i + count a) (at + size a) b,
     )
 
 pub atom-back : (st : List ℕ) (at : ℕ) (a : Atom) → Held st at (atomStored a) → atomOf st (leafAt at a) ≡ a
@@ -94,94 +94,94 @@ wrap-back st at (plain u) h = refl
 wrap-back st at (nodeTag b) h = ap nodeTag (held-part h)
 
 -- a tree's records end with its root's, whose span alone tells its place
-pub flat-root : (i at : ℕ) (s : Span) (t : Tree Span) → flat i at (placed s t) ≡ front i at t ++ recordOf s (rootNode i at t)
+pub flat-root : (line : ℕ → ℕ) (i at : ℕ) (s : Span) (t : Tree Span) → flat line i at (placed s t) ≡ front line i at t ++ recordOf line s (rootNode i at t)
 unfolding flat front
-flat-root i at s (leaf _ a) = refl
-flat-root i at s (one _ o t) = refl
-flat-root i at s (two _ j a b) =
-    sym (append-assoc (flat i at a) (flat (i + count a) (at + size a) b) (recordOf s (Two j (i + below a) (i + count a + below b))))
+flat-root line i at s (leaf _ a) = refl
+flat-root line i at s (one _ o t) = refl
+flat-root line i at s (two _ j a b) =
+    sym (append-assoc (flat line i at a) (flat line (i + count a) (at + size a) b) (recordOf line s (Two j (i + below a) (i + count a + below b))))
 
 pub placed-same : {P : Type 0} (t : Tree P) → placed (placeOf t) t ≡ t
 placed-same (leaf s a) = refl
 placed-same (one s o t) = refl
 placed-same (two s j a b) = refl
 
-pub flat-own : (i at : ℕ) (t : Tree Span) → flat i at t ≡ front i at t ++ recordOf (placeOf t) (rootNode i at t)
-flat-own i at t = ap (flat i at) (sym (placed-same t)) ∙ flat-root i at (placeOf t) t
+pub flat-own : (line : ℕ → ℕ) (i at : ℕ) (t : Tree Span) → flat line i at t ≡ front line i at t ++ recordOf line (placeOf t) (rootNode i at t)
+flat-own line i at t = ap (flat line i at) (sym (placed-same t)) ∙ flat-root line i at (placeOf t) t
 
-pub length-front : (i at : ℕ) (t : Tree Span) → length (front i at t) ≡ nodeSize * below t
-length-front i at t =
-    let e = ap length (flat-own i at t) in
-    omega (arith, length-flat i at t, length-append (front i at t) (recordOf (placeOf t) (rootNode i at t)))
+pub length-front : (line : ℕ → ℕ) (i at : ℕ) (t : Tree Span) → length (front line i at t) ≡ nodeSize * below t
+length-front line i at t =
+    let e = ap length (flat-own line i at t) in
+    omega (arith, length-flat line i at t, length-append (front line i at t) (recordOf line (placeOf t) (rootNode i at t)))
 
 -- a table that has a tree's records from index i on, and a store that has its texts from an offset on
-pub record Holds (ns st : List ℕ) (i at : ℕ) (t : Tree Span) : Type 0 where
-  pub table : Held ns (nodeSize * i) (flat i at t)
+pub record Holds (line : ℕ → ℕ) (ns st : List ℕ) (i at : ℕ) (t : Tree Span) : Type 0 where
+  pub table : Held ns (nodeSize * i) (flat line i at t)
   pub store : Held st at (stored t)
 
-module _ {ns st : List ℕ} {i at : ℕ} where
-  pub leaf-recorded : {s : Span} {a : Atom} → Holds ns st i at (leaf s a) → Recorded ns i s (Tip (leafAt at a))
+module _ {line : ℕ → ℕ} {ns st : List ℕ} {i at : ℕ} where
+  pub leaf-recorded : {s : Span} {a : Atom} → Holds line ns st i at (leaf s a) → Recorded ns i s (Tip (leafAt at a))
   unfolding flat
-  leaf-recorded {s} {a} h = recorded ns i s (Tip (leafAt at a)) (h .table)
+  leaf-recorded {s} {a} h = recorded line ns i s (Tip (leafAt at a)) (h .table)
 
-  pub leaf-text : {s : Span} {a : Atom} → Holds ns st i at (leaf s a) → Held st at (atomStored a)
+  pub leaf-text : {s : Span} {a : Atom} → Holds line ns st i at (leaf s a) → Held st at (atomStored a)
   unfolding stored
   leaf-text h = h .store
 
-  module _ {s : Span} {o : Wrap} {t : Tree Span} (h : Holds ns st i at (one s o t)) where
-    pub one-part : Holds ns st i (at + length (wrapStored o)) t
+  module _ {s : Span} {o : Wrap} {t : Tree Span} (h : Holds line ns st i at (one s o t)) where
+    pub one-part : Holds line ns st i (at + length (wrapStored o)) t
     unfolding flat stored
     one-part = record {
-      table = held-left (flat i (at + length (wrapStored o)) t) (recordOf s (One (opAt at o) (i + below t))) (h .table);
+      table = held-left (flat line i (at + length (wrapStored o)) t) (recordOf line s (One (opAt at o) (i + below t))) (h .table);
       store = held-right (at + length (wrapStored o)) (wrapStored o) (stored t) refl (h .store);
     }
 
     pub one-recorded : Recorded ns (i + count t) s (One (opAt at o) (i + below t))
     unfolding flat
-    one-recorded = recorded ns (i + count t) s (One (opAt at o) (i + below t))
-        (held-right (nodeSize * (i + count t)) (flat i (at + length (wrapStored o)) t) (recordOf s (One (opAt at o) (i + below t)))
-        (omega (arith, length-flat i (at + length (wrapStored o)) t)) (h .table))
+    one-recorded = recorded line ns (i + count t) s (One (opAt at o) (i + below t))
+        (held-right (nodeSize * (i + count t)) (flat line i (at + length (wrapStored o)) t) (recordOf line s (One (opAt at o) (i + below t)))
+        (omega (arith, length-flat line i (at + length (wrapStored o)) t)) (h .table))
 
     pub one-text : Held st at (wrapStored o)
     unfolding stored
     one-text = held-left (wrapStored o) (stored t) (h .store)
 
-  module _ {s : Span} {j : Join} {a b : Tree Span} (h : Holds ns st i at (two s j a b)) where
-    later : Held ns (nodeSize * (i + count a)) (flat (i + count a) (at + size a) b ++ recordOf s (Two j (i + below a) (i + count a + below b)))
+  module _ {s : Span} {j : Join} {a b : Tree Span} (h : Holds line ns st i at (two s j a b)) where
+    later : Held ns (nodeSize * (i + count a)) (flat line (i + count a) (at + size a) b ++ recordOf line s (Two j (i + below a) (i + count a + below b)))
     unfolding flat
-    later = held-right (nodeSize * (i + count a)) (flat i at a) (flat (i + count a) (at + size a) b ++ recordOf s (Two j (i + below a) (i + count a + below b)))
-        (omega (arith, length-flat i at a)) (h .table)
+    later = held-right (nodeSize * (i + count a)) (flat line i at a) (flat line (i + count a) (at + size a) b ++ recordOf line s (Two j (i + below a) (i + count a + below b)))
+        (omega (arith, length-flat line i at a)) (h .table)
 
-    pub left-part : Holds ns st i at a
+    pub left-part : Holds line ns st i at a
     unfolding flat stored
     left-part = record {
-      table = held-left (flat i at a) (flat (i + count a) (at + size a) b ++ recordOf s (Two j (i + below a) (i + count a + below b))) (h .table);
+      table = held-left (flat line i at a) (flat line (i + count a) (at + size a) b ++ recordOf line s (Two j (i + below a) (i + count a + below b))) (h .table);
       store = held-left (stored a) (stored b) (h .store);
     }
 
-    pub right-part : Holds ns st (i + count a) (at + size a) b
+    pub right-part : Holds line ns st (i + count a) (at + size a) b
     unfolding stored
     right-part = record {
-      table = held-left (flat (i + count a) (at + size a) b) (recordOf s (Two j (i + below a) (i + count a + below b))) later;
+      table = held-left (flat line (i + count a) (at + size a) b) (recordOf line s (Two j (i + below a) (i + count a + below b))) later;
       store = held-right (at + size a) (stored a) (stored b) refl (h .store);
     }
 
     pub two-recorded : Recorded ns (i + count a + count b) s (Two j (i + below a) (i + count a + below b))
-    two-recorded = recorded ns (i + count a + count b) s (Two j (i + below a) (i + count a + below b))
-        (held-right (nodeSize * (i + count a + count b)) (flat (i + count a) (at + size a) b) (recordOf s (Two j (i + below a) (i + count a + below b)))
-        (omega (arith, length-flat (i + count a) (at + size a) b)) later)
+    two-recorded = recorded line ns (i + count a + count b) s (Two j (i + below a) (i + count a + below b))
+        (held-right (nodeSize * (i + count a + count b)) (flat line (i + count a) (at + size a) b) (recordOf line s (Two j (i + below a) (i + count a + below b)))
+        (omega (arith, length-flat line (i + count a) (at + size a) b)) later)
 
 -- a table that has a tree's records has the tree
-pub lies-flat : {ns st : List ℕ} (i at : ℕ) (t : Tree Span) → Holds ns st i at t → Lies ns st i t
-lies-flat {ns} {st} i at (leaf s a) h =
+pub lies-flat : {line : ℕ → ℕ} {ns st : List ℕ} (i at : ℕ) (t : Tree Span) → Holds line ns st i at t → Lies ns st i t
+lies-flat {line} {ns} {st} i at (leaf s a) h =
     let r = leaf-recorded h in
     (r .span, row-is ns st i (r .node) ∙ ap tip (atom-back st at a (leaf-text h)))
-lies-flat {ns} {st} i at (one s o t) h =
+lies-flat {line} {ns} {st} i at (one s o t) h =
     let r = one-recorded h in (
       lies-flat i (at + length (wrapStored o)) t (one-part h),
       r .span,
       row-is ns st (i + count t) (r .node) ∙ ap (λ x. wrap x (i + below t)) (wrap-back st at o (one-text h)),
     )
-lies-flat {ns} {st} i at (two s j a b) h =
+lies-flat {line} {ns} {st} i at (two s j a b) h =
     let r = two-recorded h in
     (lies-flat i at a (left-part h), lies-flat (i + count a) (at + size a) b (right-part h), r .span, row-is ns st (i + count a + count b) (r .node))

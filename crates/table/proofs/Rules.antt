@@ -22,12 +22,12 @@ use Rattle.table.proofs.Trees.{lies-tree, lies-alike, read, flat-first,
 
 -- ---- lengths
 
-pub length-nodes : (i at : ℕ) (us : List (Rule Span)) → length (nodesFrom i at us) ≡ nodeSize * counts us
+pub length-nodes : (line : ℕ → ℕ) (i at : ℕ) (us : List (Rule Span)) → length (nodesFrom line i at us) ≡ nodeSize * counts us
 unfolding nodesFrom counts
-length-nodes i at [] = refl
-length-nodes i at (r ∷ us) =
-    length-append (flat i (at + length (r .name)) (r .tree)) (nodesFrom (i + count (r .tree)) (at + length (ruleStored r)) us)
-    ∙ omega (arith, length-flat i (at + length (r .name)) (r .tree), length-nodes (i + count (r .tree)) (at + length (ruleStored r)) us)
+length-nodes line i at [] = refl
+length-nodes line i at (r ∷ us) =
+    length-append (flat line i (at + length (r .name)) (r .tree)) (nodesFrom line (i + count (r .tree)) (at + length (ruleStored r)) us)
+    ∙ omega (arith, length-flat line i (at + length (r .name)) (r .tree), length-nodes line (i + count (r .tree)) (at + length (ruleStored r)) us)
 
 pub length-rule : (at root : ℕ) (r : Rule Span) → length (ruleRecord at root r) ≡ ruleSize
 unfolding ruleRecord
@@ -61,15 +61,15 @@ rule-recorded rs k at root r h = record {
 }
 
 -- tables that have the records of rules from index k on, their nodes from index i on, and their texts from an offset on
-pub record RulesHold (ns rs st : List ℕ) (k i at : ℕ) (us : List (Rule Span)) : Type 0 where
-  pub nodes : Held ns (nodeSize * i) (nodesFrom i at us)
+pub record RulesHold (line : ℕ → ℕ) (ns rs st : List ℕ) (k i at : ℕ) (us : List (Rule Span)) : Type 0 where
+  pub nodes : Held ns (nodeSize * i) (nodesFrom line i at us)
   pub records : Held rs (ruleSize * k) (recordsFrom i at us)
   pub store : Held st at (rulesStored us)
 
-pub flat-holds : (us : List (Rule Span)) → RulesHold (nodesOf us) (recordsOf us) (rulesStored us) 0 0 0 us
-flat-holds us = record { nodes = held-whole (nodesOf us); records = held-whole (recordsOf us); store = held-whole (rulesStored us) }
+pub flat-holds : (line : ℕ → ℕ) (us : List (Rule Span)) → RulesHold line (nodesOf line us) (recordsOf us) (rulesStored us) 0 0 0 us
+flat-holds line us = record { nodes = held-whole (nodesOf line us); records = held-whole (recordsOf us); store = held-whole (rulesStored us) }
 
-module _ {ns rs st : List ℕ} {k i at : ℕ} {r : Rule Span} {us : List (Rule Span)} (h : RulesHold ns rs st k i at (r ∷ us)) where
+module _ {line : ℕ → ℕ} {ns rs st : List ℕ} {k i at : ℕ} {r : Rule Span} {us : List (Rule Span)} (h : RulesHold line ns rs st k i at (r ∷ us)) where
   first-record : RuleRecorded rs k at (i + below (r .tree)) r
   unfolding recordsFrom
   first-record = rule-recorded rs k at (i + below (r .tree)) r
@@ -83,18 +83,18 @@ module _ {ns rs st : List ℕ} {k i at : ℕ} {r : Rule Span} {us : List (Rule S
   unfolding ruleStored
   first-name = held-left (r .name) (stored (r .tree)) first-store
 
-  first-tree : Holds ns st i (at + length (r .name)) (r .tree)
+  first-tree : Holds line ns st i (at + length (r .name)) (r .tree)
   unfolding nodesFrom ruleStored
   first-tree = record {
-    table = held-left (flat i (at + length (r .name)) (r .tree)) (nodesFrom (i + count (r .tree)) (at + length (ruleStored r)) us) (h .nodes);
+    table = held-left (flat line i (at + length (r .name)) (r .tree)) (nodesFrom line (i + count (r .tree)) (at + length (ruleStored r)) us) (h .nodes);
     store = held-right (at + length (r .name)) (r .name) (stored (r .tree)) refl first-store;
   }
 
-  later-rules : RulesHold ns rs st (suc k) (i + count (r .tree)) (at + length (ruleStored r)) us
+  later-rules : RulesHold line ns rs st (suc k) (i + count (r .tree)) (at + length (ruleStored r)) us
   unfolding nodesFrom recordsFrom rulesStored
   later-rules = record {
-    nodes = held-right (nodeSize * (i + count (r .tree))) (flat i (at + length (r .name)) (r .tree)) (nodesFrom (i + count (r .tree)) (at + length (ruleStored r)) us)
-        (omega (arith, length-flat i (at + length (r .name)) (r .tree))) (h .nodes);
+    nodes = held-right (nodeSize * (i + count (r .tree))) (flat line i (at + length (r .name)) (r .tree)) (nodesFrom line (i + count (r .tree)) (at + length (ruleStored r)) us)
+        (omega (arith, length-flat line i (at + length (r .name)) (r .tree))) (h .nodes);
     records = held-right (ruleSize * suc k) (ruleRecord at (i + below (r .tree)) r) (recordsFrom (i + count (r .tree)) (at + length (ruleStored r)) us)
         (omega (arith, length-rule at (i + below (r .tree)) r)) (h .records);
     store = held-right (at + length (ruleStored r)) (ruleStored r) (rulesStored us) refl (h .store);
@@ -110,12 +110,12 @@ row-as {x} {y} a b c d =
     ∙ ap (λ z. record { name = y .name; mark = y .mark; root = z; span = x .span }) c
     ∙ ap (λ z. record { name = y .name; mark = y .mark; root = y .root; span = z }) d
 
-rule-row-back : {ns rs st : List ℕ} {k i at : ℕ} {r : Rule Span} {us : List (Rule Span)} → RulesHold ns rs st k i at (r ∷ us) → ruleRowAt rs st k ≡ ruleRow i r
+rule-row-back : {line : ℕ → ℕ} {ns rs st : List ℕ} {k i at : ℕ} {r : Rule Span} {us : List (Rule Span)} → RulesHold line ns rs st k i at (r ∷ us) → ruleRowAt rs st k ≡ ruleRow i r
 unfolding ruleRowAt
 rule-row-back h = let c = first-record h in row-as (name-back h) (c .marked) (c .rooted) (c .spanned)
 
 -- tables that have the records of rules have the rules
-pub rules-lie-flat : (ns rs st : List ℕ) (k i at : ℕ) (us : List (Rule Span)) → RulesHold ns rs st k i at us → RulesLie ns rs st k i us
+pub rules-lie-flat : {line : ℕ → ℕ} (ns rs st : List ℕ) (k i at : ℕ) (us : List (Rule Span)) → RulesHold line ns rs st k i at us → RulesLie ns rs st k i us
 rules-lie-flat ns rs st k i at [] h = tt
 rules-lie-flat ns rs st k i at (r ∷ us) h = (
   rule-row-back h,
@@ -179,22 +179,22 @@ module _ (ns rs st ns′ rs′ st′ : List ℕ) where
 records-in : (us : List (Rule Span)) → rulesIn (recordsOf us) ≡ length us
 records-in us = omega (arith, length-records 0 0 us)
 
-nodes-in : (us : List (Rule Span)) → nodesIn (nodesOf us) ≡ counts us
-nodes-in us = omega (arith, length-nodes 0 0 us)
+nodes-in : (line : ℕ → ℕ) (us : List (Rule Span)) → nodesIn (nodesOf line us) ≡ counts us
+nodes-in line us = omega (arith, length-nodes line 0 0 us)
 
-pub flat-lie : (us : List (Rule Span)) → RulesLie (nodesOf us) (recordsOf us) (rulesStored us) 0 0 us
-flat-lie us = rules-lie-flat (nodesOf us) (recordsOf us) (rulesStored us) 0 0 0 us (flat-holds us)
+pub flat-lie : (line : ℕ → ℕ) (us : List (Rule Span)) → RulesLie (nodesOf line us) (recordsOf us) (rulesStored us) 0 0 us
+flat-lie line us = rules-lie-flat (nodesOf line us) (recordsOf us) (rulesStored us) 0 0 0 us (flat-holds line us)
 
 -- the tables of rules are read back as the rules
-pub flat-back : (us : List (Rule Span)) → rulesOf (nodesOf us) (recordsOf us) (rulesStored us) ≡ us
+pub flat-back : (line : ℕ → ℕ) (us : List (Rule Span)) → rulesOf (nodesOf line us) (recordsOf us) (rulesStored us) ≡ us
 unfolding rulesOf
-flat-back us =
-    ap (rulesFrom (nodesOf us) (recordsOf us) (rulesStored us) 0) (records-in us)
-    ∙ rules-back (nodesOf us) (recordsOf us) (rulesStored us) 0 0 us (flat-lie us)
+flat-back line us =
+    ap (rulesFrom (nodesOf line us) (recordsOf us) (rulesStored us) 0) (records-in us)
+    ∙ rules-back (nodesOf line us) (recordsOf us) (rulesStored us) 0 0 us (flat-lie line us)
 
 -- the records of fine rules aren't false
-module _ (ns rs st : List ℕ) where
-  nodes-good : (k i at : ℕ) (us : List (Rule Span)) → RulesHold ns rs st k i at us → fineRules us ≡ true
+module _ {line : ℕ → ℕ} (ns rs st : List ℕ) where
+  nodes-good : (k i at : ℕ) (us : List (Rule Span)) → RulesHold line ns rs st k i at us → fineRules us ≡ true
       → (m : ℕ) → i ≤ m → m < i + counts us → goodAt ns st m ≡ true
   unfolding counts fineRules fineRule
   nodes-good k i at [] h f m l u = absurd (omega arith)
@@ -206,7 +206,7 @@ module _ (ns rs st : List ℕ) where
       (λ y. nodes-good (suc k) (i + count (r .tree)) (at + length (ruleStored r)) us (later-rules h) (g .1) m y (omega arith))
       (lt-or-ge m (i + count (r .tree)))
 
-  rule-good : (k i at : ℕ) (r : Rule Span) (us : List (Rule Span)) → RulesHold ns rs st k i at (r ∷ us) → fineRule r ≡ true → beginAt rs k ≡ i → i + count (r .tree) ≤ nodesIn ns
+  rule-good : (k i at : ℕ) (r : Rule Span) (us : List (Rule Span)) → RulesHold line ns rs st k i at (r ∷ us) → fineRule r ≡ true → beginAt rs k ≡ i → i + count (r .tree) ≤ nodesIn ns
       → goodRule ns rs st k ≡ true
   unfolding goodRule goodName goodRoot fineRule
   rule-good k i at r us h f b n =
@@ -219,7 +219,7 @@ module _ (ns rs st : List ℕ) where
       (and-both _ _ (lt-ltb (rootAt rs k) (nodesIn ns) (omega (arith, c .rooted)))
       (eq-eqb (firstAt ns (rootAt rs k)) (beginAt rs k) (flat-first i (at + length (r .name)) (r .tree) (rootAt rs k) (c .rooted) (first-tree h) ∙ sym b))))
 
-  rules-good : (k i at : ℕ) (us : List (Rule Span)) → RulesHold ns rs st k i at us → fineRules us ≡ true → beginAt rs k ≡ i → i + counts us ≤ nodesIn ns
+  rules-good : (k i at : ℕ) (us : List (Rule Span)) → RulesHold line ns rs st k i at us → fineRules us ≡ true → beginAt rs k ≡ i → i + counts us ≤ nodesIn ns
       → (m : ℕ) → k ≤ m → m < k + length us → goodRule ns rs st m ≡ true
   unfolding counts fineRules
   rules-good k i at [] h f b n m l u = absurd (omega arith)
@@ -231,7 +231,7 @@ module _ (ns rs st : List ℕ) where
       (eq-or-lt-of-le l)
 
   -- the last of them ends with the last node
-  begin-last : (k i at : ℕ) (us : List (Rule Span)) → RulesHold ns rs st k i at us → beginAt rs k ≡ i → beginAt rs (k + length us) ≡ i + counts us
+  begin-last : (k i at : ℕ) (us : List (Rule Span)) → RulesHold line ns rs st k i at us → beginAt rs k ≡ i → beginAt rs (k + length us) ≡ i + counts us
   unfolding counts
   begin-last k i at [] h b = let z : k + 0 ≡ k = omega arith in rw z (omega arith)
   begin-last k i at (r ∷ us) h b =
@@ -239,23 +239,23 @@ module _ (ns rs st : List ℕ) where
       rw z (begin-last (suc k) (i + count (r .tree)) (at + length (ruleStored r)) us (later-rules h) (omega (arith, first-record h .rooted)) ∙ omega arith)
 
 -- the tables of fine rules within the limits aren't false
-pub flat-valid : (us : List (Rule Span)) → fineRules us ≡ true → counts us ≤ maxNodes → length us ≤ maxRules → length (rulesStored us) ≤ maxStore
-    → Valid (nodesOf us) (recordsOf us) (rulesStored us)
-flat-valid us f n m s =
-    let h = flat-holds us in
-    let p = nodes-in us in
+pub flat-valid : (line : ℕ → ℕ) (us : List (Rule Span)) → fineRules us ≡ true → counts us ≤ maxNodes → length us ≤ maxRules → length (rulesStored us) ≤ maxStore
+    → Valid (nodesOf line us) (recordsOf us) (rulesStored us)
+flat-valid line us f n m s =
+    let h = flat-holds line us in
+    let p = nodes-in line us in
     let q = records-in us in
     record {
-      whole-nodes = omega (arith, length-nodes 0 0 us);
+      whole-nodes = omega (arith, length-nodes line 0 0 us);
       few-nodes = omega arith;
       whole-rules = omega (arith, length-records 0 0 us);
       few-rules = omega arith;
       short = s;
       nodes = record {
         whole = omega arith;
-        good = λ k l. nodes-good (nodesOf us) (recordsOf us) (rulesStored us) 0 0 0 us h f k (omega arith) (omega arith);
+        good = λ k l. nodes-good (nodesOf line us) (recordsOf us) (rulesStored us) 0 0 0 us h f k (omega arith) (omega arith);
       };
-      rules = λ k l. rules-good (nodesOf us) (recordsOf us) (rulesStored us) 0 0 0 us h f refl (omega arith) k (omega arith) (omega arith);
+      rules = λ k l. rules-good (nodesOf line us) (recordsOf us) (rulesStored us) 0 0 0 us h f refl (omega arith) k (omega arith) (omega arith);
       all = let e : rulesIn (recordsOf us) ≡ 0 + length us = omega arith in
-          ap (beginAt (recordsOf us)) e ∙ begin-last (nodesOf us) (recordsOf us) (rulesStored us) 0 0 0 us h refl ∙ omega arith;
+          ap (beginAt (recordsOf us)) e ∙ begin-last (nodesOf line us) (recordsOf us) (rulesStored us) 0 0 0 us h refl ∙ omega arith;
     }

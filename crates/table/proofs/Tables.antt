@@ -104,17 +104,17 @@ module _ {ns rs st : List ℕ} (v : Valid ns rs st) where
   valid-fine = fine-from (rulesIn rs) 0 (omega arith)
 
   -- tables that aren't false are the flattening of their rules, up to where texts lie in the store
-  pub valid-alike : Alike ns rs st (nodesOf (rulesOf ns rs st)) (recordsOf (rulesOf ns rs st)) (rulesStored (rulesOf ns rs st))
-  valid-alike =
+  pub valid-alike : (line : ℕ → ℕ) → Alike ns rs st (nodesOf line (rulesOf ns rs st)) (recordsOf (rulesOf ns rs st)) (rulesStored (rulesOf ns rs st))
+  valid-alike line =
       let us = rulesOf ns rs st in
       let c = valid-counts in
       let m = rules-many ns rs st in
       record {
-        nodes = omega (arith, v .whole-nodes, length-nodes 0 0 us);
+        nodes = omega (arith, v .whole-nodes, length-nodes line 0 0 us);
         rules = omega (arith, v .whole-rules, length-records 0 0 us);
-        spans = λ k l. nodes-alike ns rs st (nodesOf us) (recordsOf us) (rulesStored us) 0 0 us valid-lie (flat-lie us) k (omega arith) (omega arith) .0;
-        rows = λ k l. nodes-alike ns rs st (nodesOf us) (recordsOf us) (rulesStored us) 0 0 us valid-lie (flat-lie us) k (omega arith) (omega arith) .1;
-        rule-rows = λ k l. rules-alike ns rs st (nodesOf us) (recordsOf us) (rulesStored us) 0 0 us valid-lie (flat-lie us) k (omega arith) (omega arith);
+        spans = λ k l. nodes-alike ns rs st (nodesOf line us) (recordsOf us) (rulesStored us) 0 0 us valid-lie (flat-lie line us) k (omega arith) (omega arith) .0;
+        rows = λ k l. nodes-alike ns rs st (nodesOf line us) (recordsOf us) (rulesStored us) 0 0 us valid-lie (flat-lie line us) k (omega arith) (omega arith) .1;
+        rule-rows = λ k l. rules-alike ns rs st (nodesOf line us) (recordsOf us) (rulesStored us) 0 0 us valid-lie (flat-lie line us) k (omega arith) (omega arith);
       }
 
 -- ---- the check of whole tables
@@ -204,9 +204,9 @@ valid-tables ns rs st v =
     tables-good ns rs st (valid-shaped ns rs st v) (lowest-all (goodAt ns st) (nodesIn ns) (v .nodes .good)) (lowest-all (goodRule ns rs st) (rulesIn rs) (v .rules)) (v .all)
 
 -- the tables of fine rules within the limits pass the check
-pub flat-passes : (us : List (Rule Span)) → fineRules us ≡ true → counts us ≤ maxNodes → length us ≤ maxRules → length (rulesStored us) ≤ maxStore
-    → tables (nodesOf us) (recordsOf us) (rulesStored us) ≡ Table.Good
-flat-passes us f n m s = valid-tables (nodesOf us) (recordsOf us) (rulesStored us) (flat-valid us f n m s)
+pub flat-passes : (line : ℕ → ℕ) (us : List (Rule Span)) → fineRules us ≡ true → counts us ≤ maxNodes → length us ≤ maxRules → length (rulesStored us) ≤ maxStore
+    → tables (nodesOf line us) (recordsOf us) (rulesStored us) ≡ Table.Good
+flat-passes line us f n m s = valid-tables (nodesOf line us) (recordsOf us) (rulesStored us) (flat-valid line us f n m s)
 
 -- number and place decide the answer
 pub numbered-one : (x y : TableCheck) → numbered x ≡ numbered y → x ≡ y

@@ -148,9 +148,9 @@ unfolding goodOp
 op-good st at (plain u) h f = refl
 op-good st at (nodeTag b) h f = and-both _ _ (le-leb (at + length b) (length st) (held-inside h)) (ap (λ x. fineWrap (nodeTag x)) (held-part h) ∙ f)
 
-module _ {ns st : List ℕ} where
+module _ {line : ℕ → ℕ} {ns st : List ℕ} where
   -- its first node is the first
-  pub flat-first : (i at : ℕ) (t : Tree Span) (r : ℕ) → r ≡ i + below t → Holds ns st i at t → firstAt ns r ≡ i
+  pub flat-first : (i at : ℕ) (t : Tree Span) (r : ℕ) → r ≡ i + below t → Holds line ns st i at t → firstAt ns r ≡ i
   flat-first i at (leaf s a) r e h =
       let z : r ≡ i = omega (arith, below-leaf s a) in
       rw z (first-tip ns i (leaf-recorded h .node))
@@ -161,7 +161,7 @@ module _ {ns st : List ℕ} where
       let z : r ≡ i + count a + count b = omega (arith, below-two s j a b) in
       rw z (first-two ns (i + count a + count b) (two-recorded h .node) (omega arith) ∙ flat-first i at a (i + below a) refl (left-part h))
 
-  pub flat-good : (i at : ℕ) (t : Tree Span) → Holds ns st i at t → fine t ≡ true → (k : ℕ) → i ≤ k → k ≤ i + below t → goodAt ns st k ≡ true
+  pub flat-good : (i at : ℕ) (t : Tree Span) → Holds line ns st i at t → fine t ≡ true → (k : ℕ) → i ≤ k → k ≤ i + below t → goodAt ns st k ≡ true
   unfolding fine
   flat-good i at (leaf s a) h f k l m =
       let z : k ≡ i = omega (arith, below-leaf s a) in

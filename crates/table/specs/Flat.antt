@@ -17,7 +17,7 @@ use Rattle.table.specs.declared.Node.the-variants.{Tip, One, Two, Unknow
 use Rattle.table.specs.Tree.{Span, Atom, text, range, peekSlice, Wrap, plain, nodeTag, Tree, leaf, one, two, Rule, below, count, wrapStored, size, ruleStored, rulesStored}
 use Rattle.table.specs.Record.{nodesIn, rulesIn, spanAt, tip, wrap, pair, rowAt, RuleRow, ruleRowAt}
 
--- the numbers of a node record but for its span
+-- the numbers of a node record but for its span and line
 pub record Numbers : Type 0 where
   pub kind : ℕ
   pub p : ℕ
@@ -60,12 +60,16 @@ numbersOf (One o c) = opNumbers c o
 numbersOf (Two j a b) = joinNumbers j a b
 numbersOf Unknown = numbers 0 0 0 0
 
--- a node record: kind, span start, span end, p, q, r
-abbrev pub nodeRecord : Span → Numbers → List ℕ
-nodeRecord s x = x .kind ∷ s .start ∷ s .stop ∷ x .p ∷ x .q ∷ x .r ∷ []
+-- a node record: kind, span start, span end, p, q, r, and the line of the start
+abbrev pub nodeRecord : (ℕ → ℕ) → Span → Numbers → List ℕ
+nodeRecord line s x = x .kind ∷ s .start ∷ s .stop ∷ x .p ∷ x .q ∷ x .r ∷ line (s .start) ∷ []
 
-abbrev pub recordOf : Span → Node → List ℕ
-recordOf s x = nodeRecord s (numbersOf x)
+-- where no text tells lines, they are 0
+abbrev pub noLine : ℕ → ℕ
+noLine a = 0
+
+abbrev pub recordOf : (ℕ → ℕ) → Span → Node → List ℕ
+recordOf line s x = nodeRecord line s (numbersOf x)
 
 -- a leaf and an operator whose texts lie at an offset
 abbrev pub leafAt : ℕ → Atom → Leaf
@@ -77,12 +81,12 @@ abbrev pub opAt : ℕ → Wrap → Op
 opAt at (plain u) = Plain u
 opAt at (nodeTag b) = NodeTag at (length b)
 
--- the records of a tree whose first node has the index i and whose texts begin at an offset
-unfoldable pub flat : ℕ → ℕ → Tree Span → List ℕ
-flat i at (leaf s a) = recordOf s (Tip (leafAt at a))
-flat i at (one s o t) = flat i (at + length (wrapStored o)) t ++ recordOf s (One (opAt at o) (i + below t))
-flat i at (two s j a b) =
-    flat i at a ++ (flat (i + count a) (at + size a) b ++ recordOf s (Two j (i + below a) (i + count a + below b)))
+-- the records of a tree whose first node has the index i and whose texts begin at an offset, with the lines of places
+unfoldable pub flat : (ℕ → ℕ) → ℕ → ℕ → Tree Span → List ℕ
+flat line i at (leaf s a) = recordOf line s (Tip (leafAt at a))
+flat line i at (one s o t) = flat line i (at + length (wrapStored o)) t ++ recordOf line s (One (opAt at o) (i + below t))
+flat line i at (two s j a b) =
+    flat line i at a ++ (flat line (i + count a) (at + size a) b ++ recordOf line s (Two j (i + below a) (i + count a + below b)))
 
 -- the node of a tree's root, and the records before it
 abbrev pub rootNode : ℕ → ℕ → Tree Span → Node
@@ -90,19 +94,20 @@ rootNode i at (leaf s a) = Tip (leafAt at a)
 rootNode i at (one s o t) = One (opAt at o) (i + below t)
 rootNode i at (two s j a b) = Two j (i + below a) (i + count a + below b)
 
-unfoldable pub front : ℕ → ℕ → Tree Span → List ℕ
-front i at (leaf s a) = []
-front i at (one s o t) = flat i (at + length (wrapStored o)) t
-front i at (two s j a b) = flat i at a ++ flat (i + count a) (at + size a) b
+unfoldable pub front : (ℕ → ℕ) → ℕ → ℕ → Tree Span → List ℕ
+front line i at (leaf s a) = []
+front line i at (one s o t) = flat line i (at + length (wrapStored o)) t
+front line i at (two s j a b) = flat line i at a ++ flat line (i + count a) (at + size a) b
 
 -- a rule record: name offset, name length, mark, root, the name's span
 unfoldable pub ruleRecord : ℕ → ℕ → Rule Span → List ℕ
 ruleRecord at root r = at ∷ length (r .name) ∷ r .mark ∷ root ∷ r .place .start ∷ r .place .stop ∷ []
 
 -- the nodes of rules whose first node has the index i and whose texts begin at an offset
-unfoldable pub nodesFrom : ℕ → ℕ → List (Rule Span) → List ℕ
-nodesFrom i at [] = []
-nodesFrom i at (r ∷ rs) = flat i (at + length (r .name)) (r .tree) ++ nodesFrom (i + count (r .tree)) (at + length (ruleStored r)) rs
+unfoldable pub nodesFrom : (ℕ → ℕ) → ℕ → ℕ → List (Rule Span) → List ℕ
+nodesFrom line i at [] = []
+nodesFrom line i at (r ∷ rs) =
+    flat line i (at + length (r .name)) (r .tree) ++ nodesFrom line (i + count (r .tree)) (at + length (ruleStored r)) rs
 
 -- and their rule records
 unfoldable pub recordsFrom : ℕ → ℕ → List (Rule Span) → List ℕ
@@ -110,8 +115,8 @@ recordsFrom i at [] = []
 recordsFrom i at (r ∷ rs) = ruleRecord at (i + below (r .tree)) r ++ recordsFrom (i + count (r .tree)) (at + length (ruleStored r)) rs
 
 -- the tables of rules; `rulesStored` is their store
-abbrev pub nodesOf : List (Rule Span) → List ℕ
-nodesOf rs = nodesFrom 0 0 rs
+abbrev pub nodesOf : (ℕ → ℕ) → List (Rule Span) → List ℕ
+nodesOf line rs = nodesFrom line 0 0 rs
 
 abbrev pub recordsOf : List (Rule Span) → List ℕ
 recordsOf rs = recordsFrom 0 0 rs
@@ -134,7 +139,7 @@ RulesLie ns rs st k i [] = Unit {0}
 RulesLie ns rs st k i (r ∷ us) =
     (ruleRowAt rs st k ≡ ruleRow i r) × Lies ns st i (r .tree) × RulesLie ns rs st (suc k) (i + count (r .tree)) us
 
--- two tables that differ at most in where texts lie in the store, and in unused numbers
+-- two tables that differ at most in where texts lie in the store, in unused numbers and in lines
 pub record Alike (ns rs st ns′ rs′ st′ : List ℕ) : Type 0 where
   pub nodes : length ns ≡ length ns′
   pub rules : length rs ≡ length rs′

@@ -18,9 +18,9 @@ use Rattle.table.specs.declared.Node.the-variants.{Tip, One, Two, Unknow
 use Rattle.table.specs.declared.Head.{Head}
 use Rattle.table.specs.Tree.{Span, Atom, text, range, peekSlice, Wrap, plain, nodeTag, Tree, leaf, one, two, Rule}
 
--- the numbers in a node record: kind, span start, span end, p, q, r
+-- the numbers in a node record: kind, span start, span end, p, q, r, and the line of the start, which a check doesn't look at
 abbrev pub nodeSize : ℕ
-nodeSize = 6
+nodeSize = 7
 
 -- the numbers in a rule record: name offset, name length, mark, root, the name's span start and end
 abbrev pub ruleSize : ℕ

@@ -121,7 +121,14 @@ module _ (s : List ℕ) (i : ℕ) (h : i < length s) where
     unfolding blankBy tokenBy
     at-none a b d f g = sym (here (rw (ne-eqb _ 1 a, ne-eqb _ 5 g)) ∙ rw (ne-eqb _ 2 b, ne-eqb _ 3 d, ne-eqb _ 4 f, ne-eqb _ 5 g, add-zero i))
 
--- a space is a blank
+-- a byte of class 1 is a blank: a space, LF
+at-low : (b : ℕ) → classOf b ≡ 1 → (s : List ℕ) (i : ℕ) → i < length s → getD s i 0 ≡ b → tokenAt s i ≡ tokenAt s (i + 1)
+at-low b k s i h e = at-blank s i h (classOf (getD s i 0)) refl (ap classOf e ∙ k)
+
 pub at-space : (s : List ℕ) (i : ℕ) → i < length s → getD s i 0 ≡ 32 → tokenAt s i ≡ tokenAt s (i + 1)
 unfolding classOf
-at-space s i h e = at-blank s i h (classOf (getD s i 0)) refl (rw e)
+at-space = at-low 32 refl
+
+pub at-feed : (s : List ℕ) (i : ℕ) → i < length s → getD s i 0 ≡ 10 → tokenAt s i ≡ tokenAt s (i + 1)
+unfolding classOf
+at-feed = at-low 10 refl

@@ -1,17 +1,18 @@
 -- Laws of runs of bytes: what a loop's turn does to what is left of a text.
-use Prim.Native.Nat.{ℕ, suc, _+_, _≤_, _<_}
-use mathlib.Core.Path.{_≡_, ap, _∙_}
+use Prim.Native.Nat.{ℕ, zero, suc, _+_, _≤_, _<_}
+use mathlib.Core.Path.{_≡_, refl, ap, _∙_}
 use mathlib.Core.Bool.{Bool, true, false}
 use mathlib.Core.List.{List, [], _∷_}
 use native.Mathlib.Nat.{add-zero}
 use native.Mathlib.Omega.{arith}
+use lib.Dec.{eqb}
 use lib.ListN.{length, getD, drop}
 use lib.Seq.{drop-drop}
 use Rattle.text.proofs.Tests.{at-byte, at-end}
 use borrow.Author.Tests.{eq-eqb, ne-eqb}
 use Rattle.text.specs.Booleans.{nextIs}
 use Rattle.text.proofs.Booleans.{choose-by}
-use Rattle.token.specs.Blanks.{run, first}
+use Rattle.token.specs.Blanks.{run, first, inLine, line, Plain}
 
 go : (p : List ℕ → Bool) (x : ℕ) (xs : List ℕ) → p (x ∷ xs) ≡ true → run p (x ∷ xs) ≡ suc (run p xs)
 unfolding run
@@ -45,6 +46,23 @@ module _ (f : ℕ → Bool) (s : List ℕ) (i : ℕ) (h : i < length s) where
 
   pub byte-stop : f (getD s i 0) ≡ false → i + run (first f) (drop i s) ≡ i
   byte-stop t = run-stop (first f) s i h (ap (first f) (at-byte s i h) ∙ t)
+
+-- a byte above CR is neither LF nor CR
+pub over : (b n : ℕ) → n ≤ 13 → 13 < b → eqb b n ≡ false
+over b n l h = ne-eqb b n (λ e. omega arith)
+
+-- bytes above CR belong to the line
+pub line-plain : (n : ℕ) (s : List ℕ) (i : ℕ) → i + n ≤ length s → Plain n s i → i + line (drop i s) ≡ (i + n) + line (drop (i + n) s)
+line-plain zero s i h p = rw (add-zero i) refl
+line-plain (suc n) s i h p =
+    let b = getD s (i + n) 0 in
+    let e : (i + n) + 1 ≡ i + suc n = omega arith in
+    let l : i + n < length s = omega arith in
+    let a : 13 < b = p .above n (omega arith) in
+    let t : inLine (drop (i + n) s) ≡ true = rw (at-byte s (i + n) l, over b 10 (omega arith) a, over b 13 (omega arith) a) refl in
+    line-plain n s i (omega arith) (record { above = λ k g. p .above k (omega arith) })
+    ∙ run-step inLine s (i + n) l t
+    ∙ ap (λ (j : ℕ). j + line (drop j s)) e
 
 -- a test of the first byte at a place
 module _ (s : List ℕ) (i : ℕ) (h : i < length s) where

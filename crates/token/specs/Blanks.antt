@@ -1,9 +1,9 @@
 -- Runs of bytes, and blanks: what stands at the front of what is left of a text. Lengths are counted from there.
-use Prim.Native.Nat.{ℕ, suc, _+_, _-_}
+use Prim.Native.Nat.{ℕ, suc, _+_, _-_, _<_}
 use mathlib.Core.Bool.{Bool, true, false, not}
 use mathlib.Core.List.{List, [], _∷_}
 use lib.Dec.{leb, eqb}
-use lib.ListN.{drop}
+use lib.ListN.{getD, drop}
 use Rattle.text.specs.Booleans.{choose, and, or, nextIs}
 use Rattle.text.specs.Classes.{classOf}
 use Rattle.text.specs.Words.{inWord}
@@ -36,6 +36,10 @@ isZero b = eqb b 48
 abbrev pub lineEnds : List ℕ → Bool
 lineEnds [] = true
 lineEnds (x ∷ xs) = or (eqb x 10) (and (eqb x 13) (nextIs 10 xs))
+
+-- the n bytes from a place on are above CR: none of them ends a line
+pub record Plain (n : ℕ) (s : List ℕ) (at : ℕ) : Type 0 where
+  pub above : (k : ℕ) → k < n → 13 < getD s (at + k) 0
 
 -- any byte before a line's end
 abbrev pub inLine : List ℕ → Bool

@@ -68,6 +68,46 @@ pub fn token_at(t: &[u8; 256], s: &[u8], at: usize) -> Token
     Token::End
 }
 
+// Past spaces and LF.
+fn past_spaces(s: &[u8], at: usize) -> usize
+    ensures { λ r. ⌜ tokenAt (now (s .entry)) r ≡ tokenAt (now (s .entry)) at ⌝ }
+{
+    let mut i = at;
+    while i < s.len() {
+        let b = s[i];
+        if b != 32 {
+            if b != 10 {
+                return i;
+            }
+        }
+        i += 1;
+    }
+    i
+}
+
+// The token at a place, as `token_at` has it. Most tokens are words and single bytes behind spaces and
+// LF: they are told here, since a call hands its answer over in memory.
+fn near_token(t: &[u8; 256], s: &[u8], at: usize) -> Token
+    requires { ⌜ now t ≡ classes ⌝ }
+    ensures { λ r. ⌜ r ≡ tokenAt (now (s .entry)) at ⌝ }
+{
+    let i = past_spaces(s, at);
+    if s.len() <= i {
+        return Token::End;
+    }
+    let b = s[i];
+    let c = text::inner::classes::class(t, b);
+    match c {
+        2 => openers::word_at(t, s, i),
+        4 => Token::Found {
+            kind: openers::one_kind(b),
+            start: i,
+            end: i + 1,
+        },
+        _ => token_at(t, s, i),
+    }
+}
+
 // Puts the tokens of a text into a lent table, as many as it has room for.
 pub fn fill(t: &[u8; 256], s: &[u8], tokens: &mut [u32]) -> Filled
     requires { ⌜ now t ≡ classes ⌝ }
@@ -79,7 +119,7 @@ pub fn fill(t: &[u8; 256], s: &[u8], tokens: &mut [u32]) -> Filled
     let mut at = 0;
     let mut n = 0;
     loop {
-        let token = token_at(t, s, at);
+        let token = near_token(t, s, at);
         match token {
             Token::End => {
                 return Filled::All(n);

@@ -5,6 +5,7 @@
 use std::collections::HashMap;
 
 use second::print::check;
+use second::{NODE_RECORD, RULE_RECORD};
 
 const NESTED: u32 = 1_024;
 /// The link of ANY. Others are roots.
@@ -14,7 +15,7 @@ const ANY: u32 = u32::MAX;
 struct Over;
 
 struct Walk<'a> {
-    nodes: &'a [[u32; 6]],
+    nodes: &'a [[u32; NODE_RECORD]],
     /// By node: where a name leads to.
     links: &'a [u32],
     store: &'a [u8],
@@ -49,7 +50,7 @@ impl Walk<'_> {
                 return Err(Over);
             }
             self.left -= 1;
-            let [kind, _, _, p, q, r] = self.nodes[node];
+            let [kind, _, _, p, q, r, _] = self.nodes[node];
             match kind {
                 1 => {
                     let text = &self.store[p as usize..][..q as usize];
@@ -125,7 +126,7 @@ impl Walk<'_> {
 
 /// Tables that can be run.
 struct Layout<'a> {
-    nodes: Vec<[u32; 6]>,
+    nodes: Vec<[u32; NODE_RECORD]>,
     links: Vec<u32>,
     store: &'a [u8],
     root: usize,
@@ -136,17 +137,18 @@ impl<'a> Layout<'a> {
         if check(nodes, rules, store).is_err() {
             return Err([30, 0]);
         }
-        let nodes: Vec<[u32; 6]> =
-            nodes.chunks_exact(6).map(|node| node.try_into().expect("six")).collect();
-        let unfit = |node: &[u32; 6]| {
+        let records = nodes.chunks_exact(NODE_RECORD);
+        let nodes: Vec<[u32; NODE_RECORD]> =
+            records.map(|node| node.try_into().expect("a whole record")).collect();
+        let unfit = |node: &[u32; NODE_RECORD]| {
             matches!(node[0], 5 | 17 | 18 | 19) || node[0] == 16 && node[4] > node[5]
         };
         if let Some(node) = nodes.iter().position(unfit) {
             return Err([31, node as u64]);
         }
         let part = |offset: u32, length: u32| &store[offset as usize..][..length as usize];
-        let mut roots = HashMap::with_capacity(rules.len() / 6);
-        for rule in rules.chunks_exact(6) {
+        let mut roots = HashMap::with_capacity(rules.len() / RULE_RECORD);
+        for rule in rules.chunks_exact(RULE_RECORD) {
             let name = part(rule[0], rule[1]);
             if name == b"ANY" || roots.insert(name, rule[3]).is_some() {
                 return Err([32, 0]);
@@ -163,7 +165,7 @@ impl<'a> Layout<'a> {
                 };
             }
         }
-        match rules.chunks_exact(6).nth(start) {
+        match rules.chunks_exact(RULE_RECORD).nth(start) {
             Some(rule) => Ok(Layout { nodes, links, store, root: rule[3] as usize }),
             None => Err([32, 0]),
         }

@@ -21,12 +21,22 @@ pub mod random_trees;
 use std::collections::BTreeMap;
 
 use oracle::Tables;
-use second::Refusal;
+use second::read::Used;
+use second::{Refusal, NODE_RECORD, RULE_RECORD};
 
 /// What the second program reads, all the room in the world being there.
 pub fn second_reads(text: &[u8], tagged: bool) -> Result<Tables, Refusal> {
     let made = second::read::tables(text, tagged)?;
     Ok(Tables { nodes: made.nodes, rules: made.rules, store: made.store })
+}
+
+/// What tables use of lent buffers.
+pub fn used(tables: &Tables) -> Used {
+    Used {
+        nodes: tables.nodes.len() / NODE_RECORD,
+        rules: tables.rules.len() / RULE_RECORD,
+        store: tables.store.len(),
+    }
 }
 
 /// Counts under names, each with its smallest text.

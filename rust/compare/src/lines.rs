@@ -2,6 +2,7 @@
 //! and damaged copies of both.
 
 use oracle::Tables;
+use second::{NODE_RECORD, RULE_RECORD};
 
 use crate::Random;
 
@@ -97,11 +98,11 @@ impl Maker {
 
     fn put(&mut self, kind: u32, p: u32, q: u32, r: u32) {
         let unused = self.random.of(&[0, 1, u32::MAX]);
-        self.made.nodes.extend([kind, unused, unused, p, q, r]);
+        self.made.nodes.extend([kind, unused, unused, p, q, r, unused]);
     }
 
     fn last(&self) -> u32 {
-        (self.made.nodes.len() / 6 - 1) as u32
+        (self.made.nodes.len() / NODE_RECORD - 1) as u32
     }
 
     fn character(&mut self) -> char {
@@ -205,7 +206,9 @@ impl<'a> Liner<'a> {
                 }
             }
             which => {
-                if let Some(root) = tables.rules.chunks_exact(6).nth(rule).map(|rule| rule[3]) {
+                if let Some(root) =
+                    tables.rules.chunks_exact(RULE_RECORD).nth(rule).map(|rule| rule[3])
+                {
                     self.left = 400;
                     self.derive(tables, root as usize, 0, &mut line);
                 }
@@ -223,8 +226,8 @@ impl<'a> Liner<'a> {
 
     /// Text that a node may match.
     fn derive(&mut self, tables: &Tables, node: usize, depth: usize, line: &mut Vec<u8>) {
-        let Some(record) = tables.nodes.get(node * 6..node * 6 + 6) else { return };
-        let [kind, _, _, p, q, r] = *record else { return };
+        let Some(record) = tables.nodes.chunks_exact(NODE_RECORD).nth(node) else { return };
+        let [kind, _, _, p, q, r, _] = *record else { return };
         if depth > 24 || line.len() > 90 || self.left == 0 {
             return;
         }
@@ -251,7 +254,7 @@ impl<'a> Liner<'a> {
             }
             4 => {
                 let name = text();
-                let mut rules = tables.rules.chunks_exact(6);
+                let mut rules = tables.rules.chunks_exact(RULE_RECORD);
                 let rule = rules.find(|rule| {
                     let of = tables.store.get(rule[0] as usize..);
                     of.and_then(|rest| rest.get(..rule[1] as usize)) == name
@@ -366,11 +369,11 @@ pub fn text(random: &mut Random, characters: &[char], tables: &Tables, rule: usi
 pub fn spoilt(random: &mut Random, made: &Tables) -> Tables {
     let mut made = made.clone();
     for _ in 0..1 + random.below(2) {
-        let (nodes, rules) = (made.nodes.len() / 6, made.rules.len() / 6);
+        let (nodes, rules) = (made.nodes.len() / NODE_RECORD, made.rules.len() / RULE_RECORD);
         if rules == 0 {
             break;
         }
-        let at = random.below(nodes) * 6;
+        let at = random.below(nodes) * NODE_RECORD;
         match random.below(8) {
             // a kind that has no meaning here
             0 if (10..=16).contains(&made.nodes[at]) => made.nodes[at] = 17,
@@ -394,12 +397,13 @@ pub fn spoilt(random: &mut Random, made: &Tables) -> Tables {
             }
             // a rule called ANY, which stands at the store's front
             4 => {
-                let rule = random.below(rules) * 6;
+                let rule = random.below(rules) * RULE_RECORD;
                 (made.rules[rule], made.rules[rule + 1]) = (0, 3);
             }
             // a name used twice, by the same bytes or by other ones
             5 if rules > 1 => {
-                let (one, other) = (random.below(rules) * 6, random.below(rules) * 6);
+                let (one, other) =
+                    (random.below(rules) * RULE_RECORD, random.below(rules) * RULE_RECORD);
                 let (offset, length) = (made.rules[one], made.rules[one + 1]);
                 let name = made.store[offset as usize..][..length as usize].to_vec();
                 let again = made.store.len() as u32;

@@ -6,9 +6,10 @@ use std::collections::BTreeMap;
 use std::time::Instant;
 
 use compare::texts::Source;
-use compare::{argument, characters, on_stack, printing, quiet_panics, second_reads, texts, Tally};
+use compare::{
+    argument, characters, on_stack, printing, quiet_panics, second_reads, texts, used, Tally,
+};
 use oracle::{Answer, Tables};
-use second::read::Used;
 use second::token::{Next, BAR};
 
 /// Where pest's own rule for comments ends the comment at `place`.
@@ -197,12 +198,7 @@ fn hold(text: &str, tagged: bool, ways: &mut Tally, faults: &mut Tally) -> &'sta
     // With all the room in the world, the limits stay.
     let number = match &ours {
         Ok(made) => {
-            let used = Used {
-                nodes: made.nodes.len() / 6,
-                rules: made.rules.len() / 6,
-                store: made.store.len(),
-            };
-            let room = second::read::room(used, usize::MAX, usize::MAX, usize::MAX);
+            let room = second::read::room(used(made), usize::MAX, usize::MAX, usize::MAX);
             room.err().map_or(0, |refusal| refusal.number)
         }
         Err(refusal) => refusal.number,
@@ -350,7 +346,7 @@ fn compare_characters(scale: usize) -> bool {
 /// The parts that want the product's library.
 #[cfg(feature = "product")]
 mod linked {
-    use super::{characters, texts, Source, Tables};
+    use super::{characters, texts, used, Source, Tables};
     use compare::printing::Style;
     use compare::{product, tables, Random};
     use second::arrive;
@@ -374,9 +370,13 @@ mod linked {
     pub fn reader(seed: u64, scale: usize) -> bool {
         let mut random = Random(seed);
         let (mut count, mut reads, mut listed, mut broken) = (0u64, 0u64, 0u64, 0u64);
+        let (mut lf, mut crlf, mut cr) = (0u64, 0u64, 0u64);
         let mut differences = Differences::default();
         texts::all(seed, scale, &mut |source, text| {
             count += 1;
+            lf += u64::from(text.contains(&b'\n'));
+            crlf += u64::from(text.windows(2).any(|two| two == b"\r\n"));
+            cr += u64::from(text.windows(2).any(|two| two[0] == b'\r' && two[1] != b'\n'));
             let few = source == Source::Exhaustive && !random.one_in(8);
             differences.note(product::check_read(text, true, few, &mut reads));
             differences.note(product::check_read(text, false, few, &mut reads));
@@ -392,6 +392,7 @@ mod linked {
             }
         });
         println!("\nproduct and second program: {count} texts, {broken} of them around a broken literal: {reads} readings, {listed} calls of the lister, {} different", differences.0);
+        println!("line ends: {lf} texts have an LF, {crlf} a CR in front of one, {cr} a CR in front of another byte");
         differences.0 == 0
     }
 
@@ -428,7 +429,7 @@ mod linked {
         let mut differences = Differences::default();
         let mut hold = |made: &Tables| {
             count += 1;
-            trees += made.rules.len() as u64 / 6;
+            trees += used(made).rules as u64;
             for style in Style::BOTH {
                 differences.note(product::check_print(style, made, &mut prints));
             }

@@ -5,12 +5,12 @@ use std::collections::BTreeMap;
 
 use oracle::Tables;
 use second::matching::{lines, match_line, match_lines, record, Record};
-use second::Refusal;
+use second::{Refusal, NODE_RECORD, RULE_RECORD};
 
 use crate::lines::{spoilt, text, Liner, Maker};
 use crate::product::{match_into, match_lines_into, rule_named, Lent};
 use crate::tables::{falsified, limits, Characters, Grower};
-use crate::{by_hand, shown, Random};
+use crate::{by_hand, shown, used, Random};
 
 /// More steps than most need. What needs more is asked with no more, since it may be endless.
 const AMPLE: u64 = 4_000;
@@ -158,8 +158,9 @@ impl Seen {
         let wanted = if second::print::check(nodes, rules, store).is_err() {
             [30, 0, 0]
         } else {
-            let mut names =
-                rules.chunks_exact(6).map(|rule| &store[rule[0] as usize..][..rule[1] as usize]);
+            let mut names = rules
+                .chunks_exact(RULE_RECORD)
+                .map(|rule| &store[rule[0] as usize..][..rule[1] as usize]);
             names.position(|it| it == name).map_or([32, 0, 0], |rule| [0, 0, rule as u64])
         };
         let answer = rule_named(nodes, rules, store, name);
@@ -182,7 +183,7 @@ fn after_lines(text: &[u8], count: usize) -> usize {
 /// One set of tables: lines, texts and names.
 fn tables(seen: &mut Seen, random: &mut Random, made: &Tables, characters: &[char], much: usize) {
     seen.tables += 1;
-    let rules = made.rules.len() / 6;
+    let rules = used(made).rules;
     for _ in 0..much {
         let start = match random.below(30) {
             0 => random.of(&[rules, rules + 1, usize::MAX, 1_024, 1 << 32]),
@@ -204,7 +205,7 @@ fn tables(seen: &mut Seen, random: &mut Random, made: &Tables, characters: &[cha
         let go_on = random.one_in(2);
         seen.ask_lines(made, start, &lines_of, allowance, room, go_on);
     }
-    let name = match made.rules.chunks_exact(6).nth(start) {
+    let name = match made.rules.chunks_exact(RULE_RECORD).nth(start) {
         Some(rule) if random.one_in(2) => made
             .store
             .get(rule[0] as usize..)
@@ -229,8 +230,8 @@ fn numbers_of(random: &mut Random) -> Tables {
     let (mut nodes, mut rules) = (some(40), some(20));
     let store = some(30).into_iter().map(|number| b'a' + (number % 26) as u8).collect();
     if random.one_in(2) {
-        nodes.truncate(nodes.len() / 6 * 6);
-        rules.truncate(rules.len() / 6 * 6);
+        nodes.truncate(nodes.len() / NODE_RECORD * NODE_RECORD);
+        rules.truncate(rules.len() / RULE_RECORD * RULE_RECORD);
     }
     Tables { nodes, rules, store }
 }

@@ -7,7 +7,7 @@ use second::{Refusal, BYTES, OPEN};
 
 use crate::characters::is_in_domain;
 use crate::trees::{self, Rule, Tree};
-use crate::{second_reads, tables, Tally};
+use crate::{second_reads, tables, used, Tally};
 
 /// The printer's two texts.
 #[derive(Clone, Copy, Debug, PartialEq, Eq)]
@@ -52,7 +52,7 @@ fn each(rules: Vec<Rule>, change: fn(Tree) -> Tree) -> Vec<Rule> {
 /// Whether tables have so few nodes that their text is read without each pair of brackets too, and by
 /// the Rust.
 pub fn is_small(made: &Tables) -> bool {
-    made.nodes.len() <= 40 * 6
+    used(made).nodes <= 40
 }
 
 /// A text without each pair of round brackets in turn, but for those of PUSH and PUSH_LITERAL.
@@ -95,7 +95,7 @@ struct Printing {
 impl Printing {
     fn table(&mut self, made: &Tables) {
         self.tables += 1;
-        self.trees += made.rules.len() as u64 / 6;
+        self.trees += used(made).rules as u64;
         for style in Style::BOTH {
             match style.print(made) {
                 Ok(text) => self.text(style, made, &text),

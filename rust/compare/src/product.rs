@@ -7,7 +7,7 @@ use oracle::Tables;
 use second::arrive::Arrival;
 use second::read::Used;
 use second::stream::Feed;
-use second::{read, Refusal};
+use second::{read, Refusal, NODE_RECORD, RULE_RECORD};
 
 /// As they are, for measuring: into buffers of the caller's.
 pub use flascjuvan::raw::{
@@ -18,11 +18,11 @@ pub use flascjuvan::raw::{
 /// The tables of a text that reads, at the tagged level.
 pub fn read(text: &[u8]) -> Tables {
     let (mut nodes, mut rules, mut store) =
-        (vec![0; text.len() * 6], vec![0; text.len() * 6], vec![0; text.len()]);
+        (vec![0; text.len() * NODE_RECORD], vec![0; text.len() * RULE_RECORD], vec![0; text.len()]);
     let answer = read_into(text, true, &mut nodes, &mut rules, &mut store);
     let [0, 0, n, r, s] = answer else { panic!("{answer:?}: {}", shown(text)) };
-    nodes.truncate(n as usize * 6);
-    rules.truncate(r as usize * 6);
+    nodes.truncate(n as usize * NODE_RECORD);
+    rules.truncate(r as usize * RULE_RECORD);
     store.truncate(s as usize);
     Tables { nodes, rules, store }
 }
@@ -63,19 +63,20 @@ type Room = (usize, usize, usize);
 
 /// Rooms worth trying: exact, one short of each, ragged, none, and larger than any limit.
 fn rooms(used: Used) -> Vec<Room> {
-    let (n, r, s) = (used.nodes * 6, used.rules * 6, used.store);
-    let mut rooms = vec![(n, r, s), (n + 5, r + 5, s + 1), (n + 64, r + 7, s + 99)];
+    let (n, r, s) = (used.nodes * NODE_RECORD, used.rules * RULE_RECORD, used.store);
+    let mut rooms = vec![(n, r, s), (n + 6, r + 5, s + 1), (n + 64, r + 7, s + 99)];
     if n > 0 {
-        rooms.extend([(n - 1, r, s), (n - 6, r, s), (n - 1, r, s.saturating_sub(1))]);
+        rooms.extend([(n - 1, r, s), (n - NODE_RECORD, r, s), (n - 1, r, s.saturating_sub(1))]);
     }
     if r > 0 {
-        rooms.extend([(n, r - 1, s), (n, r - 6, s), (n.saturating_sub(1), r - 1, s)]);
+        rooms.extend([(n, r - 1, s), (n, r - RULE_RECORD, s), (n.saturating_sub(1), r - 1, s)]);
     }
     if s > 0 {
         rooms.extend([(n, r, s - 1), (0, 0, 0)]);
     }
-    if n > 6 * 4_000 || r > 6 * 1_000 {
-        rooms.extend([(4_096 * 6, 1_024 * 6, s), (4_097 * 6, 1_025 * 6, s)]);
+    if used.nodes > 4_000 || used.rules > 1_000 {
+        rooms.extend([(4_096 * NODE_RECORD, 1_024 * RULE_RECORD, s)]);
+        rooms.extend([(4_097 * NODE_RECORD, 1_025 * RULE_RECORD, s)]);
     }
     rooms
 }
@@ -84,7 +85,7 @@ fn rooms(used: Used) -> Vec<Room> {
 pub fn check_read(text: &[u8], tagged: bool, few: bool, calls: &mut u64) -> Result<(), Difference> {
     let tables = read::tables(text, tagged);
     let used = match &tables {
-        Ok(t) => Used { nodes: t.nodes.len() / 6, rules: t.rules.len() / 6, store: t.store.len() },
+        Ok(tables) => tables.used(),
         Err(_) => Used { nodes: 3, rules: 2, store: 9 },
     };
     let mut rooms = rooms(used);

@@ -8,7 +8,7 @@ use oracle::{Printable, Tables};
 
 use crate::product::{print_into, print_short_into};
 use crate::tables::Grower;
-use crate::Random;
+use crate::{used, Random};
 
 const SIZES: [usize; 4] = [64, 500, 2_000, 4_000];
 const TABLES: usize = 8;
@@ -22,7 +22,7 @@ fn grown(grower: &mut Grower, nodes: usize) -> Tables {
     let mut rules = 1 + nodes / 30;
     loop {
         let tables = grower.grow(rules, 40);
-        let count = tables.nodes.len() / 6;
+        let count = used(&tables).nodes;
         if count <= 4_096 && count.abs_diff(nodes) * 20 <= nodes {
             return tables;
         }
@@ -79,7 +79,7 @@ fn one(grower: &mut Grower, nodes: usize) {
             black_box(print(print_short_into, &tables[k], &mut out));
         });
     }
-    let count = tables.iter().map(|t| t.nodes.len() / 6).sum::<usize>() / TABLES;
+    let count = tables.iter().map(|t| used(t).nodes).sum::<usize>() / TABLES;
     let bytes = texts.iter().map(String::len).sum::<usize>() / TABLES;
     print!("  {count:>5} nodes {bytes:>6} bytes  Display {display:>7.1} µs  the product {ample:>6.1} µs");
     print!(" ({:.1} times as fast)", display / ample);

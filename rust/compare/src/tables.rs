@@ -1,6 +1,7 @@
 //! Tables: random good ones, with store parts shared; false ones; those at the limits; small trees.
 
 use oracle::Tables;
+use second::{NODE_RECORD, RULE_RECORD};
 
 use crate::trees::{self, Rule, Tree};
 use crate::Random;
@@ -59,7 +60,7 @@ impl Grower {
         for _ in 0..rules {
             let (offset, length) = self.part(0);
             self.tree(size);
-            let root = (self.made.nodes.len() / 6 - 1) as u32;
+            let root = self.last();
             let mark = self.random.below(5) as u32;
             let span = [self.random.next() as u32, self.random.below(99) as u32];
             self.made.rules.extend([offset, length, mark, root]);
@@ -126,12 +127,12 @@ impl Grower {
     }
 
     fn put(&mut self, kind: u32, p: u32, q: u32, r: u32) {
-        let (start, end) = (self.unused(), self.unused());
-        self.made.nodes.extend([kind, start, end, p, q, r]);
+        let (start, end, line) = (self.unused(), self.unused(), self.unused());
+        self.made.nodes.extend([kind, start, end, p, q, r, line]);
     }
 
     fn last(&self) -> u32 {
-        (self.made.nodes.len() / 6).wrapping_sub(1) as u32
+        (self.made.nodes.len() / NODE_RECORD).wrapping_sub(1) as u32
     }
 
     fn tree(&mut self, size: usize) {
@@ -224,21 +225,21 @@ pub fn falsified(random: &mut Random, tables: &Tables) -> Tables {
                 tables.store[at] = random.of(&[0xff, 0x80, 0xc3, b'P', b'0', b'-', b' ']);
             }
             9 => {
-                let whole = random.one_in(2);
-                let (nodes, rules) = (tables.nodes.len(), tables.rules.len());
-                let cut = if whole { 6 } else { 1 + random.below(6) };
-                if random.one_in(2) {
-                    tables.nodes.truncate(nodes.saturating_sub(cut));
+                let (whole, of_nodes) = (random.one_in(2), random.one_in(2));
+                let (table, record) = if of_nodes {
+                    (&mut tables.nodes, NODE_RECORD)
                 } else {
-                    tables.rules.truncate(rules.saturating_sub(cut));
-                }
+                    (&mut tables.rules, RULE_RECORD)
+                };
+                let cut = if whole { record } else { 1 + random.below(record) };
+                table.truncate(table.len().saturating_sub(cut));
             }
             10 => {
                 tables.store.pop();
             }
-            11 if tables.rules.len() >= 12 => tables.rules.rotate_left(6),
+            11 if tables.rules.len() >= 2 * RULE_RECORD => tables.rules.rotate_left(RULE_RECORD),
             _ => {
-                let record = [4, 0, 0, 0, 1, 0];
+                let record = [4, 0, 0, 0, 1, 0, 0];
                 tables.nodes.extend(record);
             }
         }
@@ -262,9 +263,18 @@ fn other(random: &mut Random, number: u32) -> u32 {
 /// Tables on both sides of every limit.
 pub fn limits() -> Vec<Tables> {
     let store = b"aPUSHx\xc3\xa9".to_vec();
-    let a = [4, 0, 0, 0, 1, 0];
+    let a = [4, 0, 0, 0, 1, 0, 0];
     let of = |nodes: Vec<u32>, rules: Vec<u32>| Tables { nodes, rules, store: store.clone() };
     let mut made = vec![Tables::default(), of(vec![], vec![]), of(a.to_vec(), vec![])];
+    // Records of six and of seven numbers, and all that is not whole.
+    for (nodes, rules) in (0..=2 * NODE_RECORD).zip([6, 7, 5, 12, 6].into_iter().cycle()) {
+        made.push(of(
+            a.repeat(2)[..nodes].to_vec(),
+            [0, 1, 0, 0, 0, 0].repeat(2)[..rules].to_vec(),
+        ));
+    }
+    made.push(of([4, 0, 0, 0, 1, 0].repeat(2), vec![0, 1, 0, 0, 0, 0]));
+    made.push(of([4, 0, 0, 0, 1, 0].repeat(7), vec![0, 1, 0, 0, 0, 0]));
     for count in [2u32, 2_047, 2_048, 4_095, 4_096, 4_097] {
         let chain = |kind: u32, right: bool| {
             let mut nodes = Vec::new();
@@ -272,30 +282,30 @@ pub fn limits() -> Vec<Tables> {
             if right {
                 nodes.extend(a.repeat(leaves as usize));
                 for i in leaves..leaves * 2 - 1 {
-                    nodes.extend([kind, 0, 0, leaves * 2 - 2 - i, i - 1, 0]);
+                    nodes.extend([kind, 0, 0, leaves * 2 - 2 - i, i - 1, 0, 0]);
                 }
             } else {
                 nodes.extend(a);
                 for i in 1..leaves {
                     nodes.extend(a);
-                    nodes.extend([kind, 0, 0, 2 * i - 2, 2 * i - 1, 0]);
+                    nodes.extend([kind, 0, 0, 2 * i - 2, 2 * i - 1, 0, 0]);
                 }
             }
-            let root = nodes.len() as u32 / 6 - 1;
+            let root = (nodes.len() / NODE_RECORD - 1) as u32;
             of(nodes, vec![0, 1, 0, root, 0, 0])
         };
         made.extend([chain(8, true), chain(9, true), chain(8, false), chain(9, false)]);
         for kind in [6u32, 7, 10, 13, 16, 17, 19] {
             let mut nodes = a.to_vec();
             for i in 1..count {
-                nodes.extend([kind, 0, 0, i - 1, 1, 4]);
+                nodes.extend([kind, 0, 0, i - 1, 1, 4, 0]);
             }
             made.push(of(nodes, vec![0, 1, 0, count - 1, 0, 0]));
         }
         // A postfix on a predicate, over and over.
         let mut nodes = a.to_vec();
         for i in 1..count {
-            nodes.extend([if i % 2 == 1 { 7 } else { 11 }, 0, 0, i - 1, 0, 0]);
+            nodes.extend([if i % 2 == 1 { 7 } else { 11 }, 0, 0, i - 1, 0, 0, 0]);
         }
         made.push(of(nodes, vec![0, 1, 0, count - 1, 0, 0]));
     }
@@ -306,7 +316,7 @@ pub fn limits() -> Vec<Tables> {
     for bytes in [65_535usize, 65_536, 65_537] {
         let store = vec![b'x'; bytes];
         let long = Tables {
-            nodes: vec![1, 0, 0, 0, bytes as u32, 0],
+            nodes: vec![1, 0, 0, 0, bytes as u32, 0, 0],
             rules: vec![0, bytes as u32, 0, 0, 0, 0],
             store: store.clone(),
         };
@@ -314,13 +324,13 @@ pub fn limits() -> Vec<Tables> {
         // The whole store over and over, each byte an escape.
         for (byte, count) in [(0u8, 40u32), (1, 12)] {
             let mut nodes: Vec<u32> = Vec::new();
-            let all = [1, 0, 0, 1, bytes as u32 - 1, 0];
+            let all = [1, 0, 0, 1, bytes as u32 - 1, 0, 0];
             nodes.extend(all);
             for i in 1..count {
                 nodes.extend(all);
-                nodes.extend([8, 0, 0, 2 * i - 2, 2 * i - 1, 0]);
+                nodes.extend([8, 0, 0, 2 * i - 2, 2 * i - 1, 0, 0]);
             }
-            let root = nodes.len() as u32 / 6 - 1;
+            let root = (nodes.len() / NODE_RECORD - 1) as u32;
             let mut store = vec![byte; bytes];
             store[0] = b'a';
             made.push(Tables { nodes, rules: vec![0, 1, 0, root, 0, 0], store });

@@ -132,6 +132,7 @@ pub fn exhaustive(size: usize, f: &mut dyn FnMut(&[u8])) {
     rows("a={b", &["{", "-", "0", "1", ",", "}", " "], 5 + long, "}}", f);
     rows("a={", &["PUSH", "P", "_", "LITERAL", "(", "\"x\"", ")", "#", "="], 4 + long, "}", f);
     rows("a={", &["^", " ", "\"k\"", "~", "/**/", "\t"], 5 + long, "}", f);
+    rows("\na={", &["b", "(", ")", "\n", "\r\n", "~", "*", "!"], 4 + long, "}", f);
 }
 
 /// Grows good texts; `faults` in a thousand values are such as the reader refuses.
@@ -178,14 +179,16 @@ impl Grower {
     }
 
     fn blank(&mut self) {
-        let blank = match self.random.below(24) {
+        let blank = match self.random.below(28) {
             0..=11 => "",
-            12..=17 => " ",
-            18 => "\n",
-            19 => "\t",
-            20 => "\r\n",
-            21 => "/* \" // é */",
-            22 => "/*/**/ /***/*/",
+            12..=16 => " ",
+            17..=19 => "\n",
+            20 => "\t",
+            21 | 22 => "\r\n",
+            23 => "/* \" // é */",
+            24 => "/*/**/ /***/*/",
+            25 => "/*\r\n /* \n\n */ \r*/",
+            26 => "\n\r\n\n",
             _ => "// ' \r /* \u{a0}\r\n",
         };
         self.text.extend_from_slice(blank.as_bytes());
@@ -361,7 +364,10 @@ impl Grower {
             }
             4 => self.random.of(&["\\u{10ffff}", "\\u{E000}", "\\u{00007f}", "\\u{d7fF}"]).into(),
             5 => self.random.of(&["é", "€", "😀", "\u{301}", "\u{10ffff}", "\u{7f}"]).into(),
-            6 => self.random.of(&["\n", "\t", "\r", "\0", "/", "*", "#", "^", "{", "//"]).into(),
+            6 => {
+                let some = ["\n", "\r\n", "\t", "\r", "\0", "/", "*", "#", "^", "{", "//"];
+                self.random.of(&some).into()
+            }
             // Characters that print bare, and those around them.
             7 => {
                 char::from_u32(0xa0 + self.random.below(0x1b1) as u32).expect("a character").into()
@@ -389,7 +395,7 @@ impl Grower {
 
     fn character(&mut self) -> String {
         let mut inside = self.inside('\'');
-        if inside == "//" {
+        if matches!(&inside[..], "//" | "\r\n") {
             inside.pop();
         }
         format!("'{inside}'")
@@ -451,7 +457,7 @@ pub fn soup(random: &mut Random) -> Vec<u8> {
 }
 
 /// Small texts that a rule, a reading or a known difference names.
-pub const CORNERS: [&str; 118] = [
+pub const CORNERS: [&str; 124] = [
     "a = { b ~ c | \"x\"* }",
     "a={b~c~d}",
     "a={b~(c~d)}",
@@ -570,6 +576,12 @@ pub const CORNERS: [&str; 118] = [
     "a={b}/*",
     "a={b}\r",
     "a\r\n=\r\n{b}",
+    "r={(\na)}",
+    "r={(\na)*}",
+    "r={PUSH(\na)}",
+    "r={(\na~b)}",
+    "r={\r\n!\n a ~ b}",
+    "r={#t\n=\n\"x\ny\"~b}",
 ];
 
 /// Texts on both sides of every limit.
@@ -587,6 +599,10 @@ pub fn limits() -> Vec<Vec<u8>> {
         add(format!("a={{{open}){close}}}"));
         add(format!("a={{{}b{}}}", "(#t=".repeat(deep), ")*".repeat(deep)));
         add(format!("a={{{}}}", vec![format!("{open}b{close}"); 3].join("~")));
+        // Each start is on a line of its own, and moves.
+        let (open, close) = ("\r\n(\n".repeat(deep), ")\n*".repeat(deep));
+        add(format!("a={{{open}b\n~\nc{close}}}"));
+        add(format!("a={{c~\n{open}b{close}\n|\nc}}"));
     }
     for count in [4_094, 4_095, 4_096, 4_097, 4_098] {
         add(format!("a={{{}b}}", "!".repeat(count - 1)));
@@ -595,6 +611,7 @@ pub fn limits() -> Vec<Vec<u8>> {
         add("a={b}".repeat(count / 4));
         add(format!("a={{b{}}}", "~b".repeat(count / 2)));
         add(format!("a={{!b{}}}", "|b".repeat(count / 2)));
+        add(format!("a={{b{}}}", "\n~\r\n\"\n\"".repeat(count / 2)));
     }
     for count in [1_022, 1_023, 1_024, 1_025, 1_026] {
         add("a={b}".repeat(count));
@@ -605,6 +622,7 @@ pub fn limits() -> Vec<Vec<u8>> {
     for bytes in [65_534, 65_535, 65_536, 65_537, 65_538, 70_000] {
         let pad = |text: &str, with: &str| format!("{}{text}", with.repeat(bytes - text.len()));
         add(pad("a={b}", " "));
+        add(pad("a={b~\n\"\n\"|(\nc)*}", "\n"));
         add(pad("", " "));
         add(format!("a={{\"{}\"}}", "x".repeat(bytes - 6)));
         add(format!("a={{\"{}\"}}", "\\n".repeat((bytes - 6) / 2)));

@@ -1,6 +1,7 @@
 //! Trees of good tables: regrouping, and leaving tags out.
 
 use oracle::Tables;
+use second::{NODE_RECORD, RULE_RECORD};
 
 /// A node: its numbers (counts, characters, a slice's ends), its text, its children.
 #[derive(Clone, Debug, PartialEq, Eq)]
@@ -24,10 +25,10 @@ pub fn rules(tables: &Tables) -> Vec<Rule> {
         tables.store[offset as usize..offset as usize + length as usize].to_vec()
     };
     let mut made: Vec<Tree> = Vec::new();
-    let mut nodes = tables.nodes.chunks_exact(6);
+    let mut nodes = tables.nodes.chunks_exact(NODE_RECORD);
     let mut next = 0;
     let mut found = Vec::new();
-    for rule in tables.rules.chunks_exact(6) {
+    for rule in tables.rules.chunks_exact(RULE_RECORD) {
         while next <= rule[3] {
             let node = nodes.next().expect("a node");
             let (kind, p, q, r) = (node[0], node[3], node[4], node[5]);
@@ -51,7 +52,7 @@ pub fn rules(tables: &Tables) -> Vec<Rule> {
     found
 }
 
-/// Tables of rules: spans 0, the store in text order.
+/// Tables of rules: spans and lines 0, the store in text order.
 pub fn tables(rules: &[Rule]) -> Tables {
     fn keep(tables: &mut Tables, text: &[u8]) -> (u32, u32) {
         let offset = tables.store.len() as u32;
@@ -78,8 +79,8 @@ pub fn tables(rules: &[Rule]) -> Tables {
             }
             _ => (child(tables, 0), 0, 0),
         };
-        tables.nodes.extend([tree.kind, 0, 0, p, q, r]);
-        (tables.nodes.len() / 6 - 1) as u32
+        tables.nodes.extend([tree.kind, 0, 0, p, q, r, 0]);
+        (tables.nodes.len() / NODE_RECORD - 1) as u32
     }
     let mut made = Tables::default();
     for rule in rules {

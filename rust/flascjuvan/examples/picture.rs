@@ -1,4 +1,4 @@
-//! Draws a grammar that it reads on standard input: what belongs to what, with byte spans.
+//! Draws a grammar that it reads on standard input: what belongs to what, with spans and lines.
 //!
 //!     cargo run --example picture < ../../layouts/pan.pest
 //!     cargo run --example picture plain < ../../layouts/tagged.pest

@@ -8,7 +8,9 @@ use crate::shape::{fold, Shape};
 use crate::{print, print_short, read, Expr, Level, ParserExpr, ParserNode, ParserRule, Refusal, Rule, RuleType, Span};
 
 /// The numbers of a node record.
-pub(crate) const NODE_RECORD: usize = 6;
+pub(crate) const NODE_RECORD: usize = 7;
+/// Where the line stands in a node record.
+const LINE: usize = 6;
 /// The numbers of a rule record.
 pub(crate) const RULE_RECORD: usize = 6;
 
@@ -22,7 +24,7 @@ pub(crate) const RULE_RECORD: usize = 6;
 /// - a picture of what belongs to what by [`picture`](Grammar::picture) and `{:#?}`;
 /// - all rules by name on one line, spans included, by `{:?}`.
 ///
-/// `==` compares spans too, [`same`](Grammar::same) doesn't.
+/// `==` compares spans and lines too, [`same`](Grammar::same) doesn't.
 ///
 /// What [`print_short`] printed is read back as the [`same`](Grammar::same) rules. So is what [`print`](fn@print)
 /// printed, but that a chain to the right comes back grouped to the left: `a ~ (b ~ c)` prints as `(a ~ b ~ c)`, which
@@ -71,7 +73,7 @@ impl Grammar {
         grammar
     }
 
-    /// The tables as the C interface has them: node records and rule records of six numbers each, and the store, which
+    /// The tables as the C interface has them: node records of seven numbers, rule records of six, and the store, which
     /// holds names, tags and strings. The project's README.md says what the numbers are.
     ///
     /// ```
@@ -79,8 +81,8 @@ impl Grammar {
     ///
     /// let grammar: Grammar = "r = { (a)* }".parse()?;
     /// let (nodes, rules, store) = grammar.tables();
-    /// // kind, span start, span end, p, q, r: the word, then its repetition
-    /// assert_eq!(nodes, [4, 7, 9, 1, 1, 0, 11, 6, 10, 0, 0, 0]);
+    /// // kind, span start, span end, p, q, r, line: the word, then its repetition
+    /// assert_eq!(nodes, [4, 7, 9, 1, 1, 0, 1, 11, 6, 10, 0, 0, 0, 1]);
     /// // name offset, name length, mark, root, span start, span end
     /// assert_eq!(rules, [0, 1, 0, 1, 0, 1]);
     /// assert_eq!(store, b"ra");
@@ -131,7 +133,24 @@ impl Grammar {
         (index < self.nodes.len() / NODE_RECORD).then(|| self.span(index))
     }
 
-    /// A picture of what belongs to what, with the bytes of the text that each rule's name and each node spans.
+    /// The line, from 1, in which the node of this index starts: one plus the LF bytes before its span, so that CRLF ends a
+    /// line as LF does. None if there is no such node, or if the grammar was made of rules.
+    ///
+    /// ```
+    /// use flascjuvan::Grammar;
+    ///
+    /// let grammar: Grammar = "r = {\r\n  a ~\n  b\n}".parse()?;
+    /// assert_eq!([0, 1, 2, 3].map(|index| grammar.line(index)), [Some(2), Some(3), Some(2), None]);
+    /// assert_eq!(Grammar::from(grammar.rules()).line(0), None);
+    /// # Ok::<(), flascjuvan::Refusal>(())
+    /// ```
+    pub fn line(&self, index: usize) -> Option<usize> {
+        let record = self.nodes.chunks_exact(NODE_RECORD).nth(index)?;
+        (record[LINE] != 0).then_some(record[LINE] as usize)
+    }
+
+    /// A picture of what belongs to what, with the bytes of the text that each rule's name and each node spans, and the
+    /// line in which the node starts.
     ///
     /// ```
     /// use flascjuvan::Grammar;
@@ -141,10 +160,10 @@ impl Grammar {
     ///     grammar.picture().to_string(),
     ///     "\
     /// a  0..1
-    /// └─ Seq  6..17
-    ///    ├─ Ident b  6..7
-    ///    └─ Rep  10..17
-    ///       └─ Str \"\\u{01}\"  10..16
+    /// └─ Seq  6..17  line 1
+    ///    ├─ Ident b  6..7  line 1
+    ///    └─ Rep  10..17  line 1
+    ///       └─ Str \"\\u{01}\"  10..16  line 1
     /// "
     /// );
     /// # Ok::<(), flascjuvan::Refusal>(())
@@ -219,7 +238,7 @@ impl Grammar {
         std::str::from_utf8(part).expect("a text in the store is UTF-8")
     }
 
-    /// Appends a rule's records and texts, as reading it would. Spans are 0: there is no text.
+    /// Appends a rule's records and texts, as reading it would. Spans and lines are 0: there is no text.
     fn push_rule(&mut self, name: &str, ty: RuleType, expr: &Expr) {
         let Grammar { nodes, rules, store } = self;
         let (offset, length) = push_text(store, name);
@@ -325,7 +344,7 @@ fn push_text(store: &mut Vec<u8>, text: &str) -> Part {
 fn push_node(nodes: &mut Vec<u32>, shape: Shape<Part, u32>) -> u32 {
     let index = narrow(nodes.len() / NODE_RECORD);
     let [kind, p, q, r] = packed(shape);
-    nodes.extend_from_slice(&[kind, 0, 0, p, q, r]);
+    nodes.extend_from_slice(&[kind, 0, 0, p, q, r, 0]);
     index
 }
 

@@ -7,8 +7,8 @@ use crate::place::line_columns;
 use crate::shape::Shape;
 use crate::{Grammar, LineColumn, Refusal, RuleType, Span};
 
-/// A grammar as a picture, to be shown by [`Display`]: what belongs to what, and the bytes of the text that each node
-/// spans.
+/// A grammar as a picture, to be shown by [`Display`]: what belongs to what, the bytes of the text that each node spans,
+/// and the line in which it starts; or with its text, line and column of each start.
 ///
 /// Each rule and each node has a line, and children are set in below what they belong to. Strings stand as the grammar
 /// writes them. A name that isn't spelled like a word stands as a string; only trees that were made by hand have those.
@@ -23,11 +23,11 @@ pub struct Picture<'a> {
 impl Display for Picture<'_> {
     fn fmt(&self, f: &mut Formatter<'_>) -> fmt::Result {
         let lines = self.text.map(line_columns);
-        let place = |span| Place { span, lines: lines.as_deref() };
+        let place = |span, line| Place { span, line, lines: lines.as_deref() };
         for rule in self.grammar.rule_rows() {
             rule_line(f, rule.name, rule.ty)?;
-            write!(f, "{}", place(rule.span))?;
-            let open = |index| (self.grammar.shape(index), place(self.grammar.span(index)));
+            write!(f, "{}", place(rule.span, None))?;
+            let open = |index| (self.grammar.shape(index), place(self.grammar.span(index), self.grammar.line(index)));
             draw(f, open(rule.root), Under::Line, open)?;
             writeln!(f)?;
         }
@@ -35,19 +35,22 @@ impl Display for Picture<'_> {
     }
 }
 
-/// A span behind a name, and the line and column of its start where they are known.
+/// A span behind a name, and of its start the line and column where the text is known, or else the line where the record
+/// has it.
 struct Place<'a> {
     span: Span,
+    line: Option<usize>,
     lines: Option<&'a [LineColumn]>,
 }
 
 impl Display for Place<'_> {
     fn fmt(&self, f: &mut Formatter<'_>) -> fmt::Result {
         write!(f, "  {}", self.span)?;
-        match self.lines {
+        match (self.lines, self.line) {
             // a place past the text's end counts as the end, as it does for `line_column`
-            Some(lines) => write!(f, "  {}", lines[self.span.start.min(lines.len() - 1)]),
-            None => Ok(()),
+            (Some(lines), _) => write!(f, "  {}", lines[self.span.start.min(lines.len() - 1)]),
+            (None, Some(line)) => write!(f, "  line {line}"),
+            (None, None) => Ok(()),
         }
     }
 }

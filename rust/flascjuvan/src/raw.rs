@@ -95,10 +95,10 @@ extern "C" {
 /// Reads a text into the fronts of the lent buffers. Number, place, nodes, rules, store bytes.
 ///
 /// ```
-/// let (mut nodes, mut rules, mut store) = ([0; 12], [0; 6], [0; 2]);
+/// let (mut nodes, mut rules, mut store) = ([0; 14], [0; 6], [0; 2]);
 /// let answer = flascjuvan::raw::read(b"r = { (a)* }", true, &mut nodes, &mut rules, &mut store);
 /// assert_eq!(answer, [0, 0, 2, 1, 2]);
-/// assert_eq!(flascjuvan::raw::read(b"r = { (a)* }", true, &mut nodes[..6], &mut rules, &mut store), [10, 0, 0, 0, 0]);
+/// assert_eq!(flascjuvan::raw::read(b"r = { (a)* }", true, &mut nodes[..7], &mut rules, &mut store), [10, 0, 0, 0, 0]);
 /// ```
 pub fn read(text: &[u8], tagged: bool, nodes: &mut [u32], rules: &mut [u32], store: &mut [u8]) -> [u64; 5] {
     let mut answer = [u64::MAX; 5];
@@ -124,7 +124,7 @@ pub fn read(text: &[u8], tagged: bool, nodes: &mut [u32], rules: &mut [u32], sto
 ///
 /// ```
 /// let mut out = [0; 16];
-/// assert_eq!(flascjuvan::raw::print(&[4, 0, 0, 1, 1, 0], &[0, 1, 0, 0, 0, 0], b"ra", &mut out), [0, 0, 10]);
+/// assert_eq!(flascjuvan::raw::print(&[4, 0, 0, 1, 1, 0, 0], &[0, 1, 0, 0, 0, 0], b"ra", &mut out), [0, 0, 10]);
 /// assert_eq!(&out[..10], b"r = { a }\n");
 /// ```
 pub fn print(nodes: &[u32], rules: &[u32], store: &[u8], out: &mut [u8]) -> [u64; 3] {
@@ -134,7 +134,7 @@ pub fn print(nodes: &[u32], rules: &[u32], store: &[u8], out: &mut [u8]) -> [u64
 /// Prints tables to the front of the lent output, with the fewest brackets that keep the trees. Number, place, bytes.
 ///
 /// ```
-/// let (nodes, mut out) = ([3, 0, 0, 97, 122, 0], [0; 20]);
+/// let (nodes, mut out) = ([3, 0, 0, 97, 122, 0, 0], [0; 20]);
 /// assert_eq!(flascjuvan::raw::print_short(&nodes, &[0, 1, 0, 0, 0, 0], b"r", &mut out), [0, 0, 17]);
 /// assert_eq!(&out[..17], b"r = { 'a'..'z' }\n");
 /// ```
@@ -181,7 +181,7 @@ pub fn next_token(text: &[u8], at: usize) -> [u64; 5] {
 ///
 /// ```
 /// // r = { "a"* }
-/// let (nodes, rules) = ([1, 0, 0, 1, 1, 0, 11, 0, 0, 0, 0, 0], [0, 1, 0, 1, 0, 0]);
+/// let (nodes, rules) = ([1, 0, 0, 1, 1, 0, 0, 11, 0, 0, 0, 0, 0, 0], [0, 1, 0, 1, 0, 0]);
 /// assert_eq!(flascjuvan::raw::match_line(&nodes, &rules, b"ra", 0, b"aab", 99), [0, 0, 1, 2, 4]);
 /// assert_eq!(flascjuvan::raw::match_line(&nodes, &rules, b"ra", 0, b"aab", 3), [34, 0, 0, 0, 0]);
 /// assert_eq!(flascjuvan::raw::match_line(&nodes, &rules, b"ra", 1, b"aab", 99), [32, 0, 0, 0, 0]);
@@ -214,7 +214,7 @@ pub fn match_line(nodes: &[u32], rules: &[u32], store: &[u8], start: usize, line
 ///
 /// ```
 /// // r = { "a"* }
-/// let (nodes, rules) = ([1, 0, 0, 1, 1, 0, 11, 0, 0, 0, 0, 0], [0, 1, 0, 1, 0, 0]);
+/// let (nodes, rules) = ([1, 0, 0, 1, 1, 0, 0, 11, 0, 0, 0, 0, 0, 0], [0, 1, 0, 1, 0, 0]);
 /// let mut records = [0; 10];
 /// let answer = flascjuvan::raw::match_lines(&nodes, &rules, b"ra", 0, b"aab\r\n\xff\na", 99, &mut records);
 /// assert_eq!(answer, [0, 0, 2, 7]);
@@ -254,7 +254,7 @@ pub fn match_lines(
 /// Looks a rule up by its name. Number, place, the lowest index of a rule of that name.
 ///
 /// ```
-/// let (nodes, rules) = ([4, 0, 0, 1, 1, 0], [0, 1, 0, 0, 0, 0]);
+/// let (nodes, rules) = ([4, 0, 0, 1, 1, 0, 0], [0, 1, 0, 0, 0, 0]);
 /// assert_eq!(flascjuvan::raw::rule_named(&nodes, &rules, b"ra", b"r"), [0, 0, 0]);
 /// assert_eq!(flascjuvan::raw::rule_named(&nodes, &rules, b"ra", b"a"), [32, 0, 0]);
 /// ```

@@ -11,7 +11,7 @@ use std::panic::{catch_unwind, AssertUnwindSafe};
 
 use pest::error::{Error, ErrorVariant, InputLocation};
 use pest_meta_tagged::ast;
-pub use tree::{Expr, Node, Rule, Tables};
+pub use tree::{Expr, Node, Rule, Tables, NODE_RECORD, RULE_RECORD};
 
 /// Read; or refused, by which half and at which place; or a panic.
 #[derive(Clone, Debug, PartialEq, Eq)]
@@ -66,11 +66,12 @@ macro_rules! level {
             use $meta::ast::RuleType;
             use $meta::parser::{self, ParserExpr, ParserNode};
 
-            fn boxed(node: &ParserNode<'_>) -> Box<Node> {
-                Box::new(copy(node))
+            fn boxed(node: &ParserNode<'_>, lines: Lines<'_>) -> Box<Node> {
+                Box::new(copy(node, lines))
             }
 
-            fn copy(node: &ParserNode<'_>) -> Node {
+            fn copy(node: &ParserNode<'_>, lines: Lines<'_>) -> Node {
+                let boxed = |node: &ParserNode<'_>| boxed(node, lines);
                 let expr = match &node.expr {
                     ParserExpr::Str(s) => Expr::Str(s.clone()),
                     ParserExpr::Insens(s) => Expr::Insens(s.clone()),
@@ -94,10 +95,12 @@ macro_rules! level {
                         ParserExpr::$node_tag(e, tag) => Expr::NodeTag(boxed(e), tag.clone()),
                     )?
                 };
-                Node { expr, start: node.span.start(), end: node.span.end() }
+                let (start, end) = (node.span.start(), node.span.end());
+                let line = lines(&node.span.start_pos());
+                Node { expr, start, end, line }
             }
 
-            pub fn read(text: &str) -> Answer<Vec<Rule>> {
+            pub fn read(text: &str, lines: Lines<'_>) -> Answer<Vec<Rule>> {
                 caught(|| {
                     let pairs = match parser::parse(parser::Rule::grammar_rules, text) {
                         Ok(pairs) => pairs,
@@ -118,7 +121,7 @@ macro_rules! level {
                                     },
                                     start: rule.span.start(),
                                     end: rule.span.end(),
-                                    node: copy(&rule.node),
+                                    node: copy(&rule.node, lines),
                                 })
                                 .collect(),
                         ),
@@ -168,12 +171,27 @@ pub(crate) fn found<R: pest::RuleType>(pairs: pest::iterators::Pairs<'_, R>) -> 
     found
 }
 
-/// Parse and build, at a level.
+/// The longest text whose lines pest counts: it begins at the text's start for each place.
+const COUNTED: usize = 2_000;
+
+/// Parse and build, at a level. A line is pest's own `line_col`, in long texts LF bytes counted here.
 pub fn read(text: &str, is_tagged: bool) -> Answer<Vec<Rule>> {
+    if text.len() <= COUNTED {
+        return read_with(text, is_tagged, &|place| place.line_col().0);
+    }
+    let ends: Vec<usize> = text.match_indices('\n').map(|(place, _)| place).collect();
+    let line = |place: usize| 1 + ends.partition_point(|end| *end < place);
+    read_with(text, is_tagged, &|place| line(place.pos()))
+}
+
+/// Which line a place is in.
+type Lines<'a> = &'a dyn Fn(&pest::Position<'_>) -> usize;
+
+fn read_with(text: &str, is_tagged: bool, lines: Lines<'_>) -> Answer<Vec<Rule>> {
     if is_tagged {
-        tagged::read(text)
+        tagged::read(text, lines)
     } else {
-        plain::read(text)
+        plain::read(text, lines)
     }
 }
 
@@ -213,8 +231,8 @@ impl Printable {
         let mut made: Vec<ast::Expr> = Vec::new();
         let mut trees = Vec::new();
         let mut next = 0;
-        for rule in rules.chunks_exact(6) {
-            for node in nodes.chunks_exact(6).take(rule[3] as usize + 1).skip(next) {
+        for rule in rules.chunks_exact(RULE_RECORD) {
+            for node in nodes.chunks_exact(NODE_RECORD).take(rule[3] as usize + 1).skip(next) {
                 let (p, q, r) = (node[3], node[4], node[5]);
                 let expr = match node[0] {
                     1 => ast::Expr::Str(part(p, q)),

@@ -28,7 +28,7 @@ fn copy(expr: &ast::Expr) -> Node {
         ast::Expr::Push(e) => Expr::Push(boxed(e)),
         ast::Expr::Skip(_) => unreachable!("the optimizer's"),
     };
-    Node { expr, start: 0, end: 0 }
+    Node { expr, start: 0, end: 0, line: 0 }
 }
 
 /// Parse and build; spans are 0.

@@ -29,6 +29,8 @@ pub struct Node {
     pub expr: Expr,
     pub start: usize,
     pub end: usize,
+    /// Of the start, counted from 1; 0 where there are no spans.
+    pub line: usize,
 }
 
 /// A rule; `mark` is numbered 0 to 4.
@@ -41,7 +43,12 @@ pub struct Rule {
     pub node: Node,
 }
 
-/// Records of six numbers, and the bytes of names, tags and strings in text order.
+/// The numbers in a node's record.
+pub const NODE_RECORD: usize = 7;
+/// The numbers in a rule's record.
+pub const RULE_RECORD: usize = 6;
+
+/// Records, and the bytes of names, tags and strings in text order.
 #[derive(Clone, Debug, Default, PartialEq, Eq)]
 pub struct Tables {
     pub nodes: Vec<u32>,
@@ -96,8 +103,9 @@ impl Tables {
                 (19, self.node(e), offset, length)
             }
         };
-        self.nodes.extend([kind, node.start as u32, node.end as u32, p, q, r]);
-        (self.nodes.len() / 6 - 1) as u32
+        let span = [node.start as u32, node.end as u32];
+        self.nodes.extend([kind, span[0], span[1], p, q, r, node.line as u32]);
+        (self.nodes.len() / NODE_RECORD - 1) as u32
     }
 
     fn text(&mut self, kind: u32, text: &str) -> (u32, u32, u32, u32) {
@@ -105,13 +113,14 @@ impl Tables {
         (kind, offset, length, 0)
     }
 
-    /// All spans 0, to hold beside an answer that has none.
+    /// All spans and lines 0, to hold beside an answer that has none.
     pub fn without_spans(mut self) -> Tables {
-        for node in self.nodes.chunks_exact_mut(6) {
+        for node in self.nodes.chunks_exact_mut(NODE_RECORD) {
             node[1] = 0;
             node[2] = 0;
+            node[6] = 0;
         }
-        for rule in self.rules.chunks_exact_mut(6) {
+        for rule in self.rules.chunks_exact_mut(RULE_RECORD) {
             rule[4] = 0;
             rule[5] = 0;
         }

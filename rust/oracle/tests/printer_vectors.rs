@@ -18,7 +18,7 @@ fn bytes(word: &str) -> Vec<u8> {
 /// The characters of all strings and range ends.
 fn characters(nodes: &[u32], store: &[u8]) -> String {
     let mut all = String::new();
-    for node in nodes.chunks_exact(6) {
+    for node in nodes.chunks_exact(7) {
         match node[0] {
             1 | 2 | 18 => {
                 let text = &store[node[3] as usize..][..node[4] as usize];

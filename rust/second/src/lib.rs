@@ -22,8 +22,10 @@ pub const RULES: usize = 1_024;
 pub const OPEN: usize = 1_024;
 /// The most visits of the matcher inside one another.
 pub const NESTED: usize = 1_024;
-/// The numbers in a record.
-pub const RECORD: usize = 6;
+/// The numbers in a node's record: kind, span, p, q, r, line.
+pub const NODE_RECORD: usize = 7;
+/// The numbers in a rule's record: name, mark, root, the name's span.
+pub const RULE_RECORD: usize = 6;
 
 /// A number that the caller sees, and its place.
 #[derive(Clone, Copy, Debug, PartialEq, Eq)]

@@ -6,7 +6,7 @@
 use std::collections::HashMap;
 
 use crate::print::{check, part};
-use crate::{refuse, Refusal, NESTED, RECORD};
+use crate::{refuse, Refusal, NESTED, NODE_RECORD, RULE_RECORD};
 
 /// What a run came to: the bytes that matched, or none; and the visits that it took.
 #[derive(Clone, Copy, Debug, PartialEq, Eq)]
@@ -137,7 +137,7 @@ impl<'a> Layout<'a> {
         if check(nodes, rules, store).is_err() {
             return refuse(30, 0);
         }
-        if let Some(unfit) = nodes.chunks_exact(RECORD).position(is_unfit) {
+        if let Some(unfit) = nodes.chunks_exact(NODE_RECORD).position(is_unfit) {
             return refuse(31, unfit);
         }
         let roots = match roots(rules, store) {
@@ -145,8 +145,8 @@ impl<'a> Layout<'a> {
             None => return refuse(32, 0),
         };
         // All names are looked up, whether the starting rule leads to them or not.
-        let forms = nodes.chunks_exact(RECORD).map(|node| form(node, store, &roots)).collect();
-        let root = rules.chunks_exact(RECORD).nth(start).map(|rule| rule[3] as usize);
+        let forms = nodes.chunks_exact(NODE_RECORD).map(|node| form(node, store, &roots)).collect();
+        let root = rules.chunks_exact(RULE_RECORD).nth(start).map(|rule| rule[3] as usize);
         match (forms, root) {
             (Some(forms), Some(root)) => Ok(Layout { forms, root }),
             _ => refuse(32, 0),
@@ -181,7 +181,7 @@ fn is_unfit(node: &[u32]) -> bool {
 /// The root of each rule by its name; nothing where a rule is called ANY or a name is used twice.
 fn roots<'a>(rules: &[u32], store: &'a [u8]) -> Option<HashMap<&'a [u8], usize>> {
     let mut roots = HashMap::new();
-    for rule in rules.chunks_exact(RECORD) {
+    for rule in rules.chunks_exact(RULE_RECORD) {
         let name = part(store, rule[0], rule[1]).expect("a part that lies inside");
         if name == b"ANY" || roots.insert(name, rule[3] as usize).is_some() {
             return None;

@@ -1,6 +1,6 @@
 //! The printer: 20, 21, 22, 23, then the text, in full or short. Nothing recurses.
 
-use crate::{is_word, refuse, Refusal, BYTES, NODES, RECORD, RULES};
+use crate::{is_word, refuse, Refusal, BYTES, NODES, NODE_RECORD, RULES, RULE_RECORD};
 
 /// Prints into a lent buffer, and answers the bytes written. A refusal writes nothing.
 pub fn print(nodes: &[u32], rules: &[u32], store: &[u8], out: &mut [u8]) -> Result<usize, Refusal> {
@@ -77,15 +77,15 @@ fn is_name(store: &[u8], offset: u32, length: u32) -> bool {
 
 /// 20, 21 and 22.
 pub fn check(nodes: &[u32], rules: &[u32], store: &[u8]) -> Result<(), Refusal> {
-    let is_whole = |numbers: &[u32]| numbers.chunks_exact(RECORD).remainder().is_empty();
-    let whole = is_whole(nodes) && is_whole(rules);
-    let (node_count, rule_count) = (nodes.len() / RECORD, rules.len() / RECORD);
+    let whole = nodes.chunks_exact(NODE_RECORD).remainder().is_empty()
+        && rules.chunks_exact(RULE_RECORD).remainder().is_empty();
+    let (node_count, rule_count) = (nodes.len() / NODE_RECORD, rules.len() / RULE_RECORD);
     if !whole || node_count > NODES || rule_count > RULES || store.len() > BYTES {
         return refuse(20, 0);
     }
     // The first node of each node's tree.
     let mut firsts: Vec<usize> = Vec::with_capacity(node_count);
-    for (i, node) in nodes.chunks_exact(RECORD).enumerate() {
+    for (i, node) in nodes.chunks_exact(NODE_RECORD).enumerate() {
         let (p, q, r) = (node[3], node[4], node[5]);
         let just_before = |child: u32| i > 0 && child as usize == i - 1;
         let first = match node[0] {
@@ -111,7 +111,7 @@ pub fn check(nodes: &[u32], rules: &[u32], store: &[u8]) -> Result<(), Refusal> 
         }
     }
     let mut begin = 0;
-    for (i, rule) in rules.chunks_exact(RECORD).enumerate() {
+    for (i, rule) in rules.chunks_exact(RULE_RECORD).enumerate() {
         let root = rule[3] as usize;
         let good = is_name(store, rule[0], rule[1])
             && rule[2] <= 4
@@ -193,9 +193,9 @@ struct Good<'a> {
 }
 
 impl<'a> Good<'a> {
-    fn node(&self, index: u32) -> [u32; RECORD] {
-        let at = index as usize * RECORD;
-        self.nodes[at..at + RECORD].try_into().expect("a whole record")
+    fn node(&self, index: u32) -> [u32; NODE_RECORD] {
+        let at = index as usize * NODE_RECORD;
+        self.nodes[at..at + NODE_RECORD].try_into().expect("a whole record")
     }
 
     fn text(&self, offset: u32, length: u32) -> &'a str {
@@ -208,7 +208,7 @@ impl<'a> Good<'a> {
     }
 
     /// What stands behind the operand of a postfix.
-    fn postfix(&self, node: [u32; RECORD]) -> String {
+    fn postfix(&self, node: [u32; NODE_RECORD]) -> String {
         let (q, r) = (node[4], node[5]);
         match node[0] {
             10 => "?".to_string(),
@@ -221,7 +221,7 @@ impl<'a> Good<'a> {
         }
     }
 
-    fn peek(&self, node: [u32; RECORD]) -> String {
+    fn peek(&self, node: [u32; NODE_RECORD]) -> String {
         let (p, r) = (node[3] as i32, node[5] as i32);
         if node[4] == 0 {
             format!("PEEK[{p}..]")
@@ -244,8 +244,8 @@ fn measure(good: &Good<'_>, rules: &[u32], most: u64) -> u64 {
     let inside = |lengths: &[u64], over, index: u32, right| {
         lengths[index as usize] + if good.bracketed(over, index, right) { 2 } else { 0 }
     };
-    for node in good.nodes.chunks_exact(RECORD) {
-        let node: [u32; RECORD] = node.try_into().expect("a whole record");
+    for node in good.nodes.chunks_exact(NODE_RECORD) {
+        let node: [u32; NODE_RECORD] = node.try_into().expect("a whole record");
         let (p, q, r) = (node[3], node[4], node[5]);
         let child = |index, right| inside(&lengths, node[0], index, right);
         let length = match node[0] {
@@ -273,7 +273,7 @@ fn measure(good: &Good<'_>, rules: &[u32], most: u64) -> u64 {
         let mark = if rule[2] == 0 { 0 } else { 1 };
         u64::from(rule[1]) + 3 + mark + 2 + inside(&lengths, 0, rule[3], false) + 3
     };
-    rules.chunks_exact(RECORD).map(line).sum()
+    rules.chunks_exact(RULE_RECORD).map(line).sum()
 }
 
 /// What is still to be written, the next at the end.
@@ -294,7 +294,7 @@ fn leave(good: &Good<'_>, over: u32, index: u32, right: bool, left: &mut Vec<Lef
 
 fn write(good: &Good<'_>, rules: &[u32], length: usize) -> Vec<u8> {
     let mut out = Vec::with_capacity(length);
-    for rule in rules.chunks_exact(RECORD) {
+    for rule in rules.chunks_exact(RULE_RECORD) {
         out.extend_from_slice(good.text(rule[0], rule[1]).as_bytes());
         out.extend_from_slice(b" = ");
         out.extend_from_slice(["", "_", "@", "$", "!"][rule[2] as usize].as_bytes());

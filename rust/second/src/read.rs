@@ -2,7 +2,7 @@
 //! Only brackets recurse, and those are at most 1,024 deep.
 
 use crate::token::{self, *};
-use crate::{refuse, whole_text, Refusal, NODES, OPEN, RECORD, RULES};
+use crate::{refuse, whole_text, Refusal, NODES, NODE_RECORD, OPEN, RULES, RULE_RECORD};
 
 /// What a success used.
 #[derive(Clone, Copy, Debug, Default, PartialEq, Eq)]
@@ -20,6 +20,17 @@ pub struct Tables {
     pub store: Vec<u8>,
 }
 
+impl Tables {
+    /// What they use of lent buffers.
+    pub fn used(&self) -> Used {
+        Used {
+            nodes: self.nodes.len() / NODE_RECORD,
+            rules: self.rules.len() / RULE_RECORD,
+            store: self.store.len(),
+        }
+    }
+}
+
 /// Reads into lent buffers. A refusal leaves them alone; a success changes what it used.
 pub fn read(
     text: &[u8],
@@ -29,11 +40,7 @@ pub fn read(
     store: &mut [u8],
 ) -> Result<Used, Refusal> {
     let tables = tables(text, tagged)?;
-    let used = Used {
-        nodes: tables.nodes.len() / RECORD,
-        rules: tables.rules.len() / RECORD,
-        store: tables.store.len(),
-    };
+    let used = tables.used();
     room(used, nodes.len(), rules.len(), store.len())?;
     nodes[..tables.nodes.len()].copy_from_slice(&tables.nodes);
     rules[..tables.rules.len()].copy_from_slice(&tables.rules);
@@ -43,10 +50,10 @@ pub fn read(
 
 /// 12, 10 and 11; `nodes` and `rules` are lengths in numbers.
 pub fn room(used: Used, nodes: usize, rules: usize, store: usize) -> Result<(), Refusal> {
-    if used.rules > RULES.min(rules / RECORD) {
+    if used.rules > RULES.min(rules / RULE_RECORD) {
         return refuse(12, 0);
     }
-    if used.nodes > NODES.min(nodes / RECORD) {
+    if used.nodes > NODES.min(nodes / NODE_RECORD) {
         return refuse(10, 0);
     }
     if used.store > store {
@@ -63,7 +70,23 @@ pub fn tables(text: &[u8], tagged: bool) -> Result<Tables, Refusal> {
     values(text, &tokens, tagged)?;
     let mut builder = Builder { text, tokens: &tokens, next: 0, tagged, made: Tables::default() };
     builder.grammar();
-    Ok(builder.made)
+    let mut made = builder.made;
+    number_lines(text, &mut made.nodes);
+    Ok(made)
+}
+
+/// The seventh number of each node: one plus the LF bytes before its span's start. The starts are
+/// final here, since brackets move some of them after the node is made.
+fn number_lines(text: &[u8], nodes: &mut [u32]) {
+    let mut line = 1;
+    let mut lines = Vec::with_capacity(text.len());
+    for byte in text {
+        lines.push(line);
+        line += u32::from(*byte == b'\n');
+    }
+    for node in nodes.chunks_exact_mut(NODE_RECORD) {
+        node[6] = lines[node[1] as usize];
+    }
 }
 
 fn tokens(text: &[u8]) -> Result<Vec<Token>, Refusal> {
@@ -350,16 +373,17 @@ impl Builder<'_> {
     }
 
     fn emit(&mut self, kind: u32, start: u32, end: u32, p: u32, q: u32, r: u32) {
-        self.made.nodes.extend_from_slice(&[kind, start, end, p, q, r]);
+        // The line is known once the start is final.
+        self.made.nodes.extend_from_slice(&[kind, start, end, p, q, r, 0]);
     }
 
     /// The index of the node made last.
     fn last(&self) -> u32 {
-        (self.made.nodes.len() / RECORD - 1) as u32
+        (self.made.nodes.len() / NODE_RECORD - 1) as u32
     }
 
     fn span(&self, node: u32) -> (u32, u32) {
-        let at = node as usize * RECORD;
+        let at = node as usize * NODE_RECORD;
         (self.made.nodes[at + 1], self.made.nodes[at + 2])
     }
 
@@ -466,10 +490,10 @@ impl Builder<'_> {
             OPEN_ROUND => {
                 self.expression();
                 let close = self.take();
-                let at = self.last() as usize * RECORD;
+                let at = self.last() as usize * NODE_RECORD;
                 self.made.nodes[at + 2] = close.end;
                 self.postfixes();
-                let at = self.last() as usize * RECORD;
+                let at = self.last() as usize * NODE_RECORD;
                 self.made.nodes[at + 1] = token.start;
             }
             STRING => {

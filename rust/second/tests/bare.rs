@@ -10,7 +10,7 @@ type Print = fn(&[u32], &[u32], &[u8], &mut [u8]) -> Result<usize, Refusal>;
 const RULE: [u32; 6] = [0, 1, 0, 0, 0, 0];
 
 /// The full text of one node in a rule `r`, which the store begins with; without the rule.
-fn body(node: [u32; 6], store: &str) -> String {
+fn body(node: [u32; 7], store: &str) -> String {
     let mut out = [0; 64];
     let length = print(&node, &RULE, store.as_bytes(), &mut out).expect("a good table");
     // The measured length is the written one.
@@ -23,11 +23,11 @@ fn body(node: [u32; 6], store: &str) -> String {
 }
 
 fn string(text: &str) -> String {
-    body([1, 0, 0, 1, text.len() as u32, 0], &format!("r{text}"))
+    body([1, 0, 0, 1, text.len() as u32, 0, 0], &format!("r{text}"))
 }
 
 fn range(first: char, last: char) -> String {
-    body([3, 0, 0, first.into(), last.into(), 0], "r")
+    body([3, 0, 0, first.into(), last.into(), 0, 0], "r")
 }
 
 #[test]
@@ -84,16 +84,16 @@ fn written(character: char, quote: char) -> String {
 fn chain(character: char) -> Tables {
     let (own, width) = (character as u32, character.len_utf8() as u32);
     let leaves = [
-        [1, 0, 0, 1, width, 0],
-        [2, 0, 0, 1, width, 0],
-        [18, 0, 0, 1, width, 0],
-        [3, 0, 0, own, 97, 0],
-        [3, 0, 0, 97, own, 0],
+        [1, 0, 0, 1, width, 0, 0],
+        [2, 0, 0, 1, width, 0, 0],
+        [18, 0, 0, 1, width, 0, 0],
+        [3, 0, 0, own, 97, 0, 0],
+        [3, 0, 0, 97, own, 0, 0],
     ];
     let mut nodes = leaves[0].to_vec();
     for (i, leaf) in (1..).zip(&leaves[1..]) {
         nodes.extend(leaf);
-        nodes.extend([8, 0, 0, 2 * i - 2, 2 * i - 1, 0]);
+        nodes.extend([8, 0, 0, 2 * i - 2, 2 * i - 1, 0, 0]);
     }
     Tables { nodes, rules: vec![0, 1, 0, 8, 0, 0], store: format!("r{character}").into_bytes() }
 }
@@ -120,7 +120,7 @@ fn every_character() {
         let full = format!("r = {{ (((({s} ~ {i}) ~ {p})) ~ ({a})) ~ ({b})) }}\n");
         assert_eq!(text(print), full);
         let [short, full] = [short, full].map(|text| tables(text.as_bytes(), true).expect(&text));
-        let numbers = |nodes: &[u32], at: usize| nodes[6 * at + 3..][..2].to_vec();
+        let numbers = |nodes: &[u32], at: usize| nodes[7 * at + 3..][..2].to_vec();
         for read in [short, full] {
             assert_eq!(numbers(&read.nodes, 5), [character as u32, 97]);
             assert_eq!(numbers(&read.nodes, 7), [97, character as u32]);

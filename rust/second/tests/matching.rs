@@ -159,13 +159,13 @@ fn joins_and_repeats() {
 /// Counts of 0, which no text has but tables may.
 #[test]
 fn zero_counts() {
-    let text = [1, 0, 0, 0, 0, 0];
+    let text = [1, 0, 0, 0, 0, 0, 0];
     for (kind, q) in [(13, 0), (15, 0), (16, 0)] {
-        let nodes = [text, [kind, 0, 0, 0, q, 0]].concat();
+        let nodes = [text, [kind, 0, 0, 0, q, 0, 7]].concat();
         let answer = match_line(&nodes, &[0, 1, 0, 1, 0, 0], b"r", 0, b"a", 1);
         assert_eq!(answer, matched(0, 1), "kind {kind}");
     }
-    let nodes = [text, [14, 0, 0, 0, 0, 0]].concat();
+    let nodes = [text, [14, 0, 0, 0, 0, 0, 7]].concat();
     assert_eq!(match_line(&nodes, &[0, 1, 0, 1, 0, 0], b"r", 0, b"a", 99), refused(34, 0));
 }
 
@@ -184,14 +184,14 @@ fn the_starting_rule() {
 fn false_tables() {
     let answer =
         |nodes: &[u32], rules: &[u32], store: &[u8]| match_line(nodes, rules, store, 0, b"a", 99);
-    let (good, rule) = ([1, 0, 0, 0, 1, 0, 11, 0, 0, 0, 0, 0], [1, 1, 0, 1, 0, 0]);
+    let (good, rule) = ([1, 0, 0, 0, 1, 0, 0, 11, 0, 0, 0, 0, 0, 0], [1, 1, 0, 1, 0, 0]);
     assert_eq!(answer(&good, &rule, b"ar"), matched(1, 3));
     // 20, 21 at 0, 21 at 1, 22 at 0 and 22 at 1: the place is 0 for all.
-    assert_eq!(answer(&good[..11], &rule, b"ar"), refused(30, 0));
+    assert_eq!(answer(&good[..12], &rule, b"ar"), refused(30, 0));
     assert_eq!(answer(&good, &rule[..5], b"ar"), refused(30, 0));
     assert_eq!(answer(&good, &rule, &[b'r'; 65_537]), refused(30, 0));
-    assert_eq!(answer(&[20, 0, 0, 0, 0, 0], &[0, 1, 0, 0, 0, 0], b"r"), refused(30, 0));
-    assert_eq!(answer(&[1, 0, 0, 0, 1, 0, 11, 0, 0, 1, 0, 0], &rule, b"ar"), refused(30, 0));
+    assert_eq!(answer(&[20, 0, 0, 0, 0, 0, 0], &[0, 1, 0, 0, 0, 0], b"r"), refused(30, 0));
+    assert_eq!(answer(&[1, 0, 0, 0, 1, 0, 0, 11, 0, 0, 1, 0, 0, 0], &rule, b"ar"), refused(30, 0));
     assert_eq!(answer(&good, &[1, 1, 5, 1, 0, 0], b"ar"), refused(30, 0));
     assert_eq!(answer(&good, &[1, 1, 0, 0, 0, 0], b"ar"), refused(30, 0));
     assert_eq!(answer(&good, &[], b"ar"), refused(30, 0));
@@ -224,7 +224,7 @@ fn names() {
     answers(r#"r={"a"} s={"b"} s={"c"}"#, "a", refused(32, 0));
     answers(r#"r={"a"} s={"b"} r={"a"}"#, "a", refused(32, 0));
     // One name at two offsets of the store is one name, and so is one part named by two rules.
-    let (node, store) = ([1, 0, 0, 0, 1, 0], b"ra");
+    let (node, store) = ([1, 0, 0, 0, 1, 0, 0], b"ra");
     let nodes = [node, node].concat();
     let twice = [0, 1, 0, 0, 0, 0, 0, 1, 0, 1, 0, 0];
     assert_eq!(match_line(&nodes, &twice, store, 0, b"r", 99), refused(32, 0));
@@ -257,14 +257,14 @@ fn lines_that_are_not_utf8() {
 #[test]
 fn order() {
     // Node 1 is false, node 0 unfit, the start out of range, the line no UTF-8, no step allowed.
-    let unfit = [18, 0, 0, 0, 1, 0];
-    let nodes = [unfit, [20, 0, 0, 0, 0, 0]].concat();
+    let unfit = [18, 0, 0, 0, 1, 0, 0];
+    let nodes = [unfit, [20, 0, 0, 0, 0, 0, 0]].concat();
     let rule = [0, 1, 0, 0, 0, 0];
     let answer = |nodes: &[u32], start| match_line(nodes, &rule, b"r", start, b"\xff", 0);
     assert_eq!(answer(&nodes, 1), refused(30, 0));
     assert_eq!(answer(&unfit, 1), refused(31, 0));
-    assert_eq!(answer(&[1, 0, 0, 0, 1, 0], 1), refused(32, 0));
-    assert_eq!(answer(&[1, 0, 0, 0, 1, 0], 0), refused(33, 0));
+    assert_eq!(answer(&[1, 0, 0, 0, 1, 0, 0], 1), refused(32, 0));
+    assert_eq!(answer(&[1, 0, 0, 0, 1, 0, 0], 0), refused(33, 0));
     let made = layout("r={r}");
     assert_eq!(run(&made, b"a\xff", 0), refused(33, 1));
     assert_eq!(run(&made, b"a", 0), refused(34, 0));

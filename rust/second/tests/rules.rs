@@ -21,7 +21,7 @@ fn prints(text: &str, wanted: &str) {
 
 fn spans(text: &str, tagged: bool, wanted: &[(u32, u32)]) {
     let made = tables(text.as_bytes(), tagged).expect(text);
-    let found: Vec<_> = made.nodes.chunks(6).map(|node| (node[1], node[2])).collect();
+    let found: Vec<_> = made.nodes.chunks(7).map(|node| (node[1], node[2])).collect();
     assert_eq!(found, wanted, "{text}");
 }
 
@@ -50,11 +50,11 @@ fn the_twelve() {
     prints(r#"r={"\x01"}"#, "r = { \"\\u{01}\" }\n");
     refused(br#"r={"\u{d800}"}"#, 8, 4);
     let made = tables(b"r = { (a)* }", true).unwrap();
-    assert_eq!(made.nodes, [4, 7, 9, 1, 1, 0, 11, 6, 10, 0, 0, 0]);
+    assert_eq!(made.nodes, [4, 7, 9, 1, 1, 0, 1, 11, 6, 10, 0, 0, 0, 1]);
     assert_eq!(made.rules, [0, 1, 0, 1, 0, 1]);
     assert_eq!(made.store, b"ra");
     let made = tables(b"r={#t = a}", false).unwrap();
-    assert_eq!((made.nodes[0], made.nodes.len(), &made.store[..]), (4, 6, &b"ra"[..]));
+    assert_eq!((made.nodes[0], made.nodes.len(), &made.store[..]), (4, 7, &b"ra"[..]));
     prints("r={a ~ ((b ~ c) ~ d)}", "r = { (a ~ (b ~ c) ~ d) }\n");
     prints("a = { b ~ c | \"x\"* }", "a = { ((b ~ c) | \"x\"*) }\n");
 }
@@ -144,7 +144,7 @@ fn structure() {
 fn values() {
     refused(b"a={b{00}}", 6, 5);
     let zeros = format!("a={{b{{{}1}}}}", "0".repeat(60_000));
-    assert_eq!(tables(zeros.as_bytes(), true).unwrap().nodes[10], 1);
+    assert_eq!(tables(zeros.as_bytes(), true).unwrap().nodes[11], 1);
     refused(format!("a={{b{{{}}}}}", "9".repeat(60_000)).as_bytes(), 5, 5);
     refused(b"a={b{4294967296, 0}}", 5, 5);
     refused(b"a={b{0, 0}}", 6, 8);
@@ -177,18 +177,22 @@ fn trees() {
 fn limits() {
     refused(&[b' '; 65_537], 1, 0);
     refused(b"a\xed\xa0\x80", 2, 1);
-    let (mut nodes, mut rules, mut store) = ([7; 11], [7; 11], [7; 8]);
+    let (mut nodes, mut rules, mut store) = ([7; 13], [7; 11], [7; 8]);
     let mut room = |text: &[u8], n: usize, r: usize, s: usize| {
         read(text, true, &mut nodes[..n], &mut rules[..r], &mut store[..s]).map_err(|e| e.number)
     };
-    assert_eq!(room(b"a={b}", 5, 5, 1), Err(12));
-    assert_eq!(room(b"a={b}", 5, 6, 1), Err(10));
-    assert_eq!(room(b"a={b}", 11, 11, 1), Err(11));
-    assert!(room(b"a={b}", 11, 11, 2).is_ok());
+    assert_eq!(room(b"a={b}", 6, 5, 1), Err(12));
+    assert_eq!(room(b"a={b}", 6, 6, 1), Err(10));
+    assert_eq!(room(b"a={b}", 7, 6, 1), Err(11));
+    assert_eq!(room(b"a={b}", 13, 11, 1), Err(11));
+    assert!(room(b"a={b}", 13, 11, 2).is_ok());
+    assert!(room(b"a={b}", 7, 6, 2).is_ok());
+    assert_eq!(room(b"a={b*}", 13, 11, 2), Err(10));
+    assert_eq!(room(b"a={b}a={b}", 13, 11, 8), Err(12));
     assert_eq!(room(b"a={b!}", 0, 0, 0), Err(4));
     for (text, nodes) in [("!".repeat(60_000), 60_001), ("a~".repeat(30_000), 60_001)] {
         let made = tables(format!("a={{{text}b}}").as_bytes(), true).unwrap();
-        assert_eq!(made.nodes.len() / 6, nodes);
+        assert_eq!(made.nodes.len() / 7, nodes);
     }
     let nested = format!("{}{}a={{b}}", "/*".repeat(16_000), "*/".repeat(16_000));
     assert!(tables(nested.as_bytes(), true).is_ok());
@@ -200,16 +204,22 @@ fn printer() {
         let mut out = [0; 64];
         print(nodes, rules, store, &mut out).map_err(|e| (e.number, e.place))
     };
-    let ab = [4, 0, 0, 0, 1, 0, 4, 0, 0, 1, 1, 0, 8, 0, 0, 0, 1, 0];
+    let ab = [4, 0, 0, 0, 1, 0, 0, 4, 0, 0, 1, 1, 0, 9, 8, 0, 0, 0, 1, 0, u32::MAX];
     assert_eq!(refusal(&[], &[], b""), Ok(0));
     assert_eq!(refusal(&ab, &[], b"ab"), Err((22, 0)));
     assert_eq!(refusal(&ab, &[0, 1, 0, 0, 0, 0, 0, 1, 0, 1, 0, 0], b"ab"), Err((22, 2)));
     assert_eq!(refusal(&ab, &[0, 1, 0, 0, 0, 0, 0, 1, 0, 2, 0, 0], b"ab"), Err((22, 1)));
     assert_eq!(refusal(&ab, &[0, 1, 0, 2, 0, 0], b"ab"), Ok(16));
-    assert_eq!(refusal(&[1, 0, 0, 2, 0, 0], &[0, 1, 0, 0, 0, 0], b"ab"), Ok(11));
-    assert_eq!(refusal(&[1, 0, 0, 3, 0, 0], &[0, 1, 0, 0, 0, 0], b"ab"), Err((21, 0)));
-    assert_eq!(refusal(&[1, 0, 0, 4294967295, 1, 0], &[0, 1, 0, 0, 0, 0], b"ab"), Err((21, 0)));
-    assert_eq!(refusal(&ab[..17], &[], b"ab"), Err((20, 0)));
-    let long = [1, 0, 0, 0, 65_536, 0].repeat(4_096);
+    assert_eq!(refusal(&[1, 0, 0, 2, 0, 0, 0], &[0, 1, 0, 0, 0, 0], b"ab"), Ok(11));
+    assert_eq!(refusal(&[1, 0, 0, 3, 0, 0, 0], &[0, 1, 0, 0, 0, 0], b"ab"), Err((21, 0)));
+    assert_eq!(refusal(&[1, 0, 0, 4294967295, 1, 0, 0], &[0, 1, 0, 0, 0, 0], b"ab"), Err((21, 0)));
+    // Whole records of seven for nodes, of six for rules.
+    assert_eq!(refusal(&ab[..18], &[], b"ab"), Err((20, 0)));
+    assert_eq!(refusal(&ab[..20], &[], b"ab"), Err((20, 0)));
+    assert_eq!(refusal(&ab, &[0, 1, 0, 2, 0, 0, 0], b"ab"), Err((20, 0)));
+    assert_eq!(refusal(&[4, 0, 0, 0, 1, 0].repeat(2), &[0, 1, 0, 0, 0, 0], b"a"), Err((20, 0)));
+    // Six records of seven, which were seven of six.
+    assert_eq!(refusal(&[4, 0, 0, 0, 1, 0].repeat(7), &[0, 1, 0, 0, 0, 0], b"a"), Err((21, 1)));
+    let long = [1, 0, 0, 0, 65_536, 0, 0].repeat(4_096);
     assert_eq!(refusal(&long, &[0; 6], &[b'a'; 65_536]), Err((22, 0)));
 }

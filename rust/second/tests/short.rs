@@ -27,7 +27,10 @@ fn full(made: &Tables) -> String {
 /// trees are equal.
 fn trees(text: &str, tagged: bool) -> Result<Tables, Refusal> {
     let mut made = tables(text.as_bytes(), tagged)?;
-    made.nodes.chunks_exact_mut(6).for_each(|node| node[1..3].fill(0));
+    for node in made.nodes.chunks_exact_mut(7) {
+        node[1..3].fill(0);
+        node[6] = 0;
+    }
     made.rules.chunks_exact_mut(6).for_each(|rule| rule[4..].fill(0));
     Ok(made)
 }
@@ -155,7 +158,7 @@ fn as_the_printer() {
         [("a{1}", 4, "a{0}"), ("a{,1}", 4, "a{,0}"), ("a{1,1}", 5, "a{1, 0}")]
     {
         let mut made = tables(format!("r={{{counted}}}").as_bytes(), true).expect(counted);
-        made.nodes[6 + at] = 0;
+        made.nodes[7 + at] = 0;
         let text = short(&made);
         assert_eq!(text, format!("r = {{ {wanted} }}\n"));
         let place = text.find('0').expect("a count") as u64;
@@ -166,7 +169,7 @@ fn as_the_printer() {
 /// The printer's four, at the same places; and a refusal writes nothing.
 #[test]
 fn refusals() {
-    let ab = [4, 0, 0, 0, 1, 0, 4, 0, 0, 1, 1, 0, 8, 0, 0, 0, 1, 0];
+    let ab = [4, 0, 0, 0, 1, 0, 0, 4, 0, 0, 1, 1, 0, 9, 8, 0, 0, 0, 1, 0, u32::MAX];
     let rule = [0, 1, 0, 2, 0, 0];
     let answer = |nodes: &[u32], rules: &[u32], store: &[u8], room: usize| {
         let mut out = vec![0xff; room];
@@ -184,17 +187,17 @@ fn refusals() {
     assert_eq!(answer(&ab, &rule, b"ab", 13), Err((23, 0)));
     assert_eq!(answer(&ab, &rule, b"ab", 0), Err((23, 0)));
     assert_eq!(answer(&[], &[], b"", 0), Ok(0));
-    assert_eq!(answer(&ab[..17], &rule, b"ab", 0), Err((20, 0)));
+    assert_eq!(answer(&ab[..18], &rule, b"ab", 0), Err((20, 0)));
     assert_eq!(answer(&ab, &rule[..5], b"ab", 64), Err((20, 0)));
     assert_eq!(answer(&ab, &rule, &[b'a'; 65_537], 64), Err((20, 0)));
-    assert_eq!(answer(&[4, 0, 0, 0, 0, 0].repeat(4_097), &rule, b"a", 64), Err((20, 0)));
+    assert_eq!(answer(&[4, 0, 0, 0, 0, 0, 0].repeat(4_097), &rule, b"a", 64), Err((20, 0)));
     assert_eq!(answer(&ab, &[0, 1, 5, 2, 0, 0], b"a", 0), Err((21, 1)));
-    assert_eq!(answer(&[8, 0, 0, 0, 0, 0], &rule, b"ab", 0), Err((21, 0)));
+    assert_eq!(answer(&[8, 0, 0, 0, 0, 0, 0], &rule, b"ab", 0), Err((21, 0)));
     assert_eq!(answer(&ab, &[0, 1, 5, 2, 0, 0], b"ab", 0), Err((22, 0)));
     assert_eq!(answer(&ab, &[], b"ab", 0), Err((22, 0)));
     assert_eq!(answer(&ab, &[0, 1, 0, 0, 0, 0, 0, 1, 0, 1, 0, 0], b"ab", 0), Err((22, 2)));
     // A text of 268 MB.
-    let long = [&[1, 0, 0, 0, 65_536, 0].repeat(2_048)[..], &join(2_048)].concat();
+    let long = [&[1, 0, 0, 0, 65_536, 0, 0].repeat(2_048)[..], &join(2_048)].concat();
     let rule = [65_535, 1, 0, 4_094, 0, 0];
     let store = [&[0; 65_535][..], b"r"].concat();
     assert_eq!(answer(&long, &rule, &store, 64), Err((23, 0)));
@@ -202,7 +205,7 @@ fn refusals() {
 
 /// The records of Seq nodes behind some leaves: the last two, then the one before and that.
 fn join(leaves: u32) -> Vec<u32> {
-    (1..leaves).flat_map(|i| [8, 0, 0, leaves - 1 - i, leaves + i - 2, 0]).collect()
+    (1..leaves).flat_map(|i| [8, 0, 0, leaves - 1 - i, leaves + i - 2, 0, 0]).collect()
 }
 
 /// The limits are those of the short text: a chain that groups right is flat in full and deep
@@ -211,12 +214,12 @@ fn join(leaves: u32) -> Vec<u32> {
 fn limits() {
     // With the most room that the reader ever wants.
     let reads = |text: &str| {
-        let (mut nodes, mut rules) = (vec![0; 4_096 * 6], vec![0; 1_024 * 6]);
+        let (mut nodes, mut rules) = (vec![0; 4_096 * 7], vec![0; 1_024 * 6]);
         let answer = read(text.as_bytes(), true, &mut nodes, &mut rules, &mut vec![0; 65_536]);
         answer.map(|_| ()).map_err(|e| (e.number, e.place as usize))
     };
     let grouped_right = |leaves: u32| {
-        let nodes = [&[4, 0, 0, 0, 1, 0].repeat(leaves as usize)[..], &join(leaves)].concat();
+        let nodes = [&[4, 0, 0, 0, 1, 0, 0].repeat(leaves as usize)[..], &join(leaves)].concat();
         Tables { nodes, rules: vec![0, 1, 0, 2 * leaves - 2, 0, 0], store: b"a".to_vec() }
     };
     let text = short(&grouped_right(1_026));
@@ -231,7 +234,7 @@ fn limits() {
 
     let flat = format!("r = {{ {}a }}\n", "a ~ ".repeat(2_047));
     let made = tables(flat.as_bytes(), true).expect("a chain");
-    assert_eq!(made.nodes.len() / 6, 4_095);
+    assert_eq!(made.nodes.len() / 7, 4_095);
     assert_eq!(short(&made), flat);
     assert_eq!(reads(&flat), Ok(()));
     assert_eq!(reads(&full(&made)), Err((9, "r = { ".len() + 1_024)));

@@ -8,7 +8,7 @@ use Rattle.matcher_run.proofs.chain.Statement.{statement}
 use Rattle.matcher_run.proofs.chain.Tie as tie
 
 abbrev Inv-loop : tie.InvT-loop
-Inv-loop nodes₀ i₀ nodes i = (1 ≤ i) × (i ≤ 1026) × (length nodes ≡ 6156)
+Inv-loop nodes₀ i₀ nodes i = (1 ≤ i) × (i ≤ 1026) × (length nodes ≡ 7182)
 
 abbrev μ-loop : tie.MeasureT-loop
 μ-loop nodes₀ i₀ nodes i = 1026 - i

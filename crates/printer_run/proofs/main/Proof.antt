@@ -1,4 +1,4 @@
--- The invariant: the n bytes read are the front of the input, which has 65,536. `line_end` gives no place before `at` and none behind them:
+-- The invariant: the n bytes read are the front of the input, which has 131,072. `line_end` gives no place before `at` and none behind them:
 -- so each line lies in them, the next turn starts behind it, and n - at falls.
 use lib.ListN.{length, take}
 use mathlib.Core.Path.{_≡_}
@@ -9,13 +9,10 @@ use Rattle.printer_run.proofs.main.Statement.{statement}
 use Rattle.printer_run.proofs.main.Tie as tie
 
 abbrev Inv-loop : tie.InvT-loop
-Inv-loop input n at₀ at = (n ≤ length input) × (n ≡ length (take n input)) × (length input ≡ 65536)
+Inv-loop input n at₀ at = (n ≤ length input) × (n ≡ length (take n input)) × (length input ≡ 131072)
 
 abbrev μ-loop : tie.MeasureT-loop
 μ-loop input n at₀ at = n - at
-
-large-buffer-requires : tie.Need-large-buffer-requires Inv-loop μ-loop
-large-buffer-requires c κs = search needs
 
 slice-aggregate-read-full : tie.Need-slice-aggregate-read-full Inv-loop μ-loop
 slice-aggregate-read-full c = search needs
@@ -65,7 +62,6 @@ main-spec =
     (tie.spec
     Inv-loop
     μ-loop
-    large-buffer-requires
     slice-aggregate-read-full
     read-full-requires
     loop-holds

@@ -1,5 +1,5 @@
--- The invariant: j is at least 1, the table has 12 n numbers or more, and is as long as it was; n - j falls.
--- A turn writes node n - 1 + j, which ends at number 12 n - 6 at the latest: as many numbers are counted.
+-- The invariant: j is at least 1, the table has 14 n numbers or more, and is as long as it was; n - j falls.
+-- A turn writes node n - 1 + j, which ends at number 14 n - 7 at the latest: as many numbers are counted.
 use Prim.Native.Nat.{_≤_, _-_, _*_}
 use lib.Seq.{length-take-le}
 use lib.ListN.{length, length-set}
@@ -9,7 +9,7 @@ use Rattle.printer_run.proofs.make_chain.Statement.{statement}
 use Rattle.printer_run.proofs.make_chain.Tie as tie
 
 abbrev Inv-loop : tie.InvT-loop
-Inv-loop n nodes₀ j₀ nodes j = (1 ≤ j) × (12 * n ≤ length nodes) × (length nodes ≡ length nodes₀)
+Inv-loop n nodes₀ j₀ nodes j = (1 ≤ j) × (14 * n ≤ length nodes) × (length nodes ≡ length nodes₀)
 
 abbrev μ-loop : tie.MeasureT-loop
 μ-loop n nodes₀ j₀ nodes j = n - j

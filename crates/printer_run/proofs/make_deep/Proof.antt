@@ -1,4 +1,4 @@
--- The invariant: i is at least 1, the table has 6 n numbers or more, and is as long as it was; n - i falls.
+-- The invariant: i is at least 1, the table has 7 n numbers or more, and is as long as it was; n - i falls.
 -- The test before asks for one record more, so that the first one is inside even where n is 0.
 use Prim.Native.Nat.{_≤_, _-_, _*_}
 use lib.Seq.{length-take-le}
@@ -10,7 +10,7 @@ use Rattle.printer_run.proofs.make_deep.Statement.{statement}
 use Rattle.printer_run.proofs.make_deep.Tie as tie
 
 abbrev Inv-loop : tie.InvT-loop
-Inv-loop n nodes₀ i₀ nodes i = (1 ≤ i) × (6 * n ≤ length nodes) × (length nodes ≡ length nodes₀)
+Inv-loop n nodes₀ i₀ nodes i = (1 ≤ i) × (7 * n ≤ length nodes) × (length nodes ≡ length nodes₀)
 
 abbrev μ-loop : tie.MeasureT-loop
 μ-loop n nodes₀ i₀ nodes i = n - i

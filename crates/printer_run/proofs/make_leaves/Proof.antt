@@ -1,4 +1,4 @@
--- The invariant: the table has 6 n numbers or more, and is as long as it was; so record i is inside, and n - i falls.
+-- The invariant: the table has 7 n numbers or more, and is as long as it was; so record i is inside, and n - i falls.
 -- n is at most 4,097, so that no product overflows.
 use Prim.Native.Nat.{_≤_, _-_, _*_}
 use lib.Seq.{length-take-le}
@@ -9,7 +9,7 @@ use Rattle.printer_run.proofs.make_leaves.Statement.{statement}
 use Rattle.printer_run.proofs.make_leaves.Tie as tie
 
 abbrev Inv-loop : tie.InvT-loop
-Inv-loop n kind size nodes₀ i₀ nodes i = (6 * n ≤ length nodes) × (length nodes ≡ length nodes₀)
+Inv-loop n kind size nodes₀ i₀ nodes i = (7 * n ≤ length nodes) × (length nodes ≡ length nodes₀)
 
 abbrev μ-loop : tie.MeasureT-loop
 μ-loop n kind size nodes₀ i₀ nodes i = n - i

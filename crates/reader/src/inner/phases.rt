@@ -1,4 +1,5 @@
 // What a text gets, phase by phase, and the room there is.
+use super::lines::number_lines;
 use crate::Attempt;
 use crate::Reading;
 use build::inner::rules::consume_rules_with_spans;
@@ -93,8 +94,9 @@ fn judge_and_build(
     let n = room_of(nodes.len(), NODE_SIZE, limits::NODES);
     let r = room_of(rules.len(), RULE_SIZE, limits::RULES);
     let answer = judge(text, tokens, level, n, r, store.len());
-    if let Reading::Read(_, _, _) = answer {
+    if let Reading::Read(used, _, _) = answer {
         consume_rules_with_spans(text, tokens, nodes, rules, store, level);
+        number_lines(text, nodes, used);
     }
     answer
 }

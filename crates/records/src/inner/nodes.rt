@@ -10,13 +10,13 @@ ghost use mathlib.Core.List.{[], _∷_};
 ghost use Prim.Native.Nat.{_-_, _*_, _≤_, _<_};
 ghost use lib.ListN.{length};
 ghost use Rattle.table.specs.Record.{nodeSize};
-ghost use Rattle.table.specs.Flat.{recordOf};
+ghost use Rattle.table.specs.Flat.{noLine, recordOf};
 ghost use Rattle.table.specs.declared.Leaf.the-variants as Leaf;
 ghost use Rattle.table.specs.declared.Op.the-variants as Op;
 ghost use Rattle.table.specs.declared.Node.the-variants as Node;
 ghost use Rattle.records.specs.Records.{written, Fits, Over, EndMoved, StartMoved, most};
 
-// Writes a node record.
+// Writes a node record, the line still 0.
 pub fn put_node(
     nodes: &mut [u32],
     index: usize,
@@ -28,7 +28,7 @@ pub fn put_node(
     r: usize,
 )
     requires { ⌜ Fits (now nodes) index a z p q r ⌝ }
-    ensures { λ _. ⌜ now (nodes .exit) ≡ written (now (nodes .entry)) index (kind ∷ a ∷ z ∷ p ∷ q ∷ r ∷ []) ⌝ }
+    ensures { λ _. ⌜ now (nodes .exit) ≡ written (now (nodes .entry)) index (kind ∷ a ∷ z ∷ p ∷ q ∷ r ∷ 0 ∷ []) ⌝ }
 {
     let i = NODE_SIZE * index;
     nodes[i] = kind;
@@ -37,6 +37,7 @@ pub fn put_node(
     nodes[i + 3] = p as u32;
     nodes[i + 4] = q as u32;
     nodes[i + 5] = r as u32;
+    nodes[i + 6] = 0;
 }
 
 // Moves the end of the node that was written last.
@@ -58,7 +59,7 @@ pub fn move_start(nodes: &mut [u32], used: usize, a: usize)
 // Writes the record of what stands over the node that was written last.
 pub fn put_unary(nodes: &mut [u32], used: usize, a: usize, z: usize, op: Unary)
     requires { ⌜ Over (now nodes) used a z ⌝ }
-    ensures { λ _. ⌜ now (nodes .exit) ≡ written (now (nodes .entry)) used (recordOf (record { start = a; stop = z }) (Node.One (Op.Plain op) (used - 1))) ⌝ }
+    ensures { λ _. ⌜ now (nodes .exit) ≡ written (now (nodes .entry)) used (recordOf noLine (record { start = a; stop = z }) (Node.One (Op.Plain op) (used - 1))) ⌝ }
 {
     let c = used - 1;
     match op {
@@ -88,7 +89,7 @@ pub fn put_unary(nodes: &mut [u32], used: usize, a: usize, z: usize, op: Unary)
 pub fn put_join(nodes: &mut [u32], used: usize, a: usize, z: usize, join: Join, left: usize)
     requires { ⌜ Over (now nodes) used a z ⌝ }
     requires { ⌜ left ≤ most ⌝ }
-    ensures { λ _. ⌜ now (nodes .exit) ≡ written (now (nodes .entry)) used (recordOf (record { start = a; stop = z }) (Node.Two join left (used - 1))) ⌝ }
+    ensures { λ _. ⌜ now (nodes .exit) ≡ written (now (nodes .entry)) used (recordOf noLine (record { start = a; stop = z }) (Node.Two join left (used - 1))) ⌝ }
 {
     match join {
         Join::Seq => put_node(nodes, used, kind::SEQ, a, z, left, used - 1, 0),
@@ -107,7 +108,7 @@ pub fn put_text(
     length: usize,
 )
     requires { ⌜ Fits (now nodes) used a z offset length 0 ⌝ }
-    ensures { λ _. ⌜ now (nodes .exit) ≡ written (now (nodes .entry)) used (recordOf (record { start = a; stop = z }) (Node.Tip (Leaf.Text sort offset length))) ⌝ }
+    ensures { λ _. ⌜ now (nodes .exit) ≡ written (now (nodes .entry)) used (recordOf noLine (record { start = a; stop = z }) (Node.Tip (Leaf.Text sort offset length))) ⌝ }
 {
     match sort {
         Sort::Str => put_node(nodes, used, kind::STR, a, z, offset, length, 0),
@@ -120,7 +121,7 @@ pub fn put_text(
 // Writes the record of a range.
 pub fn put_range(nodes: &mut [u32], used: usize, a: usize, z: usize, x: u32, y: u32)
     requires { ⌜ Fits (now nodes) used a z x y 0 ⌝ }
-    ensures { λ _. ⌜ now (nodes .exit) ≡ written (now (nodes .entry)) used (recordOf (record { start = a; stop = z }) (Node.Tip (Leaf.Range x y))) ⌝ }
+    ensures { λ _. ⌜ now (nodes .exit) ≡ written (now (nodes .entry)) used (recordOf noLine (record { start = a; stop = z }) (Node.Tip (Leaf.Range x y))) ⌝ }
 {
     put_node(nodes, used, kind::RANGE, a, z, x as usize, y as usize, 0)
 }
@@ -128,7 +129,7 @@ pub fn put_range(nodes: &mut [u32], used: usize, a: usize, z: usize, x: u32, y: 
 // Writes the record of a slice of the stack.
 pub fn put_slice(nodes: &mut [u32], used: usize, a: usize, z: usize, from: u32, end: End)
     requires { ⌜ Fits (now nodes) used a z from 0 0 ⌝ }
-    ensures { λ _. ⌜ now (nodes .exit) ≡ written (now (nodes .entry)) used (recordOf (record { start = a; stop = z }) (Node.Tip (Leaf.PeekSlice from end))) ⌝ }
+    ensures { λ _. ⌜ now (nodes .exit) ≡ written (now (nodes .entry)) used (recordOf noLine (record { start = a; stop = z }) (Node.Tip (Leaf.PeekSlice from end))) ⌝ }
 {
     match end {
         End::Open => put_node(nodes, used, kind::PEEK_SLICE, a, z, from as usize, 0, 0),
@@ -149,7 +150,7 @@ pub fn put_slice(nodes: &mut [u32], used: usize, a: usize, z: usize, from: u32, 
 pub fn put_tag(nodes: &mut [u32], used: usize, a: usize, z: usize, offset: usize, length: usize)
     requires { ⌜ Over (now nodes) used a z ⌝ }
     requires { ⌜ (offset ≤ most) × (length ≤ most) ⌝ }
-    ensures { λ _. ⌜ now (nodes .exit) ≡ written (now (nodes .entry)) used (recordOf (record { start = a; stop = z }) (Node.One (Op.NodeTag offset length) (used - 1))) ⌝ }
+    ensures { λ _. ⌜ now (nodes .exit) ≡ written (now (nodes .entry)) used (recordOf noLine (record { start = a; stop = z }) (Node.One (Op.NodeTag offset length) (used - 1))) ⌝ }
 {
     put_node(nodes, used, kind::NODE_TAG, a, z, used - 1, offset, length)
 }

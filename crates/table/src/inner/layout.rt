@@ -17,7 +17,7 @@ ghost use Rattle.table.specs.declared.Node.the-variants.{Tip, One};
 ghost use Rattle.table.specs.Record.{nodeSize, ruleSize, peekOf, nodeOf, nodeAt, headAt};
 
 // The numbers in a node record.
-pub const NODE_SIZE: usize = 6;
+pub const NODE_SIZE: usize = 7;
 
 // The numbers in a rule record.
 pub const RULE_SIZE: usize = 6;

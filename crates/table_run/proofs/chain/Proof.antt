@@ -1,4 +1,4 @@
--- The invariant: i is from 1 to 4,097, and the table has 24,582 numbers, which are 4,097 records of six. 4,097 - i falls.
+-- The invariant: i is from 1 to 4,097, and the table has 28,679 numbers, which are 4,097 records of seven. 4,097 - i falls.
 use native.Mathlib.Omega.{arith}
 use lib.ListN.{length-set}
 use lib.ListN.{length}
@@ -9,7 +9,7 @@ use Rattle.table_run.proofs.chain.Statement.{statement}
 use Rattle.table_run.proofs.chain.Tie as tie
 
 abbrev Inv-loop : tie.InvT-loop
-Inv-loop nodes₀ i₀ nodes i = (1 ≤ i) × (i ≤ 4097) × (length nodes ≡ 24582)
+Inv-loop nodes₀ i₀ nodes i = (1 ≤ i) × (i ≤ 4097) × (length nodes ≡ 28679)
 
 abbrev μ-loop : tie.MeasureT-loop
 μ-loop nodes₀ i₀ nodes i = 4097 - i

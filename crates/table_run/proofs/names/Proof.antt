@@ -1,4 +1,4 @@
--- The invariant: i is at most 1,025, and both tables have 6,150 numbers, which are 1,025 records of six. 1,025 - i falls.
+-- The invariant: i is at most 1,025, and the tables have 7,175 and 6,150 numbers, which are 1,025 records of seven and of six. 1,025 - i falls.
 use native.Mathlib.Omega.{arith}
 use lib.ListN.{length-set}
 use lib.ListN.{length}
@@ -9,7 +9,7 @@ use Rattle.table_run.proofs.names.Statement.{statement}
 use Rattle.table_run.proofs.names.Tie as tie
 
 abbrev Inv-loop : tie.InvT-loop
-Inv-loop nodes₀ rules₀ i₀ nodes rules i = (i ≤ 1025) × (length nodes ≡ 6150) × (length rules ≡ 6150)
+Inv-loop nodes₀ rules₀ i₀ nodes rules i = (i ≤ 1025) × (length nodes ≡ 7175) × (length rules ≡ 6150)
 
 abbrev μ-loop : tie.MeasureT-loop
 μ-loop nodes₀ rules₀ i₀ nodes rules i = 1025 - i

@@ -1,10 +1,14 @@
 // Runs of bytes of one sort: a direct loop for each.
 ghost use mathlib.Core.Path.{_≡_};
-ghost use Prim.Native.Nat.{_+_, _<_};
+ghost use mathlib.Core.Bool.{true, false};
+ghost use Prim.Native.Nat.{_+_, _<_, _≤_};
 ghost use lib.ListN.{length, drop};
 ghost use Rattle.text.specs.Booleans.{nextIs};
 ghost use Rattle.text.specs.Classes.{classes};
-ghost use Rattle.token.specs.Blanks.{words, digitRun, zeros, line, lineEnds};
+ghost use Rattle.token.specs.Blanks.{words, digitRun, zeros, line, lineEnds, Plain};
+
+// The bytes that are looked at in one go where nothing is wanted of most.
+const WINDOW: usize = 16;
 
 // The byte at a place is b.
 pub(crate) fn next_is(s: &[u8], i: usize, b: u8) -> bool
@@ -78,11 +82,46 @@ fn line_ends(s: &[u8], i: usize) -> bool
     false
 }
 
-// Up to LF, CRLF or the text's end.
+// Whether the bytes of the window at a place are all above CR, so that no line ends there. It looks at
+// each, and a processor at all at once.
+fn is_plain(s: &[u8], at: usize) -> bool
+    requires { ⌜ at + 16 ≤ length (now s) ⌝ }
+    ensures { λ r. ⌜ (r ≡ true → Plain 16 (now (s .entry)) at) ⌝ }
+    ensures { λ r. ⌜ (r ≡ false → Plain 16 (now (s .entry)) at → ⊥) ⌝ }
+{
+    let mut plain = true;
+    let mut k = 0;
+    while k < WINDOW {
+        if s[at + k] <= 13 {
+            plain = false;
+        }
+        k += 1;
+    }
+    plain
+}
+
+// Past the windows in which no line ends.
+fn plain_end(s: &[u8], at: usize) -> usize
+    ensures { λ r. ⌜ r + line (drop r (now (s .entry))) ≡ at + line (drop at (now (s .entry))) ⌝ }
+{
+    let mut i = at;
+    while i < s.len() {
+        if s.len() - i < WINDOW {
+            return i;
+        }
+        if !is_plain(s, i) {
+            return i;
+        }
+        i += WINDOW;
+    }
+    i
+}
+
+// Up to LF, CRLF or the text's end. Most lines that are gone through so are comments.
 pub(crate) fn line_end(s: &[u8], at: usize) -> usize
     ensures { λ r. ⌜ r ≡ at + line (drop at (now (s .entry))) ⌝ }
 {
-    let mut i = at;
+    let mut i = plain_end(s, at);
     while i < s.len() {
         if line_ends(s, i) {
             return i;

@@ -2,7 +2,7 @@
 //! Rust (2.5.2 and the given files), by the second program and (feature `product`) by the product.
 
 use compare::printing::Style;
-use compare::{on_stack, quiet_panics, second_reads, trees};
+use compare::{on_stack, quiet_panics, second_reads, trees, used};
 use oracle::{Answer, Tables};
 
 /// A style's text of a level's tables, and whether they come back as they were: if not, as the
@@ -53,7 +53,8 @@ fn one(text: &str) -> Result<String, String> {
             return Err("the given files read it otherwise".to_string());
         }
         if tagged {
-            words.push(format!("{} nodes, {} rules", made.nodes.len() / 6, made.rules.len() / 6));
+            let used = used(&made);
+            words.push(format!("{} nodes, {} rules", used.nodes, used.rules));
         } else {
             words.push(match oracle::real::read(text) {
                 Answer::Read(rules) if Tables::of(&rules) == made.clone().without_spans() => {

@@ -13,6 +13,7 @@ use compare::instructions::{self, Counter};
 use compare::layouts::{Layout, LAYOUTS};
 use compare::{argument, asked, by_hand, on_stack, Random};
 use oracle::{Answer, Printable, Tables};
+use second::{NODE_RECORD, RULE_RECORD};
 
 /// A grammar of so many bytes, such as people write: it passes 2.5.2's validator, since every rule
 /// begins with a string and names later rules only.
@@ -284,7 +285,10 @@ fn tokens(text: &[u8], budget: Duration) {
     .zip(&mut lists)
     {
         if size == 0 {
-            works.push((name, Box::new(move || assert_eq!(list_whole(black_box(text), list), count))));
+            works.push((
+                name,
+                Box::new(move || assert_eq!(list_whole(black_box(text), list), count)),
+            ));
             continue;
         }
         list.fill(0);
@@ -342,8 +346,8 @@ fn lines(layout: &Layout, random: &mut Random, budget: Duration) {
     println!(
         "\nmatching, {} layout: {} nodes, {} rules; {LINES} lines, {} bytes a line, {} steps a line, {matched} matched, {} wholly",
         layout.name,
-        nodes.len() / 6,
-        rules.len() / 6,
+        nodes.len() / NODE_RECORD,
+        rules.len() / RULE_RECORD,
         (bytes - LINES) / LINES,
         steps / LINES as u64,
         whole.count(),
@@ -441,8 +445,8 @@ fn names(budget: Duration) {
     let (nodes, rules, store) = (&made.nodes[..], &made.rules[..], &made.store[..]);
     println!(
         "\na call over {} rules and {names} names in {} nodes, 1 step allowed, {} bytes kept",
-        rules.len() / 6,
-        nodes.len() / 6,
+        rules.len() / RULE_RECORD,
+        nodes.len() / NODE_RECORD,
         store.len()
     );
     let wanted = [34, 0, 0, 0, 0];
@@ -489,7 +493,7 @@ fn one(text: &str, budget: Duration) {
     let bytes = text.as_bytes();
     let made = second::read::tables(bytes, true).expect("a good text");
     let made = Tables { nodes: made.nodes, rules: made.rules, store: made.store };
-    let (n, r) = (made.nodes.len() / 6, made.rules.len() / 6);
+    let (n, r) = (made.nodes.len() / NODE_RECORD, made.rules.len() / RULE_RECORD);
     assert!(n <= 4_096 && r <= 1_024, "within the limits: {n} nodes, {r} rules");
     let Answer::Read(given) = oracle::read(text, true) else { panic!("the given files refuse") };
     assert_eq!(Tables::of(&given), made);
@@ -501,8 +505,8 @@ fn one(text: &str, budget: Duration) {
         bytes.len(),
         made.store.len()
     );
-    let mut nodes = vec![0; 4_096 * 6];
-    let mut rules = vec![0; 1_024 * 6];
+    let mut nodes = vec![0; 4_096 * NODE_RECORD];
+    let mut rules = vec![0; 1_024 * RULE_RECORD];
     let mut store = vec![0; 65_536];
     #[cfg(feature = "product")]
     let (mut nodes2, mut rules2, mut store2) = (nodes.clone(), rules.clone(), store.clone());

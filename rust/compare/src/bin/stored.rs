@@ -35,13 +35,13 @@ use std::io::{BufWriter, Write};
 use compare::lines::{self, Liner, Maker};
 use compare::printing::Style;
 use compare::{
-    argument, characters, hex, on_stack, quiet_panics, second_reads, tables, texts, Random,
+    argument, characters, hex, on_stack, quiet_panics, second_reads, tables, texts, used, Random,
 };
 use oracle::{Answer, Tables};
 use second::arrive::{self, Arrival};
 use second::matching::{match_line, match_lines, record, Record};
 use second::read::Used;
-use second::{calls, read, Refusal};
+use second::{calls, read, Refusal, NODE_RECORD, RULE_RECORD};
 
 fn or_dash(text: String) -> String {
     if text.is_empty() {
@@ -153,16 +153,12 @@ impl Stored {
                 panic!("the Rust refuses {text}");
             }
         }
-        let used = made.as_ref().map_or(Used { nodes: 2, rules: 1, store: 4 }, |made| Used {
-            nodes: made.nodes.len() / 6,
-            rules: made.rules.len() / 6,
-            store: made.store.len(),
-        });
+        let used = made.as_ref().map_or(Used { nodes: 2, rules: 1, store: 4 }, used);
         // To a refusal of the text the room is nothing.
         let most = if made.is_ok() { rooms.len() } else { 1 };
         for (n, r, s) in &rooms[..most] {
-            let n = (used.nodes as isize * 6 + n).max(0) as usize;
-            let r = (used.rules as isize * 6 + r).max(0) as usize;
+            let n = ((used.nodes * NODE_RECORD) as isize + n).max(0) as usize;
+            let r = ((used.rules * RULE_RECORD) as isize + r).max(0) as usize;
             let s = (used.store as isize + s).max(0) as usize;
             let answer = made.as_ref().map_err(|e| *e).and_then(|made| {
                 read::room(used, n, r, s)?;
@@ -304,7 +300,7 @@ impl Stored {
 
     /// Some short lines of a rule, with allowances around what each needs, and a short text.
     fn rule(&mut self, random: &mut Random, made: &Tables, characters: &[char], much: usize) {
-        let rules = made.rules.len() / 6;
+        let rules = used(made).rules;
         for _ in 0..much {
             let start = if random.one_in(20) {
                 rules + random.below(2)
@@ -437,7 +433,7 @@ fn write(folder: &str, seed: u64, scale: usize) {
         counts: BTreeMap::new(),
         also_rust: 0,
     };
-    let all = [(0, 0, 0), (5, 5, 1), (-1, 0, 0), (0, -1, 0), (0, 0, -1), (-6, -6, -1), (-1, 0, -1)];
+    let all = [(0, 0, 0), (6, 5, 1), (-1, 0, 0), (0, -1, 0), (0, 0, -1), (-7, -6, -1), (-1, 0, -1)];
     let mut random = Random(seed);
     for text in texts::CORNERS {
         for tagged in [true, false] {

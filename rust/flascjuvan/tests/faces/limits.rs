@@ -13,7 +13,7 @@ fn the_limits_can_be_reached() {
     assert_eq!(printed(&tagged(&text)), "a = { b }\n");
     assert_eq!(tagged(&"a={b}".repeat(1024)).rules().len(), 1024);
     let chain = format!("a = {{ {} }}", vec!["b"; 2048].join(" ~ "));
-    assert_eq!(tagged(&chain).tables().0.len(), 6 * 4095);
+    assert_eq!(tagged(&chain).tables().0.len(), 7 * 4095);
     // a text that prints to more than any first guess of its room
     let long = format!("a = {{ \"{}\" }}", "\u{1}".repeat(65000));
     assert_eq!(printed(&tagged(&long)).len(), "a = { \"\" }\n".len() + 6 * 65000);

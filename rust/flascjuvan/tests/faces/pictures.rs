@@ -10,27 +10,27 @@ const TEXT: &str = "note = ${ #t = PUSH('a'..'z'){2, 3} ~\n PEEK[-1..] } b = { \
 fn pictures_show_what_belongs_to_what() {
     let picture = "\
 a  0..1
-└─ Choice  6..18
-   ├─ Seq  6..11
-   │  ├─ Ident b  6..7
-   │  └─ Ident c  10..11
-   └─ Rep  14..18
-      └─ Str \"x\"  14..17
+└─ Choice  6..18  line 1
+   ├─ Seq  6..11  line 1
+   │  ├─ Ident b  6..7  line 1
+   │  └─ Ident c  10..11  line 1
+   └─ Rep  14..18  line 1
+      └─ Str \"x\"  14..17  line 1
 ";
     assert_eq!(tagged("a = { b ~ c | \"x\"* }").picture().to_string(), picture);
     let picture = "\
 note $  0..4
-└─ Seq  10..49
-   ├─ NodeTag #t  10..35
-   │  └─ RepMinMax 2 3  15..35
-   │     └─ Push  15..28
-   │        └─ Range 'a'..'z'  20..28
-   └─ PeekSlice -1..  39..49
+└─ Seq  10..49  line 1
+   ├─ NodeTag #t  10..35  line 1
+   │  └─ RepMinMax 2 3  15..35  line 1
+   │     └─ Push  15..28  line 1
+   │        └─ Range 'a'..'z'  20..28  line 1
+   └─ PeekSlice -1..  39..49  line 2
 b  52..53
-└─ Choice  58..74
-   ├─ RepExact 4  58..67
-   │  └─ Str \"\\u{01}\"  58..64
-   └─ Insens \"x\"  70..74
+└─ Choice  58..74  line 2
+   ├─ RepExact 4  58..67  line 2
+   │  └─ Str \"\\u{01}\"  58..64  line 2
+   └─ Insens \"x\"  70..74  line 2
 ";
     assert_eq!(tagged(TEXT).picture().to_string(), picture);
     assert_eq!(format!("{:#?}", tagged(TEXT)), picture.trim_end());

@@ -65,13 +65,13 @@ fn bad_escapes_and_bad_literals() {
 #[test]
 fn too_little_room() {
     let text = b"ab = { cd ~ ef }";
-    let mut nodes = [7; 18];
+    let mut nodes = [7; 21];
     let mut rules = [7; 6];
     let mut store = [7; 6];
-    assert_eq!(raw::read(text, true, &mut nodes[..17], &mut rules, &mut store), [10, 0, 0, 0, 0]);
+    assert_eq!(raw::read(text, true, &mut nodes[..20], &mut rules, &mut store), [10, 0, 0, 0, 0]);
     assert_eq!(raw::read(text, true, &mut nodes, &mut rules[..5], &mut store), [12, 0, 0, 0, 0]);
     assert_eq!(raw::read(text, true, &mut nodes, &mut rules, &mut store[..5]), [11, 0, 0, 0, 0]);
-    assert_eq!((nodes, rules, store), ([7; 18], [7; 6], [7; 6]), "a refusal changes nothing");
+    assert_eq!((nodes, rules, store), ([7; 21], [7; 6], [7; 6]), "a refusal changes nothing");
     assert_eq!(raw::read(text, true, &mut nodes, &mut rules, &mut store), [0, 0, 3, 1, 6]);
     let mut out = [7; 19];
     assert_eq!(raw::print(&nodes, &rules, &store, &mut out[..18]), [23, 0, 0]);

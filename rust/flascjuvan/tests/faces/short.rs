@@ -102,7 +102,7 @@ fn room() {
     assert_eq!(raw::print_short(nodes, rules, store, &mut out[..17]), [0, 0, 17]);
     assert_eq!(&out, b"ab = { cd ~ ef }\n\x07");
     assert_eq!(raw::print_short(&nodes[1..], rules, store, &mut out), [20, 0, 0]);
-    assert_eq!(raw::print_short(&[0; 6], rules, store, &mut out), [21, 0, 0]);
+    assert_eq!(raw::print_short(&[0; 7], rules, store, &mut out), [21, 0, 0]);
     assert_eq!(raw::print_short(nodes, &rules[..0], store, &mut out), [22, 0, 0]);
     assert_eq!(raw::print_short(&[], &[], &[], &mut []), [0, 0, 0]);
     // more than any first guess of its room

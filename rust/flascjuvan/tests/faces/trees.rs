@@ -39,15 +39,15 @@ fn what_binds_tighter() {
 fn records_of_a_group() {
     let grammar = tagged("r = { (a)* }");
     let (nodes, rules, store) = grammar.tables();
-    assert_eq!(nodes, [4, 7, 9, 1, 1, 0, 11, 6, 10, 0, 0, 0]);
+    assert_eq!(nodes, [4, 7, 9, 1, 1, 0, 1, 11, 6, 10, 0, 0, 0, 1]);
     assert_eq!(rules, [0, 1, 0, 1, 0, 1]);
     assert_eq!(store, b"ra");
 }
 
-/// The tables with all spans 0.
+/// The tables with all spans and lines 0.
 fn spanless(grammar: &Grammar) -> (Vec<u32>, Vec<u32>, Vec<u8>) {
     let (nodes, rules, store) = grammar.tables();
-    let nodes = nodes.chunks(6).flat_map(|node| [node[0], 0, 0, node[3], node[4], node[5]]).collect();
+    let nodes = nodes.chunks(7).flat_map(|node| [node[0], 0, 0, node[3], node[4], node[5], 0]).collect();
     let rules = rules.chunks(6).flat_map(|rule| [rule[0], rule[1], rule[2], rule[3], 0, 0]).collect();
     (nodes, rules, store.to_vec())
 }

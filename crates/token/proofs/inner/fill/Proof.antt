@@ -17,8 +17,8 @@ abbrev μ-loop : tie.MeasureT-loop
 loop-holds : tie.Need-loop-holds Inv-loop μ-loop
 loop-holds c = fill-start _ _
 
-token-at-requires : tie.Need-token-at-requires Inv-loop μ-loop
-token-at-requires c κs = search needs
+near-token-requires : tie.Need-near-token-requires Inv-loop μ-loop
+near-token-requires c κs = search needs
 
 enum-told : tie.Need-enum-told Inv-loop μ-loop
 enum-told c = search needs
@@ -27,7 +27,7 @@ same-length : tie.Need-same-length Inv-loop μ-loop
 same-length c = fill-length (c .before .before .before .loop .inv)
 
 returns : tie.Need-returns Inv-loop μ-loop
-returns c = fill-end (c .before .before .before .loop .inv) (c .before .before .token-at .ensures) (c .enum-told .given .1)
+returns c = fill-end (c .before .before .before .loop .inv) (c .before .before .near-token .ensures) (c .enum-told .given .1)
 
 enum-known-token : tie.Need-enum-known-token Inv-loop μ-loop
 enum-known-token c = search needs
@@ -36,7 +36,7 @@ same-length-2 : tie.Need-same-length-2 Inv-loop μ-loop
 same-length-2 c = fill-length (c .before .before .before .before .loop .inv)
 
 returns-2 : tie.Need-returns-2 Inv-loop μ-loop
-returns-2 c = fill-none (c .before .before .before .before .loop .inv) (c .before .before .before .token-at .ensures) (c .before .token .given .1)
+returns-2 c = fill-none (c .before .before .before .before .loop .inv) (c .before .before .before .near-token .ensures) (c .before .token .given .1)
 
 enum-known-token-2 : tie.Need-enum-known-token-2 Inv-loop μ-loop
 enum-known-token-2 c = search needs
@@ -45,36 +45,36 @@ same-length-3 : tie.Need-same-length-3 Inv-loop μ-loop
 same-length-3 c = fill-length (c .before .before .before .before .before .loop .inv)
 
 returns-3 : tie.Need-returns-3 Inv-loop μ-loop
-returns-3 c = fill-full (c .before .before .before .before .before .loop .inv) (c .before .before .before .before .token-at .ensures) (c .before .before .token2 .given .1) (c .if1 .taken)
+returns-3 c = fill-full (c .before .before .before .before .before .loop .inv) (c .before .before .before .before .near-token .ensures) (c .before .before .token2 .given .1) (c .if1 .taken)
 
 cast-put-token : tie.Need-cast-put-token Inv-loop μ-loop
 cast-put-token c =
-    let t = fill-room (c .before .before .before .before .before .before .loop .inv) (c .before .before .before .before .before .token-at .ensures) (c .before .before .before .token2 .given .1) (c .before .if1 .left) (c .before .before .before .before .before .before .before .before .before .pre .1) in
+    let t = fill-room (c .before .before .before .before .before .before .loop .inv) (c .before .before .before .before .before .near-token .ensures) (c .before .before .before .token2 .given .1) (c .before .if1 .left) (c .before .before .before .before .before .before .before .before .before .pre .1) in
     omega arith
 
 cast-put-token-2 : tie.Need-cast-put-token-2 Inv-loop μ-loop
 cast-put-token-2 c =
-    let t = fill-room (c .before .before .before .before .before .before .loop .inv) (c .before .before .before .before .before .token-at .ensures) (c .before .before .before .token2 .given .1) (c .before .if1 .left) (c .before .before .before .before .before .before .before .before .before .pre .1) in
+    let t = fill-room (c .before .before .before .before .before .before .loop .inv) (c .before .before .before .before .before .near-token .ensures) (c .before .before .before .token2 .given .1) (c .before .if1 .left) (c .before .before .before .before .before .before .before .before .before .pre .1) in
     omega arith
 
 cast-put-token-3 : tie.Need-cast-put-token-3 Inv-loop μ-loop
 cast-put-token-3 c =
-    let t = fill-room (c .before .before .before .before .before .before .loop .inv) (c .before .before .before .before .before .token-at .ensures) (c .before .before .before .token2 .given .1) (c .before .if1 .left) (c .before .before .before .before .before .before .before .before .before .pre .1) in
+    let t = fill-room (c .before .before .before .before .before .before .loop .inv) (c .before .before .before .before .before .near-token .ensures) (c .before .before .before .token2 .given .1) (c .before .if1 .left) (c .before .before .before .before .before .before .before .before .before .pre .1) in
     omega arith
 
 put-token-requires : tie.Need-put-token-requires Inv-loop μ-loop
-put-token-requires c κs = fill-room (c .before .before .before .before .before .before .loop .inv) (c .before .before .before .before .before .token-at .ensures) (c .before .before .before .token2 .given .1) (c .before .if1 .left) (c .before .before .before .before .before .before .before .before .before .pre .1) .row
+put-token-requires c κs = fill-room (c .before .before .before .before .before .before .loop .inv) (c .before .before .before .before .before .near-token .ensures) (c .before .before .before .token2 .given .1) (c .before .if1 .left) (c .before .before .before .before .before .before .before .before .before .pre .1) .row
 
 add-n : tie.Need-add-n Inv-loop μ-loop
 add-n c =
-    let t = fill-room (c .before .before .before .before .before .before .before .before .before .loop .inv) (c .before .before .before .before .before .before .before .before .token-at .ensures) (c .before .before .before .before .before .before .token2 .given .1) (c .before .before .before .before .if1 .left) (c .before .before .before .before .before .before .before .before .before .before .before .before .pre .1) in
+    let t = fill-room (c .before .before .before .before .before .before .before .before .before .loop .inv) (c .before .before .before .before .before .before .before .before .near-token .ensures) (c .before .before .before .before .before .before .token2 .given .1) (c .before .before .before .before .if1 .left) (c .before .before .before .before .before .before .before .before .before .before .before .before .pre .1) in
     omega arith
 
 loop-less : tie.Need-loop-less Inv-loop μ-loop
-loop-less c = fill-room (c .before .before .before .before .before .before .before .before .before .loop .inv) (c .before .before .before .before .before .before .before .before .token-at .ensures) (c .before .before .before .before .before .before .token2 .given .1) (c .before .before .before .before .if1 .left) (c .before .before .before .before .before .before .before .before .before .before .before .before .pre .1) .less
+loop-less c = fill-room (c .before .before .before .before .before .before .before .before .before .loop .inv) (c .before .before .before .before .before .before .before .before .near-token .ensures) (c .before .before .before .before .before .before .token2 .given .1) (c .before .before .before .before .if1 .left) (c .before .before .before .before .before .before .before .before .before .before .before .before .pre .1) .less
 
 loop-again : tie.Need-loop-again Inv-loop μ-loop
-loop-again c = fill-more (c .before .before .before .before .before .before .before .before .before .loop .inv) (c .before .before .before .before .before .before .before .before .token-at .ensures) (c .before .before .before .before .before .before .token2 .given .1) (c .before .before .before .before .if1 .left) (c .before .before .put-token .ensures)
+loop-again c = fill-more (c .before .before .before .before .before .before .before .before .before .loop .inv) (c .before .before .before .before .before .before .before .before .near-token .ensures) (c .before .before .before .before .before .before .token2 .given .1) (c .before .before .before .before .if1 .left) (c .before .before .put-token .ensures)
 
 pub fill-spec : {M : Type 1} → statement M
 fill-spec =
@@ -83,7 +83,7 @@ fill-spec =
     Inv-loop
     μ-loop
     loop-holds
-    token-at-requires
+    near-token-requires
     enum-told
     same-length
     returns

@@ -169,7 +169,7 @@ impl Example {
             Example::Text(text, level) => reading(text, *level),
             Example::Made(_, make) => reading(&make(), Level::Tagged),
             Example::Lent(text) => {
-                let answer = raw::read(text.as_bytes(), true, &mut [0; 6], &mut [0; 6], &mut [0]);
+                let answer = raw::read(text.as_bytes(), true, &mut [0; 7], &mut [0; 6], &mut [0]);
                 Answer(answer[0], answer[1])
             }
             Example::Fed(text) => {

@@ -340,8 +340,8 @@ the text.",
     Explanation {
         reason: Reason::Shape,
         what: "\
-Tables that aren't whole records of six numbers, or that hold over 4,096 nodes, 1,024
-rules or 65,536 bytes of names and strings.",
+Tables that aren't whole records, of seven numbers for nodes and of six for rules, or
+that hold over 4,096 nodes, 1,024 rules or 65,536 bytes of names and strings.",
         place: WHOLE_TABLES,
         order: "First of the printer's numbers.",
         example: Example::Tables { nodes: &[0], rules: &[], store: "", room: 0 },
@@ -357,7 +357,7 @@ it, a string is no UTF-8, a range's end is no character, or PEEK's q is over 1."
         place: "The lowest index of a node that is false.",
         order: "After 20.",
         example: Example::Tables {
-            nodes: &[1, 0, 0, 0, 3, 0],
+            nodes: &[1, 0, 0, 0, 3, 0, 0],
             rules: &[0, 1, 0, 0, 0, 0],
             store: "ab",
             room: 0,
@@ -374,7 +374,7 @@ nodes are left over.",
         place: "The lowest index of a rule that is false; the number of rules for nodes left over.",
         order: "After 20 and 21.",
         example: Example::Tables {
-            nodes: &[4, 0, 0, 0, 1, 0],
+            nodes: &[4, 0, 0, 0, 1, 0, 0],
             rules: &[0, 1, 0, 1, 0, 0],
             store: "ab",
             room: 0,
@@ -388,7 +388,7 @@ nodes are left over.",
         place: WHOLE_TABLES,
         order: "After 20, 21 and 22.",
         example: Example::Tables {
-            nodes: &[4, 0, 0, 1, 1, 0],
+            nodes: &[4, 0, 0, 1, 1, 0, 0],
             rules: &[0, 1, 0, 0, 0, 0],
             store: "ab",
             room: 9,

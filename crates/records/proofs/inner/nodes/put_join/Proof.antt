@@ -1,4 +1,4 @@
--- Each of the two joins has its kind, 8 or 9, and the six numbers that are put are its record (`join-is`).
+-- Each of the two joins has its kind, 8 or 9, and the numbers that are put are its record (`join-is`).
 -- Their fit follows from Over: the right child is the record before, so that it exists and its index fits 32 bits.
 use Rattle.records.proofs.Patches.{join-is}
 use borrow.Author.Needs.{needs}

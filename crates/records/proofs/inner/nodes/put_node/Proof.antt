@@ -1,5 +1,5 @@
--- Six stores at NODE_SIZE * index and the five places behind it are one record written (`put-is`).
--- None of them changes the length, so that the room for six numbers, which is asked for, is there for each.
+-- Seven stores at NODE_SIZE * index and the six places behind it are one record written (`put-is`).
+-- None of them changes the length, so that the room for seven numbers, which is asked for, is there for each.
 use mathlib.Core.Path.{refl}
 use native.Mathlib.Omega.{arith}
 use lib.ListN.{length-set}
@@ -77,11 +77,20 @@ mul-nodes-6 c = search needs
 slice-write-nodes-6 : tie.Need-slice-write-nodes-6
 slice-write-nodes-6 c = simp length-set (omega arith)
 
+add-nodes-6 : tie.Need-add-nodes-6
+add-nodes-6 c = search needs
+
+mul-nodes-7 : tie.Need-mul-nodes-7
+mul-nodes-7 c = search needs
+
+slice-write-nodes-7 : tie.Need-slice-write-nodes-7
+slice-write-nodes-7 c = simp length-set (omega arith)
+
 same-length : tie.Need-same-length
 same-length c = search needs
 
 returns : tie.Need-returns
-returns c = put-is _ _ _ _ _ _ _ _ _ refl
+returns c = put-is _ _ _ _ _ _ _ _ _ _ refl
 
 pub put-node-spec : {M : Type 1} → statement M
 put-node-spec =
@@ -110,5 +119,8 @@ put-node-spec =
     add-nodes-5
     mul-nodes-6
     slice-write-nodes-6
+    add-nodes-6
+    mul-nodes-7
+    slice-write-nodes-7
     same-length
     returns)

@@ -1,4 +1,4 @@
--- A slice with an end and one without are one kind; the fifth number tells which, and the six numbers that are put are its record (`slice-is`).
+-- A slice with an end and one without are one kind; the fifth number tells which, and the numbers that are put are its record (`slice-is`).
 use Rattle.records.proofs.Patches.{slice-is}
 use borrow.Author.Needs.{needs}
 use Rattle.records.proofs.inner.nodes.put_slice.Statement.{statement}

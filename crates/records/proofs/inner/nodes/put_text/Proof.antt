@@ -1,4 +1,4 @@
--- Each of the four sorts has its kind, 1, 2, 4 or 18, and the six numbers that are put are its record (`text-is`).
+-- Each of the four sorts has its kind, 1, 2, 4 or 18, and the numbers that are put are its record (`text-is`).
 use Rattle.records.proofs.Patches.{text-is}
 use borrow.Author.Needs.{needs}
 use Rattle.records.proofs.inner.nodes.put_text.Statement.{statement}

@@ -1,4 +1,4 @@
--- Each of the ten operators has its kind, and the six numbers that are put are its record (`unary-is`): a repetition's counts stand behind its child.
+-- Each of the ten operators has its kind, and the numbers that are put are its record (`unary-is`): a repetition's counts stand behind its child.
 -- The child is the record before, which exists since `used` isn't 0.
 use Rattle.records.proofs.Patches.{unary-is}
 use borrow.Author.Needs.{needs}

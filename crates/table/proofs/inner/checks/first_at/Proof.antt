@@ -1,5 +1,6 @@
 -- Three ways to one verdict. Where p + q is below the limit of its kind, `told` says of the node what `first_flat` asks for;
 -- a name goes to `first_name`, and whatever is left to `first_of`.
+use Rattle.table.specs.Record.{nodeSize}
 use Rattle.table.proofs.Children.{told}
 use lib.ListN.{getD}
 use native.Mathlib.Omega.{arith}
@@ -37,7 +38,7 @@ shared-slice-read-sum : tie.Need-shared-slice-read-sum
 shared-slice-read-sum c = search needs
 
 cast-sum : tie.Need-cast-sum
-cast-sum c = omega (arith, c .before .before .before .before .shared-slice-known .given (6 * c .before .before .before .before .before .args .i + 3))
+cast-sum c = omega (arith, c .before .before .before .before .shared-slice-known .given (nodeSize * c .before .before .before .before .before .args .i + 3))
 
 add-sum-2 : tie.Need-add-sum-2
 add-sum-2 c = search needs
@@ -49,10 +50,10 @@ shared-slice-read-sum-2 : tie.Need-shared-slice-read-sum-2
 shared-slice-read-sum-2 c = search needs
 
 cast-sum-2 : tie.Need-cast-sum-2
-cast-sum-2 c = omega (arith, c .before .before .before .before .before .shared-slice-known .given (6 * c .before .before .before .before .before .before .args .i + 4))
+cast-sum-2 c = omega (arith, c .before .before .before .before .before .shared-slice-known .given (nodeSize * c .before .before .before .before .before .before .args .i + 4))
 
 add-sum-3 : tie.Need-add-sum-3
-add-sum-3 c = omega (arith, c .before .before .before .before .before .shared-slice-known .given (6 * c .before .before .before .before .before .before .args .i + 3), c .before .before .before .before .before .shared-slice-known .given (6 * c .before .before .before .before .before .before .args .i + 4))
+add-sum-3 c = omega (arith, c .before .before .before .before .before .shared-slice-known .given (nodeSize * c .before .before .before .before .before .before .args .i + 3), c .before .before .before .before .before .shared-slice-known .given (nodeSize * c .before .before .before .before .before .before .args .i + 4))
 
 mul-if2 : tie.Need-mul-if2
 mul-if2 c = search needs

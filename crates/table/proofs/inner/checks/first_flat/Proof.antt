@@ -1,5 +1,6 @@
 -- `one` and `two` are 0 or 1 (`told-low`), so a product is 0 or the number itself. Each return is a law of Kids: `last-out`, `left-out`,
 -- `told-first`. Children that passed the tests so far have entries among the first nodes (`right-in`, `left-in`).
+use Rattle.table.specs.Record.{nodeSize}
 use Rattle.table.proofs.Children.{last-out, right-in, left-out, left-in, told-first, told-low, small, choose-below, one-of}
 use mathlib.Core.Path.{sym, _∙_, ap}
 use lib.ListN.{getD}
@@ -28,7 +29,7 @@ shared-slice-read-p : tie.Need-shared-slice-read-p
 shared-slice-read-p c = search needs
 
 cast-p : tie.Need-cast-p
-cast-p c = omega (arith, c .before .before .shared-slice-known .given (6 * c .before .before .before .args .i + 3))
+cast-p c = omega (arith, c .before .before .shared-slice-known .given (nodeSize * c .before .before .before .args .i + 3))
 
 add-q : tie.Need-add-q
 add-q c = search needs
@@ -40,7 +41,7 @@ shared-slice-read-q : tie.Need-shared-slice-read-q
 shared-slice-read-q c = search needs
 
 cast-q : tie.Need-cast-q
-cast-q c = omega (arith, c .before .before .before .shared-slice-known .given (6 * c .before .before .before .before .args .i + 4))
+cast-q c = omega (arith, c .before .before .before .shared-slice-known .given (nodeSize * c .before .before .before .before .args .i + 4))
 
 pick-requires : tie.Need-pick-requires
 pick-requires c κs = search needs
@@ -51,7 +52,7 @@ add-if1 c =
     let ns = now (s .args .nodes) in
     let i = s .args .i in
     let known = c .before .before .before .before .shared-slice-known .given in
-    let low = choose-below (eqb (s .args .two) 1) (getD ns (6 * i + 4) 0) (getD ns (6 * i + 3) 0) 0x1_0000_0000 (c .pick .ensures) (omega (arith, known (6 * i + 4))) (omega (arith, known (6 * i + 3))) in
+    let low = choose-below (eqb (s .args .two) 1) (getD ns (nodeSize * i + 4) 0) (getD ns (nodeSize * i + 3) 0) 0x1_0000_0000 (c .pick .ensures) (omega (arith, known (nodeSize * i + 4))) (omega (arith, known (nodeSize * i + 3))) in
     omega arith
 
 mul-if1 : tie.Need-mul-if1
@@ -60,7 +61,7 @@ mul-if1 c =
     let ns = now (s .args .nodes) in
     let i = s .args .i in
     let known = c .before .before .before .before .shared-slice-known .given in
-    let low = choose-below (eqb (s .args .two) 1) (getD ns (6 * i + 4) 0) (getD ns (6 * i + 3) 0) 0x1_0000_0000 (c .pick .ensures) (omega (arith, known (6 * i + 4))) (omega (arith, known (6 * i + 3))) in
+    let low = choose-below (eqb (s .args .two) 1) (getD ns (nodeSize * i + 4) 0) (getD ns (nodeSize * i + 3) 0) 0x1_0000_0000 (c .pick .ensures) (omega (arith, known (nodeSize * i + 4))) (omega (arith, known (nodeSize * i + 3))) in
     omega (arith, small (c .pick .result + 1) (s .args .one) (told-low (now (s .args .nodes)) (now (s .args .store)) (s .args .i) (s .args .one) (s .args .two) (s .pre .1 .1 .1) .0))
 
 mul-if1-2 : tie.Need-mul-if1-2
@@ -74,17 +75,17 @@ returns c =
     last-out (now (s .args .nodes)) (now (s .args .store)) (s .args .i) (s .args .one) (s .args .two) (s .pre .1 .1 .1) (c .before .pick .ensures) (c .if1 .taken)
 
 add-if2 : tie.Need-add-if2
-add-if2 c = omega (arith, c .before .before .before .before .before .shared-slice-known .given (6 * c .before .before .before .before .before .before .args .i + 3))
+add-if2 c = omega (arith, c .before .before .before .before .before .shared-slice-known .given (nodeSize * c .before .before .before .before .before .before .args .i + 3))
 
 mul-if2 : tie.Need-mul-if2
 mul-if2 c =
     let s = c .before .before .before .before .before .before in
-    omega (arith, c .before .before .before .before .before .shared-slice-known .given (6 * s .args .i + 3), small (getD (now (s .args .nodes)) (6 * s .args .i + 3) 0 + 1) (s .args .two) (told-low (now (s .args .nodes)) (now (s .args .store)) (s .args .i) (s .args .one) (s .args .two) (s .pre .1 .1 .1) .1))
+    omega (arith, c .before .before .before .before .before .shared-slice-known .given (nodeSize * s .args .i + 3), small (getD (now (s .args .nodes)) (nodeSize * s .args .i + 3) 0 + 1) (s .args .two) (told-low (now (s .args .nodes)) (now (s .args .store)) (s .args .i) (s .args .one) (s .args .two) (s .pre .1 .1 .1) .1))
 
 mul-wide : tie.Need-mul-wide
 mul-wide c =
     let s = c .before .before .before .before .before .before in
-    omega (arith, c .before .before .before .before .before .shared-slice-known .given (6 * s .args .i + 4), small (getD (now (s .args .nodes)) (6 * s .args .i + 4) 0) (s .args .two) (told-low (now (s .args .nodes)) (now (s .args .store)) (s .args .i) (s .args .one) (s .args .two) (s .pre .1 .1 .1) .1))
+    omega (arith, c .before .before .before .before .before .shared-slice-known .given (nodeSize * s .args .i + 4), small (getD (now (s .args .nodes)) (nodeSize * s .args .i + 4) 0) (s .args .two) (told-low (now (s .args .nodes)) (now (s .args .store)) (s .args .i) (s .args .one) (s .args .two) (s .pre .1 .1 .1) .1))
 
 mul-wide-2 : tie.Need-mul-wide-2
 mul-wide-2 c =
@@ -112,7 +113,7 @@ returns-2 c =
 mul-wide-3 : tie.Need-mul-wide-3
 mul-wide-3 c =
     let s = c .before .before .before .before .before .before .before .before .before in
-    omega (arith, c .before .before .before .before .before .before .before .before .shared-slice-known .given (6 * s .args .i + 3), small (getD (now (s .args .nodes)) (6 * s .args .i + 3) 0) (s .args .one) (told-low (now (s .args .nodes)) (now (s .args .store)) (s .args .i) (s .args .one) (s .args .two) (s .pre .1 .1 .1) .0))
+    omega (arith, c .before .before .before .before .before .before .before .before .shared-slice-known .given (nodeSize * s .args .i + 3), small (getD (now (s .args .nodes)) (nodeSize * s .args .i + 3) 0) (s .args .one) (told-low (now (s .args .nodes)) (now (s .args .store)) (s .args .i) (s .args .one) (s .args .two) (s .pre .1 .1 .1) .0))
 
 mul-wide-4 : tie.Need-mul-wide-4
 mul-wide-4 c =

@@ -3,6 +3,7 @@ use Prim.Native.Nat.{_+_, _*_}
 use mathlib.Core.Path.{sym, _∙_}
 use denote.Ref.{now}
 use native.Mathlib.Omega.{arith}
+use Rattle.table.specs.Record.{nodeSize}
 use Rattle.table.proofs.Ascii.{name-good, name-out}
 use borrow.Author.Needs.{needs}
 use Rattle.table.proofs.inner.checks.first_name.Statement.{statement}
@@ -21,7 +22,7 @@ shared-slice-read-good-text : tie.Need-shared-slice-read-good-text
 shared-slice-read-good-text c = search needs
 
 cast-good-text : tie.Need-cast-good-text
-cast-good-text c = omega (arith, c .shared-slice-known3 .given (6 * c .before .before .before .args .i + 3))
+cast-good-text c = omega (arith, c .shared-slice-known3 .given (nodeSize * c .before .before .before .args .i + 3))
 
 add-good-text-2 : tie.Need-add-good-text-2
 add-good-text-2 c = search needs
@@ -33,7 +34,7 @@ shared-slice-read-good-text-2 : tie.Need-shared-slice-read-good-text-2
 shared-slice-read-good-text-2 c = search needs
 
 cast-good-text-2 : tie.Need-cast-good-text-2
-cast-good-text-2 c = omega (arith, c .shared-slice-known4 .given (6 * c .before .before .before .before .args .i + 4))
+cast-good-text-2 c = omega (arith, c .shared-slice-known4 .given (nodeSize * c .before .before .before .before .args .i + 4))
 
 good-text-requires : tie.Need-good-text-requires
 good-text-requires c κs = search needs

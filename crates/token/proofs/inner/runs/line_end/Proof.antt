@@ -1,8 +1,9 @@
--- Invariant: i and what is left of the line from i on have the sum that `at` and what is left from `at` on have. A byte of the line keeps it (`run-step`);
+-- Invariant: i and what is left of the line from i on have the sum that `at` and what is left from `at` on have. So they do past the first windows
+-- (`plain_end`); a byte of the line keeps it (`run-step`);
 -- at LF, CRLF or the text's end nothing is left (`run-stop`, `run-over`). The bytes that are left fall.
 use Prim.Native.Nat.{_+_, _-_}
 use mathlib.Core.Bool.{not}
-use mathlib.Core.Path.{_≡_, refl, sym, ap, _∙_}
+use mathlib.Core.Path.{_≡_, sym, ap, _∙_}
 use native.Mathlib.Omega.{arith}
 use lib.ListN.{length, drop}
 use borrow.Author.Needs.{needs}
@@ -17,8 +18,11 @@ Inv-loop s at i₀ i = i + line (drop i s) ≡ at + line (drop at s)
 abbrev μ-loop : tie.MeasureT-loop
 μ-loop s at i₀ i = length s - i
 
+plain-end-requires : tie.Need-plain-end-requires Inv-loop μ-loop
+plain-end-requires c κs = search needs
+
 loop-holds : tie.Need-loop-holds Inv-loop μ-loop
-loop-holds c = refl
+loop-holds c = c .plain-end .ensures
 
 line-ends-requires : tie.Need-line-ends-requires Inv-loop μ-loop
 line-ends-requires c κs = search needs
@@ -52,6 +56,7 @@ line-end-spec =
     (tie.spec
     Inv-loop
     μ-loop
+    plain-end-requires
     loop-holds
     line-ends-requires
     returns

@@ -1,17 +1,11 @@
 -- LF ends a line, and CR where LF follows. A byte above 13 is neither (`over`): the first test only saves time.
-use Prim.Native.Nat.{ℕ, _≤_, _<_}
-use mathlib.Core.Path.{_≡_}
-use mathlib.Core.Bool.{false}
 use native.Mathlib.Omega.{arith}
-use lib.Dec.{eqb}
 use borrow.Author.Tests.{ne-eqb}
 use borrow.Author.Needs.{needs}
 use Rattle.text.proofs.Tests.{at-byte}
+use Rattle.token.proofs.Runs.{over}
 use Rattle.token.proofs.inner.runs.line_ends.Statement.{statement}
 use Rattle.token.proofs.inner.runs.line_ends.Tie as tie
-
-over : (b n : ℕ) → n ≤ 13 → 13 < b → eqb b n ≡ false
-over b n l h = ne-eqb b n (λ e. omega arith)
 
 shared-slice-read-b : tie.Need-shared-slice-read-b
 shared-slice-read-b c = search needs
