@@ -23,7 +23,7 @@ use Rattle.text.proofs.Splices.{wrote-then, room-front, room-next}
 use Rattle.text.proofs.Walks.{spelled-step}
 use Rattle.text.proofs.Booleans.{or-nothing}
 use Rattle.literal.specs.declared.Show.the-variants.{Pair, Bare, Hex}
-use Rattle.literal.specs.Literals.{hexCount, bare, bareByte, showOf, shownBy, shown, charPieceBy, charPiece, inside, literal}
+use Rattle.literal.specs.Literals.{hexCount, bare, bareIn, bareByte, showOf, shownBy, shown, charPieceBy, charPiece, inside, literal}
 use Rattle.literal.proofs.Turns.{Turn}
 
 pub char-below : (xs : List ℕ) (c n : ℕ) → charOf xs ≡ Is c n → c < 0x110000
@@ -93,6 +93,10 @@ three-true false y z e = let z : _≡_ {A = ℕ} 0 1 = cc in absurd (omega arith
 -- ASCII prints bare from U+0020 to U+007E
 pub bare-ascii : (c : ℕ) → c < 0xa1 → bare c ≡ within 0x20 0x7e c
 bare-ascii c h = rw (within-low 0xa1 0x24f c h) (or-nothing (within 0x20 0x7e c))
+
+-- byte B5 isn't bare, though U+00B5 is
+byte-not-character : (bareByte 34 0xb5 ≡ false) × (bareIn 34 0xb5 ≡ true)
+byte-not-character = (refl, refl)
 
 -- and so does a byte: one from 0x80 on doesn't, whatever character has its number
 pub byte-is : (q b : ℕ) → bareByte q b ≡ and (within 0x20 0x7e b) (and (not (eqb b q)) (not (eqb b 92)))
