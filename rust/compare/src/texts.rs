@@ -12,6 +12,7 @@ pub enum Source {
     Damaged,
     Soup,
     Broken,
+    Long,
     Limit,
 }
 
@@ -665,6 +666,83 @@ pub fn broken(random: &mut Random) -> Vec<u8> {
     second::broken::text(&mut |n| random.below(n)).text
 }
 
+/// What may stand in a line comment beside letters: what ends no line, though it looks like it, and characters of more bytes.
+const IN_LINE: [&str; 10] = ["\r", "\r\r", "\t", "\u{b}", "\u{c}", "\u{e}", "\0", "é", "€", "/*"];
+/// And in a block comment or a string.
+const IN_BLOCK: [&str; 6] = ["\n", "\r\n", "\r", "\n\n", "é", "\t"];
+
+/// Up to 99 letters, with others of `pieces` anywhere among them.
+fn letters(random: &mut Random, pieces: &[&str], text: &mut Vec<u8>) {
+    let seldom = random.of(&[4, 20, 80]);
+    for _ in 0..random.below(100) {
+        let piece = if random.one_in(seldom) { random.of(pieces) } else { "x" };
+        text.extend_from_slice(piece.as_bytes());
+    }
+}
+
+/// What may stand between two tokens, some of it long.
+fn gap(random: &mut Random, text: &mut Vec<u8>) {
+    match random.below(8) {
+        0 | 1 => {}
+        2 | 3 => text.push(b' '),
+        4 => text.push(b'\n'),
+        5 => {
+            let blanks = random.of(&[&[" ", "\n"][..], &[" ", "\t", "\r\n"], &["\n"]]);
+            for _ in 0..random.below(150) {
+                text.extend_from_slice(random.of(blanks).as_bytes());
+            }
+        }
+        6 => {
+            text.extend_from_slice(b"// ");
+            letters(random, &IN_LINE, text);
+            text.extend_from_slice(random.of(&["\n", "\r\n"]).as_bytes());
+        }
+        _ => {
+            text.extend_from_slice(b"/*");
+            letters(random, &IN_BLOCK, text);
+            text.extend_from_slice(b"*/");
+        }
+    }
+}
+
+/// A text with long comments, docs, strings and rows of blanks, in which line ends and what looks like them stand anywhere:
+/// the product goes past such bytes many at a time.
+pub fn long(random: &mut Random) -> Vec<u8> {
+    let mut text = Vec::new();
+    for _ in 0..1 + random.below(3) {
+        gap(random, &mut text);
+        if random.one_in(4) {
+            text.extend_from_slice(b"///");
+            letters(random, &IN_LINE, &mut text);
+            text.extend_from_slice(random.of(&["\n", "\r\n"]).as_bytes());
+        }
+        text.extend_from_slice(b"r = {");
+        for term in 0..1 + random.below(4) {
+            if term > 0 {
+                text.push(random.of(b"~|"));
+            }
+            gap(random, &mut text);
+            let [opener, closer] =
+                random.of(&[["", ""], ["!", ""], ["(", ")*"], ["#t = ", ""], ["PUSH(", ")"]]);
+            text.extend_from_slice(opener.as_bytes());
+            gap(random, &mut text);
+            if random.one_in(3) {
+                text.push(b'"');
+                letters(random, &IN_BLOCK, &mut text);
+                text.push(b'"');
+            } else {
+                text.push(b'a');
+            }
+            gap(random, &mut text);
+            text.extend_from_slice(closer.as_bytes());
+            gap(random, &mut text);
+        }
+        text.push(b'}');
+    }
+    gap(random, &mut text);
+    text
+}
+
 /// Every text of a run, in order. `scale` is in hundredths of the full run.
 pub fn all(seed: u64, scale: usize, f: &mut dyn FnMut(Source, &[u8])) {
     for text in CORNERS {
@@ -708,5 +786,13 @@ pub fn all(seed: u64, scale: usize, f: &mut dyn FnMut(Source, &[u8])) {
     let mut random = Random(seed ^ 0xbac5);
     for _ in 0..11_000 * scale {
         f(Source::Broken, &broken(&mut random));
+    }
+    let mut random = Random(seed ^ 0x1096);
+    for _ in 0..4_000 * scale {
+        let text = long(&mut random);
+        f(Source::Long, &text);
+        if random.one_in(4) {
+            f(Source::Long, &damaged(&mut random, &text));
+        }
     }
 }
