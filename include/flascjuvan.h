@@ -1,7 +1,7 @@
 /* Flascjuvan: reading and printing of pest grammars, their tokens as a text arrives, and running their rules over lines,
  * for C and whatever calls C.
  *
- * Nine functions over lent memory. None of them allocates, keeps anything between calls (what there is to keep of a text
+ * Ten functions over lent memory. None of them allocates, keeps anything between calls (what there is to keep of a text
  * that arrives, its caller keeps), reads or writes a file, or fails to return; any number of threads may call them at
  * once. Each is proved to answer every input as the rules say (crates/exports/src/lib.rt has the promises). What no proof
  * can see is this side of the call, so see to it that
@@ -18,9 +18,9 @@
  * counts bytes of the text from 0; an index counts records. After any number but 0 every lent buffer is as it was,
  * but `answer`, in which every count is 0, and `state`, which holds the refusal. After 0 only what is reported as used
  * has changed. If several faults are there, the reader gives the first of this order: 1; 2; 3; 4 and 9, the leftmost; 5,
- * 6, 7, 8 and 13, the leftmost; 12; 10; 11. The printers give the first of 20, 21, 22, 23; the functions that run rules
- * the first of 30, 31, 32, 33, 34. Of a text that arrives it is what shows first, and at one byte the first of 1, 2, 3,
- * 14.
+ * 6, 7, 8, 13 and 15, the leftmost, but a 5 or 6 before the 15 of the same pair of counts; 12; 10; 11. The printers give
+ * the first of 20, 21, 22, 23; the functions that run rules the first of 30, 31, 32, 33, 34. Of a text that arrives it is
+ * what shows first, and at one byte the first of 1, 2, 3, 14.
  *
  * examples/c has programs that use all of it.
  */
@@ -34,17 +34,17 @@
 extern "C" {
 #endif
 
-/* answer[0]. The numbers between 14 and 20, those between 23 and 30, and those above 34 are never given. */
+/* answer[0]. The numbers between 15 and 20, those between 23 and 30, and those above 34 are never given. */
 enum flascjuvan_refusal {
     FLASCJUVAN_DONE = 0, /* nothing is refused; place 0 */
 
-    /* from flascjuvan_read, flascjuvan_next_token, flascjuvan_feed and flascjuvan_feed_end */
+    /* from flascjuvan_read, flascjuvan_read_edition, flascjuvan_next_token, flascjuvan_feed and flascjuvan_feed_end */
     FLASCJUVAN_REFUSED_TOO_LONG = 1, /* the text has over 65,536 bytes; place 0 */
     FLASCJUVAN_REFUSED_NOT_UTF8 = 2, /* the text is not UTF-8; where the first bad sequence starts */
     FLASCJUVAN_REFUSED_NO_TOKEN = 3, /* no token can be made of what stands here, or in a literal no escape; the bad
                                         escape's backslash, otherwise the token's first byte */
 
-    /* from flascjuvan_read alone */
+    /* from flascjuvan_read and flascjuvan_read_edition alone */
     FLASCJUVAN_REFUSED_NOT_ALLOWED = 4, /* a token that isn't allowed here, or the text ends too early; the token, or
                                            the text's length */
     FLASCJUVAN_REFUSED_OVER = 5,        /* a repeat number over 4,294,967,295; the number */
@@ -59,6 +59,9 @@ enum flascjuvan_refusal {
 
     /* from flascjuvan_feed and flascjuvan_feed_end */
     FLASCJUVAN_REFUSED_LIST_ROOM = 14, /* a token that ends with the lent list full; its first byte */
+
+    /* from flascjuvan_read_edition, by the second edition alone */
+    FLASCJUVAN_REFUSED_ABOVE = 15, /* a repeat whose least is above its most; the least */
 
     /* from flascjuvan_print and flascjuvan_print_short */
     FLASCJUVAN_REFUSED_SHAPE = 20,       /* a table that isn't whole records or has too many (4,096 nodes, 1,024 rules),
@@ -85,7 +88,7 @@ enum flascjuvan_refusal {
 enum flascjuvan_answer {
     FLASCJUVAN_ANSWER_NUMBER = 0, /* of every function */
     FLASCJUVAN_ANSWER_PLACE = 1,
-    FLASCJUVAN_READ_NODES = 2, /* of flascjuvan_read: records */
+    FLASCJUVAN_READ_NODES = 2, /* of flascjuvan_read and flascjuvan_read_edition: records */
     FLASCJUVAN_READ_RULES = 3, /* records */
     FLASCJUVAN_READ_STORE = 4, /* bytes */
     FLASCJUVAN_PRINT_USED = 2, /* of flascjuvan_print and flascjuvan_print_short: bytes */
@@ -229,7 +232,7 @@ FLASCJUVAN_ASSERT(FLASCJUVAN_MATCH_STEPS + 1 == FLASCJUVAN_LINE_RECORD, "a line'
 #undef FLASCJUVAN_ASSERT
 #endif
 
-/* Reads a text into tables.
+/* Reads a text into tables, by the first edition of the rules for layouts.
  *
  * tagged: 0 reads plain (tags are dropped, PUSH_LITERAL is 13); every other value reads tagged (tags are kept).
  * answer: number, place, nodes, rules, store bytes. Nodes are counted in records of seven numbers, rules in records of
@@ -241,6 +244,16 @@ void flascjuvan_read(const uint8_t *text, size_t text_len, uint32_t tagged,
                      uint32_t *rules, size_t rules_len,
                      uint8_t *store, size_t store_len,
                      uint64_t answer[5]);
+
+/* Reads a text into tables as flascjuvan_read does, by an edition of the rules for layouts.
+ *
+ * edition: 0 and 1 are the first edition, which flascjuvan_read reads by; every other value is the second, which refuses a
+ * repeat whose least is above its most, as in a{3,2}, by 15. What both read is the same. */
+void flascjuvan_read_edition(const uint8_t *text, size_t text_len, uint32_t tagged, uint32_t edition,
+                             uint32_t *nodes, size_t nodes_len,
+                             uint32_t *rules, size_t rules_len,
+                             uint8_t *store, size_t store_len,
+                             uint64_t answer[5]);
 
 /* Prints tables, a rule to a line, every bracket shown. Lend exactly the tables: after a reading, its nodes times
  * FLASCJUVAN_NODE_RECORD, its rules times FLASCJUVAN_RULE_RECORD, and its store bytes.

@@ -1,5 +1,5 @@
 /* What test-c asks of the functions that print tables and run rules: their answers on tables made by hand, each number,
- * and that they touch nothing but what they are lent. Each lent buffer stands alone between pages that can't be touched,
+ * and that they touch nothing but what they are lent; and the same of those that read, by each edition. Each lent buffer stands alone between pages that can't be touched,
  * right behind the one or right before the other, and what is lent to be read can't be written. It tells each case that
  * goes wrong, then how many there were; it is ended by a signal where it touches what it may not. C that is C++ too. */
 #ifndef _GNU_SOURCE
@@ -201,6 +201,54 @@ static void print(const char *what, printer *by, const struct tables *t, size_t 
     take_back(out);
 }
 
+/* flascjuvan_read, which names no edition */
+#define NO_EDITION UINT32_MAX
+
+/* Room for two nodes, a rule and two bytes is lent, all of it standing at 7. Every text here that is read is
+ * r={a{LEAST,MOST}} and fills it; LEAST is 0 where it is refused. */
+static void read_text(const char *what, const char *text, uint32_t edition, uint64_t number, uint64_t place,
+                      uint32_t least, uint32_t most)
+{
+    const uint64_t filled[5] = {UNTOUCHED, UNTOUCHED, UNTOUCHED, UNTOUCHED, UNTOUCHED};
+    const uint64_t done[5] = {0, 0, 2, 1, 2}, refused[5] = {number, place, 0, 0, 0};
+    const uint32_t end = (uint32_t)strlen(text) - 1, seven = UNTOUCHED * 0x01010101u;
+    const uint32_t due_nodes[14] = {4, 3, 4, 1, 1, 0, 1, 16, 3, end, 0, least, most, 1}, due_rule[6] = {0, 1, 0, 1, 0, 1};
+    uint32_t before[14];
+    struct lent answer = lend(filled, sizeof filled, 1), input = lend(text, strlen(text), 0), made[3];
+    int good = number == 0;
+    size_t i;
+    for (i = 0; i < LENGTH(before); i++) {
+        before[i] = seven;
+    }
+    made[0] = lend(before, sizeof due_nodes, 1);
+    made[1] = lend(before, sizeof due_rule, 1);
+    made[2] = lend(before, 2, 1);
+    if (edition == NO_EDITION) {
+        flascjuvan_read((const uint8_t *)input.start, strlen(text), 1, (uint32_t *)made[0].start, 14,
+                        (uint32_t *)made[1].start, 6, (uint8_t *)made[2].start, 2, (uint64_t *)answer.start);
+    } else {
+        flascjuvan_read_edition((const uint8_t *)input.start, strlen(text), 1, edition, (uint32_t *)made[0].start, 14,
+                                (uint32_t *)made[1].start, 6, (uint8_t *)made[2].start, 2, (uint64_t *)answer.start);
+    }
+    compare(what, "answer", (const uint64_t *)answer.start, good ? done : refused, 5);
+    cases++;
+    if (memcmp(made[0].start, good ? due_nodes : before, sizeof due_nodes) != 0 ||
+        memcmp(made[1].start, good ? due_rule : before, sizeof due_rule) != 0 ||
+        memcmp(made[2].start, good ? (const void *)"ra" : (const void *)before, 2) != 0) {
+        wrong++;
+        fprintf(stderr, "test-tables: %s: tables that should be others\n", what);
+    }
+    lone(what, answer, sizeof filled);
+    lone(what, made[0], sizeof due_nodes);
+    lone(what, made[1], sizeof due_rule);
+    lone(what, made[2], 2);
+    take_back(answer);
+    take_back(input);
+    for (i = 0; i < LENGTH(made); i++) {
+        take_back(made[i]);
+    }
+}
+
 static void rule_named(const char *what, const struct tables *t, const char *name, uint64_t number, uint64_t rule)
 {
     const uint64_t filled[3] = {UNTOUCHED, UNTOUCHED, UNTOUCHED};
@@ -337,6 +385,24 @@ static void names(void)
     rule_named("32, no rule", &nothing, "r", 32, 0);
 }
 
+static void readings(void)
+{
+    static const uint32_t firsts[] = {NO_EDITION, 0, 1}, seconds[] = {2, 3, UINT32_MAX - 1};
+    size_t i;
+    for (i = 0; i < LENGTH(firsts); i++) {
+        read_text("a least above its most, first edition", "r={a{3,2}}", firsts[i], 0, 0, 3, 2);
+        read_text("a least above its most, second edition", "r={a{3,2}}", seconds[i], 15, 5, 0, 0);
+        read_text("both alike, second edition", "r={a{2,02}}", seconds[i], 0, 0, 2, 2);
+        read_text("a 0, first edition", "r={a{5, 0}}", firsts[i], 6, 8, 0, 0);
+        read_text("a 0, second edition", "r={a{5, 0}}", seconds[i], 6, 8, 0, 0);
+        read_text("over, second edition", "r={a{4294967296,1}}", seconds[i], 5, 5, 0, 0);
+        read_text("leftmost, first edition", "r={a{3,2}{0}}", firsts[i], 6, 10, 0, 0);
+        read_text("leftmost, second edition", "r={a{3,2}{0}}", seconds[i], 15, 5, 0, 0);
+        read_text("15 before room", "r={a{3,2}~b}", seconds[i], 15, 5, 0, 0);
+        read_text("room", "r={a{3,2}~b}", firsts[i], 10, 0, 0, 0);
+    }
+}
+
 /* r = { !! .. !"a" }, as many visits inside one another */
 static void nested(uint32_t visits, uint64_t number, uint64_t steps)
 {
@@ -364,6 +430,7 @@ int main(void)
         lines_one_by_one();
         whole_texts();
         names();
+        readings();
         texts();
         nested(1024, 0, 1024);
         nested(1025, 34, 0);

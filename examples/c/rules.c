@@ -3,6 +3,7 @@
  *     cc $(pkg-config --cflags flascjuvan) rules.c $(pkg-config --libs flascjuvan) -o rules
  *     ./rules layouts/pan.pest             or standard input, if no file is named
  *     ./rules --short layouts/pan.pest     with the fewest brackets
+ *     ./rules --edition 2 layouts/pan.pest read by the second edition, which the first line then says
  *
  * Exit status: 0 printed; 1 refused, with one line on standard error; 2 anything else that went wrong.
  * It shows the functions of flascjuvan.h that read, print and list tokens, in C that is C++ too. */
@@ -22,8 +23,8 @@ enum { PRINTED = 0, REFUSED = 1, FAILED = 2 };
 /* The names of the header's enums, by number. */
 static const char *const refusals[] = {
     "DONE", "TOO_LONG", "NOT_UTF8", "NO_TOKEN", "NOT_ALLOWED", "OVER", "ZERO", "PEEK_RANGE", "NOT_SCALAR", "TOO_DEEP",
-    "NODES_ROOM", "STORE_ROOM", "RULES_ROOM", "NOT_PLAIN",
-    NULL, NULL, NULL, NULL, NULL, NULL, /* 14 to 19 are never given */
+    "NODES_ROOM", "STORE_ROOM", "RULES_ROOM", "NOT_PLAIN", "LIST_ROOM", "ABOVE",
+    NULL, NULL, NULL, NULL, /* 16 to 19 are never given */
     "SHAPE", "NODE", "RULE", "OUTPUT_ROOM",
 };
 
@@ -195,12 +196,14 @@ static uint8_t *print(printer *by, size_t node_count, size_t rule_count, size_t 
     return NULL;
 }
 
-static int read_and_show(const char *file, size_t length, printer *by)
+/* Without an edition it reads as flascjuvan_read does, by the first. */
+static int read_and_show(const char *file, size_t length, const char *edition, printer *by)
 {
     uint64_t was_read[5], was_printed[3];
     size_t node_count, rule_count;
     uint8_t *printed;
-    flascjuvan_read(text, length, 1, nodes, FLASCJUVAN_NODES, rules, FLASCJUVAN_RULES, store, sizeof store, was_read);
+    flascjuvan_read_edition(text, length, 1, edition == NULL ? 1 : (uint32_t)atoi(edition), nodes, FLASCJUVAN_NODES,
+                            rules, FLASCJUVAN_RULES, store, sizeof store, was_read);
     if (was_read[FLASCJUVAN_ANSWER_NUMBER] != FLASCJUVAN_DONE) {
         return tell_refusal(file, length, was_read);
     }
@@ -214,6 +217,9 @@ static int read_and_show(const char *file, size_t length, printer *by)
         /* tables that were read can't be false; tables that you have changed can */
         free(printed);
         return fail(refusals[was_printed[FLASCJUVAN_ANSWER_NUMBER]]);
+    }
+    if (edition != NULL) {
+        printf("// read by edition %s\n", edition);
     }
     measure(node_count);
     show(rule_count, printed);
@@ -243,11 +249,18 @@ static int read_file(const char *file, size_t *length)
 
 int main(int argc, char **argv)
 {
-    int brief = argc > 1 && strcmp(argv[1], "--short") == 0;
-    const char *file = argc > 1 + brief ? argv[1 + brief] : "-";
+    int brief = argc > 1 && strcmp(argv[1], "--short") == 0, next = 1 + brief;
+    const char *edition = NULL, *file = "-";
     size_t length;
-    if (argc > 2 + brief) {
-        return fail("usage: rules [--short] [FILE]");
+    if (argc > next + 1 && strcmp(argv[next], "--edition") == 0) {
+        edition = argv[next + 1];
+        next += 2;
+    }
+    if (next < argc) {
+        file = argv[next++];
+    }
+    if (next < argc || (edition != NULL && strcmp(edition, "1") != 0 && strcmp(edition, "2") != 0)) {
+        return fail("usage: rules [--short] [--edition 1|2] [FILE]");
     }
     if (!stack_is_enough()) {
         return fail("the stack is less than 3 MB");
@@ -256,5 +269,5 @@ int main(int argc, char **argv)
         perror(file);
         return FAILED;
     }
-    return read_and_show(file, length, brief ? flascjuvan_print_short : flascjuvan_print);
+    return read_and_show(file, length, edition, brief ? flascjuvan_print_short : flascjuvan_print);
 }

@@ -4,12 +4,14 @@
 // Each function answers every input and asks nothing of its caller but memory that is as the types
 // say. include/flascjuvan.h declares them for C.
 use forms::Style;
+use structure::Edition;
 ghost use mathlib.Core.Path.{_≡_};
 ghost use lib.ListN.{length};
 ghost use Rattle.token.specs.Lister.{lister};
 ghost use Rattle.forms.specs.declared.Style.the-variants.{Full, Short};
 ghost use Rattle.printer.specs.Answers.{printOf, printIn};
 ghost use Rattle.printer.specs.Answers.{reported as printReported};
+ghost use Rattle.structure.specs.declared.Edition.the-variants.{First};
 ghost use Rattle.reader.specs.Read.{roomForNodes, roomForRules, readOf, Leaves};
 ghost use Rattle.reader.specs.Read.{reported as readReported};
 ghost use Rattle.matcher.specs.Answers.{matchOf};
@@ -17,9 +19,28 @@ ghost use Rattle.replies.specs.Replies.{numbered as lineNumbered, tallied, find
 ghost use Rattle.matcher.specs.Lines.{fields, linesOf, recordsOf};
 ghost use Rattle.matcher.specs.Sought.{foundOf};
 ghost use Rattle.states.specs.Feed.{feedOf, feedIn, endOf, endIn};
-ghost use Rattle.numbers.specs.Numbers.{levelOf, readNumbers, printNumbers, tokenNumbers, tallyNumbers, findingNumbers, callNumbers, feedNumbers, feedFrom};
+ghost use Rattle.numbers.specs.Numbers.{levelOf, editionOf, readNumbers, printNumbers, tokenNumbers, tallyNumbers, findingNumbers, callNumbers, feedNumbers, feedFrom};
 
-// Reads a text into the fronts of three buffers. The answer: number, place, nodes, rules, store bytes.
+// Reads a text by an edition into the fronts of three buffers. The answer: number, place, nodes, rules, store
+// bytes.
+pub fn read_by(
+    text: &[u8],
+    edition: Edition,
+    tagged: u32,
+    nodes: &mut [u32],
+    rules: &mut [u32],
+    store: &mut [u8],
+    answer: &mut [u64; 5],
+)
+    ensures answered { λ _. ⌜ now (answer .exit) ≡ readNumbers (readReported edition (levelOf tagged) (now (text .entry)) (roomForNodes (now (nodes .entry))) (roomForRules (now (rules .entry))) (length (now (store .entry)))) ⌝ }
+    ensures left { λ _. ⌜ Leaves (levelOf tagged) (now (text .entry)) (readOf edition (levelOf tagged) (now (text .entry)) (roomForNodes (now (nodes .entry))) (roomForRules (now (rules .entry))) (length (now (store .entry)))) (now (nodes .entry)) (now (rules .entry)) (now (store .entry)) (now (nodes .exit)) (now (rules .exit)) (now (store .exit)) ⌝ }
+{
+    let level = numbers::inner::level_of(tagged);
+    let reading = reader::read(text, edition, level, nodes, rules, store);
+    *answer = numbers::inner::read_numbers(reading);
+}
+
+// The same, by the first edition.
 #[no_mangle]
 pub extern "C" fn flascjuvan_read(
     text: &[u8],
@@ -29,12 +50,28 @@ pub extern "C" fn flascjuvan_read(
     store: &mut [u8],
     answer: &mut [u64; 5],
 )
-    ensures answered { λ _. ⌜ now (answer .exit) ≡ readNumbers (readReported (levelOf tagged) (now (text .entry)) (roomForNodes (now (nodes .entry))) (roomForRules (now (rules .entry))) (length (now (store .entry)))) ⌝ }
-    ensures left { λ _. ⌜ Leaves (levelOf tagged) (now (text .entry)) (readOf (levelOf tagged) (now (text .entry)) (roomForNodes (now (nodes .entry))) (roomForRules (now (rules .entry))) (length (now (store .entry)))) (now (nodes .entry)) (now (rules .entry)) (now (store .entry)) (now (nodes .exit)) (now (rules .exit)) (now (store .exit)) ⌝ }
+    ensures answered { λ _. ⌜ now (answer .exit) ≡ readNumbers (readReported First (levelOf tagged) (now (text .entry)) (roomForNodes (now (nodes .entry))) (roomForRules (now (rules .entry))) (length (now (store .entry)))) ⌝ }
+    ensures left { λ _. ⌜ Leaves (levelOf tagged) (now (text .entry)) (readOf First (levelOf tagged) (now (text .entry)) (roomForNodes (now (nodes .entry))) (roomForRules (now (rules .entry))) (length (now (store .entry)))) (now (nodes .entry)) (now (rules .entry)) (now (store .entry)) (now (nodes .exit)) (now (rules .exit)) (now (store .exit)) ⌝ }
 {
-    let level = numbers::inner::level_of(tagged);
-    let reading = reader::read(text, level, nodes, rules, store);
-    *answer = numbers::inner::read_numbers(reading);
+    read_by(text, Edition::First, tagged, nodes, rules, store, answer);
+}
+
+// And by the edition that a number names: 0 and 1 are the first, every other is the second.
+#[no_mangle]
+pub extern "C" fn flascjuvan_read_edition(
+    text: &[u8],
+    tagged: u32,
+    edition: u32,
+    nodes: &mut [u32],
+    rules: &mut [u32],
+    store: &mut [u8],
+    answer: &mut [u64; 5],
+)
+    ensures answered { λ _. ⌜ now (answer .exit) ≡ readNumbers (readReported (editionOf edition) (levelOf tagged) (now (text .entry)) (roomForNodes (now (nodes .entry))) (roomForRules (now (rules .entry))) (length (now (store .entry)))) ⌝ }
+    ensures left { λ _. ⌜ Leaves (levelOf tagged) (now (text .entry)) (readOf (editionOf edition) (levelOf tagged) (now (text .entry)) (roomForNodes (now (nodes .entry))) (roomForRules (now (rules .entry))) (length (now (store .entry)))) (now (nodes .entry)) (now (rules .entry)) (now (store .entry)) (now (nodes .exit)) (now (rules .exit)) (now (store .exit)) ⌝ }
+{
+    let named = numbers::inner::edition_of(edition);
+    read_by(text, named, tagged, nodes, rules, store, answer);
 }
 
 // Prints tables in a style to the front of an output. The answer: number, place, bytes used.

@@ -3,6 +3,7 @@
 use forms::Style;
 use numbers::inner::printed_numbers;
 use numbers::inner::read_numbers;
+use structure::Edition;
 use structure::Level;
 ghost use Prim.Native.Nat.{_≤_};
 
@@ -16,6 +17,7 @@ fn part(wanted: usize, all: usize) -> usize
 // Number, place, and the nodes, rules and store bytes used, with so many numbers and bytes lent.
 pub fn read_within(
     text: &[u8],
+    edition: Edition,
     level: Level,
     n: usize,
     m: usize,
@@ -29,6 +31,7 @@ pub fn read_within(
     let c = part(k, store.len());
     let reading = reader::read(
         text,
+        edition,
         level,
         &mut nodes[..a],
         &mut rules[..b],

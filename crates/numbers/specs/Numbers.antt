@@ -1,10 +1,12 @@
--- The answers as the numbers that are put into a caller's array, in their order; the number that names a level; and a stream that a caller
+-- The answers as the numbers that are put into a caller's array, in their order; the numbers that name a level and an edition; and a stream that a caller
 -- keeps in an array.
 use Prim.Native.Nat.{ℕ}
 use mathlib.Core.List.{List, [], _∷_}
-use lib.Dec.{eqb}
+use lib.Dec.{ltb, eqb}
 use lib.ListN.{getD}
 use Rattle.text.specs.Booleans.{choose}
+use Rattle.structure.specs.declared.Edition.{Edition}
+use Rattle.structure.specs.declared.Edition.the-variants.{First, Second}
 use Rattle.structure.specs.declared.Level.{Level}
 use Rattle.structure.specs.declared.Level.the-variants.{Tagged, Plain}
 use Rattle.reader.specs.Read as Read
@@ -18,6 +20,10 @@ use Rattle.states.specs.declared.Call.{Call}
 -- 0 is plain, every other number is tagged
 unfoldable pub levelOf : ℕ → Level
 levelOf n = choose (eqb n 0) (λ u. Plain) (λ u. Tagged)
+
+-- 0 and 1 are the first edition, every other number is the second
+unfoldable pub editionOf : ℕ → Edition
+editionOf n = choose (ltb n 2) (λ u. First) (λ u. Second)
 
 -- number, place, nodes, rules, store bytes
 abbrev pub readNumbers : Read.Numbered → List ℕ

@@ -7,6 +7,7 @@ use replies::Row;
 use replies::Tally;
 use states::Call;
 use states::Feed;
+use structure::Edition;
 use structure::Level;
 use token::Listed;
 ghost use mathlib.Core.Path.{_≡_};
@@ -14,7 +15,7 @@ ghost use Rattle.token.specs.Lister.{numbersOf};
 ghost use Rattle.printer.specs.Answers.{numbered as printNumbered};
 ghost use Rattle.reader.specs.Read.{numbered as readNumbered};
 ghost use Rattle.matcher.specs.Lines.{fields};
-ghost use Rattle.numbers.specs.Numbers.{levelOf, readNumbers, printNumbers, tokenNumbers, tallyNumbers, findingNumbers, callNumbers, feedNumbers, feedFrom};
+ghost use Rattle.numbers.specs.Numbers.{levelOf, editionOf, readNumbers, printNumbers, tokenNumbers, tallyNumbers, findingNumbers, callNumbers, feedNumbers, feedFrom};
 
 // The level that a number names: 0 is plain, every other is tagged.
 pub fn level_of(tagged: u32) -> Level
@@ -24,6 +25,17 @@ pub fn level_of(tagged: u32) -> Level
         Level::Plain
     } else {
         Level::Tagged
+    }
+}
+
+// The edition that a number names: 0 and 1 are the first, every other is the second.
+pub fn edition_of(edition: u32) -> Edition
+    ensures { λ r. ⌜ r ≡ editionOf edition ⌝ }
+{
+    if edition < 2 {
+        Edition::First
+    } else {
+        Edition::Second
     }
 }
 

@@ -15,6 +15,7 @@ use Rattle.table.specs.Check.{tables}
 use Rattle.table.specs.declared.TableCheck.{TableCheck}
 use Rattle.table.specs.declared.TableCheck.the-variants as Table
 use Rattle.forms.specs.declared.Style.{Style}
+use Rattle.structure.specs.declared.Edition.{Edition}
 use Rattle.structure.specs.declared.Level.{Level}
 use Rattle.printer.specs.declared.Printed.{Printed}
 use Rattle.printer.specs.declared.Printed.the-variants as Printed
@@ -73,28 +74,28 @@ unfolding leftIn newIn
 back-left k (Reading.Read n r b) x o = refl
 back-left k (Reading.Refused f) x o = refl
 
-module _ (style : Style) (level : Level) (ns rs st o ns₀ rs₀ st₀ : List ℕ) {printed : Printed} {o′ : List ℕ} (e : printed ≡ printOf style ns rs st (length o)) (h : o′ ≡ printIn style ns rs st o printed) where
-  answered : {p : Printed} {a : Passed} {r : Reading} → printed ≡ p → a ≡ passBy p r → r ≡ readOf level (tableText style ns rs st) (roomForNodes ns₀) (roomForRules rs₀) (length st₀)
-      → a ≡ passOf style level ns rs st (length o) (roomForNodes ns₀) (roomForRules rs₀) (length st₀)
+module _ (style : Style) (edition : Edition) (level : Level) (ns rs st o ns₀ rs₀ st₀ : List ℕ) {printed : Printed} {o′ : List ℕ} (e : printed ≡ printOf style ns rs st (length o)) (h : o′ ≡ printIn style ns rs st o printed) where
+  answered : {p : Printed} {a : Passed} {r : Reading} → printed ≡ p → a ≡ passBy p r → r ≡ readOf edition level (tableText style ns rs st) (roomForNodes ns₀) (roomForRules rs₀) (length st₀)
+      → a ≡ passOf style edition level ns rs st (length o) (roomForNodes ns₀) (roomForRules rs₀) (length st₀)
   unfolding passOf
   answered {p} {a} {r} u v w = v ∙ ap (λ x. passBy x r) (sym u ∙ e) ∙ ap (passBy (printOf style ns rs st (length o))) w
 
   -- nothing was printed
-  pub unprinted : (p : Printed) (a : Passed) → printed ≡ p → ((r : Reading) → a ≡ passBy p r) → ((x y : List ℕ) → y ≡ newIn a x y) → Passes style level ns rs st o ns₀ rs₀ st₀ a o′ ns₀ rs₀ st₀
+  pub unprinted : (p : Printed) (a : Passed) → printed ≡ p → ((r : Reading) → a ≡ passBy p r) → ((x y : List ℕ) → y ≡ newIn a x y) → Passes style edition level ns rs st o ns₀ rs₀ st₀ a o′ ns₀ rs₀ st₀
   unfolding reported
   unprinted p a u v w =
-      let f = answered u (v (readOf level (tableText style ns rs st) (roomForNodes ns₀) (roomForRules rs₀) (length st₀))) refl in
+      let f = answered u (v (readOf edition level (tableText style ns rs st) (roomForNodes ns₀) (roomForRules rs₀) (length st₀))) refl in
       record { answer = f; report = ap numbered f; text = text-left style ns rs st o e h; nodes = w _ ns₀; rules = w _ rs₀; store = w _ st₀ }
 
   -- the text was read, or refused
-  pub passed : {k : ℕ} {r : Reading} (q : Reading) {ns′ rs′ st′ : List ℕ} → printed ≡ Printed.Used k → r ≡ readOf level (take k o′) (roomForNodes ns₀) (roomForRules rs₀) (length st₀)
+  pub passed : {k : ℕ} {r : Reading} (q : Reading) {ns′ rs′ st′ : List ℕ} → printed ≡ Printed.Used k → r ≡ readOf edition level (take k o′) (roomForNodes ns₀) (roomForRules rs₀) (length st₀)
       → ns′ ≡ leftIn r (nodesOf (lineIn (take k o′)) (rulesRead level (take k o′))) ns₀ → rs′ ≡ leftIn r (recordsOf (rulesRead level (take k o′))) rs₀ → st′ ≡ leftIn r (rulesStored (rulesRead level (take k o′))) st₀
-      → r ≡ q → Passes style level ns rs st o ns₀ rs₀ st₀ (backBy k q) o′ ns′ rs′ st′
+      → r ≡ q → Passes style edition level ns rs st o ns₀ rs₀ st₀ (backBy k q) o′ ns′ rs′ st′
   unfolding reported
   passed {k} {r} q u f n m b w =
       let t = front-text style ns rs st o e h u in
-      let g : backBy k q ≡ passOf style level ns rs st (length o) (roomForNodes ns₀) (roomForRules rs₀) (length st₀) =
-      answered u (ap (backBy k) (sym w)) (f ∙ ap (λ x. readOf level x (roomForNodes ns₀) (roomForRules rs₀) (length st₀)) t) in
+      let g : backBy k q ≡ passOf style edition level ns rs st (length o) (roomForNodes ns₀) (roomForRules rs₀) (length st₀) =
+      answered u (ap (backBy k) (sym w)) (f ∙ ap (λ x. readOf edition level x (roomForNodes ns₀) (roomForRules rs₀) (length st₀)) t) in
       record {
         answer = g;
         report = ap numbered g;

@@ -9,6 +9,7 @@ use Rattle.table.specs.Tree.{Rule, Nowhere, asideRule, counts, rulesStored, Sam
 use Rattle.table.specs.Record.{rulesOf}
 use Rattle.table.specs.Flat.{nodesOf, recordsOf}
 use Rattle.forms.specs.declared.Style.{Style}
+use Rattle.structure.specs.declared.Edition.{Edition}
 use Rattle.structure.specs.declared.Level.{Level}
 use Rattle.structure.specs.declared.Level.the-variants.{Tagged, Plain}
 use Rattle.structure.specs.declared.Why.the-variants.{NotPlain}
@@ -25,7 +26,7 @@ use Rattle.reader.specs.Lines.{lineIn}
 use Rattle.build.specs.Rules.{rulesRead}
 use Rattle.promises.specs.Pieces.{rulesPieces, firstPushLiteral}
 use Rattle.promises.specs.Styled.{markedRules}
-use Rattle.promises.specs.Round.{holdsPushLiteral, seen, rulesLeft, Printable, ReadAs}
+use Rattle.promises.specs.Round.{Ordered, holdsPushLiteral, seen, rulesLeft, Printable, ReadAs}
 use Rattle.pass.specs.declared.Passed.{Passed}
 use Rattle.pass.specs.declared.Passed.the-variants as Passed
 
@@ -43,8 +44,8 @@ passBy (Printed.Rule i) a = Passed.Rule i
 passBy Printed.NoRoom a = Passed.NoRoom
 
 -- the answer for a text of at most m bytes and room for n nodes, r rules and b store bytes
-unfoldable pub passOf : Style → Level → List ℕ → List ℕ → List ℕ → ℕ → ℕ → ℕ → ℕ → Passed
-passOf style level ns rs st m n r b = passBy (printOf style ns rs st m) (readOf level (tableText style ns rs st) n r b)
+unfoldable pub passOf : Style → Edition → Level → List ℕ → List ℕ → List ℕ → ℕ → ℕ → ℕ → ℕ → Passed
+passOf style edition level ns rs st m n r b = passBy (printOf style ns rs st m) (readOf edition level (tableText style ns rs st) n r b)
 
 -- what it leaves where the text goes: what the printer leaves there, so the printed text even where the reader refuses it
 unfoldable pub textIn : Style → List ℕ → List ℕ → List ℕ → List ℕ → List ℕ
@@ -84,13 +85,13 @@ numbered (Passed.Rule i) = ofPrinter (Printer.numbered (Printed.Rule i))
 numbered Passed.NoRoom = ofPrinter (Printer.numbered Printed.NoRoom)
 
 -- what is to be answered, in those numbers
-unfoldable pub reported : Style → Level → List ℕ → List ℕ → List ℕ → ℕ → ℕ → ℕ → ℕ → Numbered
-reported style level ns rs st m n r b = numbered (passOf style level ns rs st m n r b)
+unfoldable pub reported : Style → Edition → Level → List ℕ → List ℕ → List ℕ → ℕ → ℕ → ℕ → ℕ → Numbered
+reported style edition level ns rs st m n r b = numbered (passOf style edition level ns rs st m n r b)
 
 -- what `pass` promises of its answer, of where the text goes, and of the new tables
-pub record Passes (style : Style) (level : Level) (ns rs st o ns₀ rs₀ st₀ : List ℕ) (a : Passed) (o′ ns′ rs′ st′ : List ℕ) : Type 0 where
-  pub answer : a ≡ passOf style level ns rs st (length o) (roomForNodes ns₀) (roomForRules rs₀) (length st₀)
-  pub report : numbered a ≡ reported style level ns rs st (length o) (roomForNodes ns₀) (roomForRules rs₀) (length st₀)
+pub record Passes (style : Style) (edition : Edition) (level : Level) (ns rs st o ns₀ rs₀ st₀ : List ℕ) (a : Passed) (o′ ns′ rs′ st′ : List ℕ) : Type 0 where
+  pub answer : a ≡ passOf style edition level ns rs st (length o) (roomForNodes ns₀) (roomForRules rs₀) (length st₀)
+  pub report : numbered a ≡ reported style edition level ns rs st (length o) (roomForNodes ns₀) (roomForRules rs₀) (length st₀)
   pub text : o′ ≡ textIn style ns rs st o
   pub nodes : ns′ ≡ newIn a (nodesOf (lineIn (tableText style ns rs st)) (rulesRead level (tableText style ns rs st))) ns₀
   pub rules : rs′ ≡ newIn a (recordsOf (rulesRead level (tableText style ns rs st))) rs₀
@@ -117,13 +118,13 @@ roomIn us ns rs st = roomBy (length us) (counts us) (length (rulesStored us)) (r
 
 -- what comes back of tables. Unless the level bars them: their text is read as those rules; the answer is that of those rules, whatever room
 -- there is; and where they are read, the used parts of the new tables stand for them. Else the first PUSH_LITERAL is refused
-pub record Back (style : Style) (level : Level) (ns rs st ns₀ rs₀ st₀ : List ℕ) (a : Passed) (ns′ rs′ st′ : List ℕ) : Type 0 where
-  pub text : barred level (rulesOf ns rs st) ≡ false → ReadAs level (tableText style ns rs st) (rulesBack style level ns rs st)
+pub record Back (style : Style) (edition : Edition) (level : Level) (ns rs st ns₀ rs₀ st₀ : List ℕ) (a : Passed) (ns′ rs′ st′ : List ℕ) : Type 0 where
+  pub text : barred level (rulesOf ns rs st) ≡ false → ReadAs edition level (tableText style ns rs st) (rulesBack style level ns rs st)
   pub answer : barred level (rulesOf ns rs st) ≡ false → a ≡ backBy (length (tableText style ns rs st)) (roomIn (rulesBack style level ns rs st) ns₀ rs₀ st₀)
   pub tables : barred level (rulesOf ns rs st) ≡ false → (k n r b : ℕ) → a ≡ Passed.Read k n r b → Same (rulesLeft n r b ns′ rs′ st′) (rulesBack style level ns rs st)
   pub refused : barred level (rulesOf ns rs st) ≡ true → a ≡ Passed.Unread (length (tableText style ns rs st)) (because NotPlain (pushesAt style ns rs st))
 
--- demand 3 of a call: so it is for printable tables whose text has room
-abbrev pub Demand : Style → Level → (ns rs st o ns₀ rs₀ st₀ : List ℕ) → Passed → (ns′ rs′ st′ : List ℕ) → Type 0
-Demand style level ns rs st o ns₀ rs₀ st₀ a ns′ rs′ st′ =
-    Printable style ns rs st → length (tableText style ns rs st) ≤ length o → Back style level ns rs st ns₀ rs₀ st₀ a ns′ rs′ st′
+-- demand 3 of a call: so it is for printable tables whose text has room, and that have no minimum above its maximum where the edition asks it
+abbrev pub Demand : Style → Edition → Level → (ns rs st o ns₀ rs₀ st₀ : List ℕ) → Passed → (ns′ rs′ st′ : List ℕ) → Type 0
+Demand style edition level ns rs st o ns₀ rs₀ st₀ a ns′ rs′ st′ =
+    Printable style ns rs st → Ordered edition (rulesOf ns rs st) → length (tableText style ns rs st) ≤ length o → Back style edition level ns rs st ns₀ rs₀ st₀ a ns′ rs′ st′

@@ -6,6 +6,7 @@
 use forms::Style;
 use printer::Printed;
 use reader::Reading;
+use structure::Edition;
 use structure::Level;
 use structure::Refusal;
 ghost use Rattle.pass.specs.Pass.{Passes, Demand};
@@ -24,6 +25,7 @@ pub enum Passed {
 // Prints tables to the front of `text`, and reads that text into the new tables.
 pub fn pass(
     style: Style,
+    edition: Edition,
     level: Level,
     nodes: &[u32],
     rules: &[u32],
@@ -33,13 +35,13 @@ pub fn pass(
     new_rules: &mut [u32],
     new_store: &mut [u8],
 ) -> Passed
-    ensures passes { λ r. ⌜ Passes style level (now (nodes .entry)) (now (rules .entry)) (now (store .entry)) (now (text .entry)) (now («new_nodes» .entry)) (now («new_rules» .entry)) (now («new_store» .entry)) r (now (text .exit)) (now («new_nodes» .exit)) (now («new_rules» .exit)) (now («new_store» .exit)) ⌝ }
-    ensures demand { λ r. ⌜ Demand style level (now (nodes .entry)) (now (rules .entry)) (now (store .entry)) (now (text .entry)) (now («new_nodes» .entry)) (now («new_rules» .entry)) (now («new_store» .entry)) r (now («new_nodes» .exit)) (now («new_rules» .exit)) (now («new_store» .exit)) ⌝ }
+    ensures passes { λ r. ⌜ Passes style edition level (now (nodes .entry)) (now (rules .entry)) (now (store .entry)) (now (text .entry)) (now («new_nodes» .entry)) (now («new_rules» .entry)) (now («new_store» .entry)) r (now (text .exit)) (now («new_nodes» .exit)) (now («new_rules» .exit)) (now («new_store» .exit)) ⌝ }
+    ensures demand { λ r. ⌜ Demand style edition level (now (nodes .entry)) (now (rules .entry)) (now (store .entry)) (now (text .entry)) (now («new_nodes» .entry)) (now («new_rules» .entry)) (now («new_store» .entry)) r (now («new_nodes» .exit)) (now («new_rules» .exit)) (now («new_store» .exit)) ⌝ }
 {
     let printed = printer::print(style, nodes, rules, store, text);
     match printed {
         Printed::Used(n) => {
-            let reading = reader::read(&text[..n], level, new_nodes, new_rules, new_store);
+            let reading = reader::read(&text[..n], edition, level, new_nodes, new_rules, new_store);
             match reading {
                 Reading::Read(x, y, z) => Passed::Read(n, x, y, z),
                 Reading::Refused(refusal) => Passed::Unread(n, refusal),

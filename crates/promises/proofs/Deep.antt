@@ -25,6 +25,7 @@ use Rattle.forms.specs.declared.Style.{Style}
 use Rattle.forms.specs.Printing.{printedRules}
 use Rattle.printer.specs.Bounds.{Narrow}
 use Rattle.printer.specs.Answers.{tableText}
+use Rattle.structure.specs.declared.Edition.{Edition}
 use Rattle.structure.specs.declared.Level.{Level}
 use Rattle.structure.specs.declared.Fault.{Fault}
 use Rattle.structure.specs.declared.Fault.the-variants as Fault
@@ -55,16 +56,17 @@ abbrev NotDeep : Reading → Type 0
 NotDeep (Reading.Read n r b) = Unit {0}
 NotDeep (Reading.Refused r) = r .why ≡ TooDeep → ⊥
 
-by-values : (w : Why) → OfValues w → w ≡ TooDeep → ⊥
-by-values w (inl a) q = let z : _≡_ {A = ℕ} 0 1 = cc in omega arith
-by-values w (inr (inl a)) q = let z : _≡_ {A = ℕ} 0 1 = cc in omega arith
-by-values w (inr (inr (inl a))) q = let z : _≡_ {A = ℕ} 0 1 = cc in omega arith
-by-values w (inr (inr (inr (inl a)))) q = let z : _≡_ {A = ℕ} 0 1 = cc in omega arith
-by-values w (inr (inr (inr (inr a)))) q = let z : _≡_ {A = ℕ} 0 1 = cc in omega arith
+by-values : (edition : Edition) (w : Why) → OfValues edition w → w ≡ TooDeep → ⊥
+by-values edition w (inl a) q = let z : _≡_ {A = ℕ} 0 1 = cc in omega arith
+by-values edition w (inr (inl a)) q = let z : _≡_ {A = ℕ} 0 1 = cc in omega arith
+by-values edition w (inr (inr (inl a))) q = let z : _≡_ {A = ℕ} 0 1 = cc in omega arith
+by-values edition w (inr (inr (inr (inl a)))) q = let z : _≡_ {A = ℕ} 0 1 = cc in omega arith
+by-values edition w (inr (inr (inr (inr (inl a))))) q = let z : _≡_ {A = ℕ} 0 1 = cc in omega arith
+by-values edition w (inr (inr (inr (inr (inr (o, a)))))) q = let z : _≡_ {A = ℕ} 0 1 = cc in omega arith
 
-by-fault : (f : Fault) (g : Unit {0} → Reading) → ((r : Refusal) → f ≡ Fault.At r → OfValues (r .why)) → NotDeep (g tt) → NotDeep (faulty f g)
-by-fault Fault.Sound g h x = x
-by-fault (Fault.At r) g h x = by-values (r .why) (h r refl)
+by-fault : (edition : Edition) (f : Fault) (g : Unit {0} → Reading) → ((r : Refusal) → f ≡ Fault.At r → OfValues edition (r .why)) → NotDeep (g tt) → NotDeep (faulty f g)
+by-fault edition Fault.Sound g h x = x
+by-fault edition (Fault.At r) g h x = by-values edition (r .why) (h r refl)
 
 by-room : (k c z n r b : ℕ) → NotDeep (roomBy k c z n r b)
 unfolding roomBy
@@ -74,27 +76,27 @@ by-room k c z n r b =
     (λ e. choose-by NotDeep (leb z b) _ _ (λ e. tt) (λ e q. let z : _≡_ {A = ℕ} 0 1 = cc in omega arith)) (λ e q. let z : _≡_ {A = ℕ} 0 1 = cc in omega arith))
     (λ e q. let z : _≡_ {A = ℕ} 0 1 = cc in omega arith)
 
-module _ (level : Level) (s : List ℕ) (n r b : ℕ) where
-  judged-rules : (us : List (Rule Span)) → grammar level s ≡ rules us → NotDeep (judgedOf level s n r b)
+module _ (edition : Edition) (level : Level) (s : List ℕ) (n r b : ℕ) where
+  judged-rules : (us : List (Rule Span)) → grammar level s ≡ rules us → NotDeep (judgedOf edition level s n r b)
   unfolding judgedOf
-  judged-rules us e = rw e (by-fault (faults level s) _ (faults-why level s) (by-room _ _ _ n r b))
+  judged-rules us e = rw e (by-fault edition (faults edition level s) _ (faults-why edition level s) (by-room _ _ _ n r b))
 
-  judged-unruled : (x : Refusal) → grammar level s ≡ unruled x → judgedOf level s n r b ≡ Reading.Refused x
+  judged-unruled : (x : Refusal) → grammar level s ≡ unruled x → judgedOf edition level s n r b ≡ Reading.Refused x
   unfolding judgedOf
   judged-unruled x e = rw e
 
   -- a text of legal length whose bytes and tokens are good
-  past-tokens : length s ≤ maxText → firstBad s ≡ Through → tokensOf s .fault ≡ Through → readOf level s n r b ≡ judgedOf level s n r b
+  past-tokens : length s ≤ maxText → firstBad s ≡ Through → tokensOf s .fault ≡ Through → readOf edition level s n r b ≡ judgedOf edition level s n r b
   unfolding readOf listedOf
   past-tokens h e₁ e₂ = rw (le-leb (length s) maxText h, e₁, e₂)
 
 -- ---- printed rules
 
-module _ {P : Type 0} (v : Style) (us : List (Rule P)) (f : fineRules us ≡ true) (c : countedRules us ≡ true) (e : 1 ≤ length us) (l : length (printedRules v us) ≤ maxText) (level : Level) where
-  printed-judged : (n r b : ℕ) → readOf level (printedRules v us) n r b ≡ judgedOf level (printedRules v us) n r b
-  printed-judged n r b = past-tokens level (printedRules v us) n r b l (rules-utf8 v us f) (printed-lexed v us f c)
+module _ {P : Type 0} (v : Style) (us : List (Rule P)) (f : fineRules us ≡ true) (c : countedRules us ≡ true) (e : 1 ≤ length us) (l : length (printedRules v us) ≤ maxText) (edition : Edition) (level : Level) where
+  printed-judged : (n r b : ℕ) → readOf edition level (printedRules v us) n r b ≡ judgedOf edition level (printedRules v us) n r b
+  printed-judged n r b = past-tokens edition level (printedRules v us) n r b l (rules-utf8 v us f) (printed-lexed v us f c)
 
-  printed-limited : Limited level (printedRules v us)
+  printed-limited : Limited edition level (printedRules v us)
   printed-limited =
       let s = printedRules v us in
       let ms = markedRules v us in
@@ -106,12 +108,12 @@ module _ {P : Type 0} (v : Style) (us : List (Rule P)) (f : fineRules us ≡ tru
       record {
         deep = λ h n r b.
             let d = grammar-deep level s ms (length (toks s)) fit fine counted (omega arith) stand refl in
-            (d .at, d .first, printed-judged n r b ∙ judged-unruled level s n r b _ (d .refuses));
+            (d .at, d .first, printed-judged n r b ∙ judged-unruled edition level s n r b _ (d .refuses));
         only = λ n r b p q.
             let read : mostOpen s ≤ maxOpen → ⊥ =
             λ h.
             let g = reads level s ms (length (toks s)) fit fine counted (omega arith) (omega (arith, length-map us (markedRule v))) stand refl in
-            (rw (sym (printed-judged n r b) ∙ q) at (judged-rules level s n r b (g .found) (g .goes))) refl in
+            (rw (sym (printed-judged n r b) ∙ q) at (judged-rules edition level s n r b (g .found) (g .goes))) refl in
             omega (arith, read);
       }
 
@@ -130,6 +132,6 @@ module _ (v : Style) (ns rs st : List ℕ) (g : tables ns rs st ≡ Table.Good) 
   table-most = printed-deep v (rulesOf ns rs st) (valid-fine valid) is-counted
 
   -- the reader answers 9 exactly if these are above the limit
-  pub deep-exactly : 1 ≤ rulesIn rs → length (tableText v ns rs st) ≤ maxText → (level : Level) → Limited level (tableText v ns rs st)
+  pub deep-exactly : 1 ≤ rulesIn rs → length (tableText v ns rs st) ≤ maxText → (edition : Edition) (level : Level) → Limited edition level (tableText v ns rs st)
   unfolding tableText
-  deep-exactly e l level = let m = rules-many ns rs st in printed-limited v (rulesOf ns rs st) (valid-fine valid) is-counted (omega arith) l level
+  deep-exactly e l edition level = let m = rules-many ns rs st in printed-limited v (rulesOf ns rs st) (valid-fine valid) is-counted (omega arith) l edition level

@@ -8,6 +8,7 @@ pub mod Tokens
 pub mod Laid
 pub mod Lays
 pub mod Pushes
+pub mod Aboves
 -- from those tokens to the rules
 pub mod Leaves
 pub mod Shapes
@@ -48,4 +49,5 @@ pub mod Programs
 pub mod Witness
 pub mod Twelve
 pub mod Wrong
+pub mod Editions
 pub mod Matches

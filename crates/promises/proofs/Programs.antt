@@ -4,6 +4,7 @@ use mathlib.Core.Path.{_≡_, refl, ap, _∙_}
 use mathlib.Core.List.{List, []}
 use contract.Lifetimes.{Lfts}
 use denote.Ref.{RefT}
+use Rattle.structure.specs.declared.Edition.{Edition}
 use Rattle.structure.specs.declared.Level.{Level}
 use Rattle.forms.specs.declared.Style.{Style}
 use Rattle.reader.specs.declared.Reading.{Reading}
@@ -18,7 +19,7 @@ use Rattle.promises.specs.Programs.{Tables, tablesOf, Program, Lent, Mee
 pub defined-meets : Meets defined
 unfolding reported
 defined-meets = record {
-  reads = λ level text lent κs. (refl, (refl, (refl, (refl, refl))));
+  reads = λ edition level text lent κs. (refl, (refl, (refl, (refl, refl))));
   prints = λ style lent out κs. (refl, (print-reported style _ _ _ _, refl));
 }
 
@@ -33,9 +34,9 @@ abbrev lifetimes : Lfts 4
 lifetimes = ([], ([], ([], ([], tt))))
 
 module _ (p : Program) (m : Meets p) where
-  pub read-as : (level : Level) (s : List ℕ) (t : Tables) → p .read level s t ≡ defined .read level s t
-  read-as level s t =
-      let h = m .reads level (lend s) (lendAll t) lifetimes in
+  pub read-as : (edition : Edition) (level : Level) (s : List ℕ) (t : Tables) → p .read edition level s t ≡ defined .read edition level s t
+  read-as edition level s t =
+      let h = m .reads edition level (lend s) (lendAll t) lifetimes in
       let us = tablesOf (lineIn s) (rulesRead level s) in
       let e = h .0 in
       let n = h .1 .1 .0 ∙ ap (λ (r : Reading). leftIn r (us .nodes) (t .nodes)) e in

@@ -16,6 +16,7 @@ use Rattle.table.specs.Record.{nodeSize, ruleSize, rulesOf}
 use Rattle.table.specs.Flat.{nodesOf, recordsOf}
 use Rattle.table.proofs.Rules.{length-nodes, length-records, flat-back}
 use Rattle.table.proofs.Regroups.{items-aside, rules-counts, rules-store}
+use Rattle.structure.specs.declared.Edition.{Edition}
 use Rattle.structure.specs.declared.Level.{Level}
 use Rattle.structure.specs.declared.Refusal.{Refusal}
 use Rattle.structure.specs.declared.Why.the-variants.{NotPlain}
@@ -35,13 +36,13 @@ front-used : (x o o′ : List ℕ) (k : ℕ) → o′ ≡ fronted x o → k ≡ 
 unfolding fronted
 front-used x o o′ k e h = ap (take k) e ∙ take-at x (drop (length x) o) k (sym h)
 
-module _ (level : Level) (s : List ℕ) (n r b : ℕ) {x y z : ℕ} (e : readOf level s n r b ≡ Reading.Read x y z) where
+module _ (edition : Edition) (level : Level) (s : List ℕ) (n r b : ℕ) {x y z : ℕ} (e : readOf edition level s n r b ≡ Reading.Read x y z) where
   -- the used parts of the buffers that a reading leaves stand for exactly the rules read
   pub rules-left : {ns rs st ns′ rs′ st′ : List ℕ} → Leaves level s (Reading.Read x y z) ns rs st ns′ rs′ st′ → rulesLeft x y z ns′ rs′ st′ ≡ rulesRead level s
   unfolding leftIn
   rules-left {ns} {rs} {st} {ns′} {rs′} {st′} l =
       let us = rulesRead level s in
-      let c = read-counts level s n r b e in
+      let c = read-counts edition level s n r b e in
       let a = front-used (nodesOf (lineIn s) us) ns ns′ (nodeSize * x) (l .nodes) (omega (arith, c .nodes-are, length-nodes (lineIn s) 0 0 us)) in
       let d = front-used (recordsOf us) rs rs′ (ruleSize * y) (l .rules) (omega (arith, c .rules-are, length-records 0 0 us)) in
       let f = front-used (rulesStored us) st st′ z (l .store) (c .store-is) in
@@ -76,7 +77,7 @@ module _ {P Q : Type 0} (us : List (Rule P)) (ws : List (Rule Q)) (e : Same us w
   same-room n r b = rw (same-length, same-counts, same-store)
 
   -- a text that is read as rules is read as all that are the same
-  pub read-same : {level : Level} {s : List ℕ} → ReadAs level s us → ReadAs level s ws
+  pub read-same : {edition : Edition} {level : Level} {s : List ℕ} → ReadAs edition level s us → ReadAs edition level s ws
   read-same h = record {
     rules = h .rules ∙ e;
     answer = λ n r b. h .answer n r b ∙ same-room n r b;
@@ -100,17 +101,17 @@ by-room k c z n r b =
     (λ e. choose-by Roomed (leb c n) _ _ (λ f. choose-by Roomed (leb z b) _ _ (λ g. tt) (λ g. inr (inr refl))) (λ f. inr (inl refl)))
     (λ e. inl refl)
 
-module _ {P : Type 0} {level : Level} {s : List ℕ} {us : List (Rule P)} (h : ReadAs level s us) (n r b : ℕ) where
+module _ {P : Type 0} {edition : Edition} {level : Level} {s : List ℕ} {us : List (Rule P)} (h : ReadAs edition level s us) (n r b : ℕ) where
   -- with enough room it is read, and has its own counts
-  pub room-enough : counts us ≤ n → length us ≤ r → length (rulesStored us) ≤ b → readOf level s n r b ≡ Reading.Read (counts us) (length us) (length (rulesStored us))
+  pub room-enough : counts us ≤ n → length us ≤ r → length (rulesStored us) ≤ b → readOf edition level s n r b ≡ Reading.Read (counts us) (length us) (length (rulesStored us))
   unfolding roomBy
   room-enough x y z = h .answer n r b ∙ rw (le-leb (length us) r y, le-leb (counts us) n x, le-leb (length (rulesStored us)) b z)
 
   -- with too little it is refused by 12, 10 or 11 and by nothing else
-  pub only-room : (x : Refusal) → readOf level s n r b ≡ Reading.Refused x → OfRoom (x .why)
+  pub only-room : (x : Refusal) → readOf edition level s n r b ≡ Reading.Refused x → OfRoom (x .why)
   only-room x e = rw (sym (h .answer n r b) ∙ e) at (by-room (length us) (counts us) (length (rulesStored us)) n r b)
 
-  pub never-13 : (x : Refusal) → readOf level s n r b ≡ Reading.Refused x → x .why ≡ NotPlain → ⊥
+  pub never-13 : (x : Refusal) → readOf edition level s n r b ≡ Reading.Refused x → x .why ≡ NotPlain → ⊥
   never-13 x e w = ⊎-elim
       (λ u. let z : _≡_ {A = ℕ} 0 1 = cc in omega arith)
       (⊎-elim (λ u. let z : _≡_ {A = ℕ} 0 1 = cc in omega arith) (λ u. let z : _≡_ {A = ℕ} 0 1 = cc in omega arith))

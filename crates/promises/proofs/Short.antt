@@ -14,6 +14,7 @@ use Rattle.table.specs.Check.{fineRules}
 use Rattle.forms.specs.declared.Style.the-variants.{Full, Short}
 use Rattle.printer.specs.Answers.{tableText}
 use Rattle.printer.specs.Bounds.{Narrow}
+use Rattle.structure.specs.declared.Edition.{Edition}
 use Rattle.structure.specs.declared.Level.{Level}
 use Rattle.structure.specs.declared.Level.the-variants.{Tagged, Plain}
 use Rattle.build.specs.Rules.{rulesRead}
@@ -24,7 +25,7 @@ use Rattle.promises.specs.Pairs.{Pair, cut}
 use Rattle.promises.specs.Styled.{markedRules}
 use Rattle.promises.specs.Open.{mostOpen}
 use Rattle.structure.specs.Counts.{countedRules}
-use Rattle.promises.specs.Round.{holdsPushLiteral, seen, Printable, ReadAs, readRules, printedText}
+use Rattle.promises.specs.Round.{Ordered, holdsPushLiteral, seen, Printable, ReadAs, readRules, printedText}
 use Rattle.promises.specs.Fewest.{opensTo, opensIn, needs}
 use Rattle.promises.proofs.Laid.{tokened}
 use Rattle.promises.proofs.Lays.{held-rules}
@@ -71,12 +72,12 @@ module _ (ns rs st : List ℕ) (w : Narrow ns) (p : Printable Short ns rs st) wh
   marks-counted = marked-rules-counted Short ones ∙ is-counted Short ns rs st w p
 
   -- the tagged reader returns the very same rules, spans aside
-  pub short-tagged : ReadAs Tagged (tableText Short ns rs st) (Record.rulesOf ns rs st)
-  short-tagged = read-same (seen Short Tagged ones) (Record.rulesOf ns rs st) (asides-nowhere (seen Short Tagged ones) ∙ same-rules ones) (tagged Short ns rs st w p)
+  pub short-tagged : (edition : Edition) → Ordered edition (Record.rulesOf ns rs st) → ReadAs edition Tagged (tableText Short ns rs st) (Record.rulesOf ns rs st)
+  short-tagged edition o = read-same (seen Short Tagged ones) (Record.rulesOf ns rs st) (asides-nowhere (seen Short Tagged ones) ∙ same-rules ones) (tagged Short ns rs st w p edition o)
 
   -- the plain reader returns them with every tag removed
-  pub short-plain : holdsPushLiteral (Record.rulesOf ns rs st) ≡ false → ReadAs Plain (tableText Short ns rs st) (untaggedRules ones)
-  short-plain h = plain Short ns rs st w p h
+  pub short-plain : (edition : Edition) → Ordered edition (Record.rulesOf ns rs st) → holdsPushLiteral (Record.rulesOf ns rs st) ≡ false → ReadAs edition Plain (tableText Short ns rs st) (untaggedRules ones)
+  short-plain edition o h = plain Short ns rs st w p edition o h
 
   -- its pieces
   short-pieces : spelled (rulesPieces marks) ≡ tableText Short ns rs st
@@ -108,16 +109,16 @@ module _ (ns rs st : List ℕ) (w : Narrow ns) (p : Printable Short ns rs st) wh
 
 -- ---- demand 3 as it was, of the full text
 
-module _ (ns rs st : List ℕ) (w : Narrow ns) (p : Printable Full ns rs st) where
-  pub full-tagged : ReadAs Tagged (tableText Full ns rs st) (regroupRules (printedOnes Full ns rs st w p))
-  full-tagged = tagged Full ns rs st w p
+module _ (ns rs st : List ℕ) (w : Narrow ns) (p : Printable Full ns rs st) (edition : Edition) (o : Ordered edition (Record.rulesOf ns rs st)) where
+  pub full-tagged : ReadAs edition Tagged (tableText Full ns rs st) (regroupRules (printedOnes Full ns rs st w p))
+  full-tagged = tagged Full ns rs st w p edition o
 
-  pub full-plain : holdsPushLiteral (Record.rulesOf ns rs st) ≡ false → ReadAs Plain (tableText Full ns rs st) (untaggedRules (regroupRules (printedOnes Full ns rs st w p)))
-  full-plain h = rw (plain-twice (printedOnes Full ns rs st w p)) at (plain Full ns rs st w p h)
+  pub full-plain : holdsPushLiteral (Record.rulesOf ns rs st) ≡ false → ReadAs edition Plain (tableText Full ns rs st) (untaggedRules (regroupRules (printedOnes Full ns rs st w p)))
+  full-plain h = rw (plain-twice (printedOnes Full ns rs st w p)) at (plain Full ns rs st w p edition o h)
 
 -- ---- a text that was read
 
 -- at either level: the tagged reader reads its short text as the very same rules
-pub short-again : (level : Level) (s : List ℕ) (n r b : ℕ) {x y z : ℕ} → readOf level s n r b ≡ Reading.Read x y z → n ≤ maxNodes → r ≤ maxRules → 1 ≤ y
-    → length (printedText Short level s) ≤ maxText → mostOpen (printedText Short level s) ≤ maxOpen → ReadAs Tagged (printedText Short level s) (readRules level s)
-short-again level s n r b e h l some short shallow = rw (same-rules (readRules level s)) at (again-tagged level s n r b e h l Short some short shallow)
+pub short-again : (edition : Edition) (level : Level) (s : List ℕ) (n r b : ℕ) {x y z : ℕ} → readOf edition level s n r b ≡ Reading.Read x y z → n ≤ maxNodes → r ≤ maxRules → 1 ≤ y
+    → length (printedText Short level s) ≤ maxText → mostOpen (printedText Short level s) ≤ maxOpen → (o : Edition) → Ordered o (rulesRead level s) → ReadAs o Tagged (printedText Short level s) (readRules level s)
+short-again edition level s n r b e h l some short shallow o q = rw (same-rules (readRules level s)) at (again-tagged edition level s n r b e h l Short some short shallow o q)

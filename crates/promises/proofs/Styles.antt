@@ -19,7 +19,7 @@ use Rattle.forms.specs.declared.Place.the-variants.{Alone, LeftOf, RightOf}
 use Rattle.forms.specs.declared.Form.the-variants.{Joined}
 use Rattle.forms.specs.Printing.{brackets, atomForm, wrapForm, under}
 use Rattle.structure.specs.Counts.{wrapCounts, counted, countedRules}
-use Rattle.promises.specs.Round.{pushing, holdsPushLiteral, readBack, sight, seen}
+use Rattle.promises.specs.Round.{wrapsPass, rulesPass, pushing, holdsPushLiteral, readBack, sight, seen}
 use Rattle.forms.specs.declared.Style.{Style}
 use Rattle.forms.specs.declared.Style.the-variants.{Full, Short}
 use Rattle.promises.specs.Styled.{marked, markedRule, markedRules}
@@ -155,6 +155,17 @@ module _ {P : Type 0} (v : Style) where
   unfolding countedRules
   marked-rules-counted [] = refl
   marked-rules-counted (r ∷ us) = ap (λ z. and z (countedRules (markedRules v us))) (marked-counted v Alone (r .tree)) ∙ ap (and (counted (r .tree))) (marked-rules-counted us)
+
+  marked-pass : (f : Wrap → Bool) (w : Place) (t : Tree P) → wrapsPass f (marked v w t) ≡ wrapsPass f t
+  unfolding marked wrapsPass
+  marked-pass f w (leaf s a) = refl
+  marked-pass f w (one s o t) = ap (and (f o)) (marked-pass f (under (wrapForm o)) t)
+  marked-pass f w (two s j a b) = ap (λ z. and z (wrapsPass f (marked v (RightOf j) b))) (marked-pass f (LeftOf j) a) ∙ ap (and (wrapsPass f a)) (marked-pass f (RightOf j) b)
+
+  pub marked-rules-pass : (f : Wrap → Bool) (us : List (Rule P)) → rulesPass f (markedRules v us) ≡ rulesPass f us
+  unfolding rulesPass
+  marked-rules-pass f [] = refl
+  marked-rules-pass f (r ∷ us) = ap (λ z. and z (rulesPass f (markedRules v us))) (marked-pass f Alone (r .tree)) ∙ ap (and (wrapsPass f (r .tree))) (marked-rules-pass f us)
 
   marked-pushing : (w : Place) (t : Tree P) → pushing (marked v w t) ≡ pushing t
   unfolding marked pushing

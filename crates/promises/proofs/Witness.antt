@@ -14,8 +14,9 @@ use Rattle.forms.specs.declared.Style.the-variants.{Full, Short}
 use Rattle.printer.specs.Bounds.{Narrow}
 use Rattle.promises.specs.Styled.{marked}
 use Rattle.promises.specs.Marked.{depth, depths}
+use Rattle.structure.specs.declared.Edition.the-variants.{Second}
 use Rattle.structure.specs.Counts.{small}
-use Rattle.promises.specs.Round.{nonzero, nonzeroRules, pushing, holdsPushLiteral, Printable}
+use Rattle.promises.specs.Round.{wrapsPass, rulesPass, Ordered, pushing, holdsPushLiteral, Printable}
 use Rattle.promises.specs.Witness.{every, unpushed, nodesHeld, rulesHeld, storeHeld, everyKind, everyMark}
 use Rattle.promises.proofs.Opened.{opened}
 use Rattle.promises.proofs.Deep.{table-most}
@@ -47,16 +48,21 @@ unfolding opened
 every-narrow = all-narrow (nodesHeld every) refl
 
 pub every-full : Printable Full (nodesHeld every) (rulesHeld every) (storeHeld every)
-unfolding opened nonzeroRules nonzero depths depth marked
+unfolding opened rulesPass wrapsPass depths depth marked
 every-full =
     let most = table-most Full (nodesHeld every) (rulesHeld every) (storeHeld every) refl every-narrow refl in
     record { good = refl; some = omega arith; nonzeros = refl; short = omega arith; shallow = omega arith }
 
 pub every-short : Printable Short (nodesHeld every) (rulesHeld every) (storeHeld every)
-unfolding opened nonzeroRules nonzero depths depth marked
+unfolding opened rulesPass wrapsPass depths depth marked
 every-short =
     let most = table-most Short (nodesHeld every) (rulesHeld every) (storeHeld every) refl every-narrow refl in
     record { good = refl; some = omega arith; nonzeros = refl; short = omega arith; shallow = omega arith }
+
+-- no minimum is above its maximum
+pub every-ordered : Ordered Second (rulesOf (nodesHeld every) (rulesHeld every) (storeHeld every))
+unfolding opened rulesPass wrapsPass
+every-ordered = refl
 
 -- ---- none that plain refuses
 
@@ -69,13 +75,17 @@ unfolding opened
 unpushed-narrow = all-narrow (nodesHeld unpushed) refl
 
 pub unpushed-full : Printable Full (nodesHeld unpushed) (rulesHeld unpushed) (storeHeld unpushed)
-unfolding opened nonzeroRules nonzero depths depth marked
+unfolding opened rulesPass wrapsPass depths depth marked
 unpushed-full =
     let most = table-most Full (nodesHeld unpushed) (rulesHeld unpushed) (storeHeld unpushed) refl unpushed-narrow refl in
     record { good = refl; some = omega arith; nonzeros = refl; short = omega arith; shallow = omega arith }
 
 pub unpushed-short : Printable Short (nodesHeld unpushed) (rulesHeld unpushed) (storeHeld unpushed)
-unfolding opened nonzeroRules nonzero depths depth marked
+unfolding opened rulesPass wrapsPass depths depth marked
 unpushed-short =
     let most = table-most Short (nodesHeld unpushed) (rulesHeld unpushed) (storeHeld unpushed) refl unpushed-narrow refl in
     record { good = refl; some = omega arith; nonzeros = refl; short = omega arith; shallow = omega arith }
+
+pub unpushed-ordered : Ordered Second (rulesOf (nodesHeld unpushed) (rulesHeld unpushed) (storeHeld unpushed))
+unfolding opened rulesPass wrapsPass
+unpushed-ordered = refl

@@ -6,6 +6,7 @@ use mathlib.Core.List.{List}
 use lib.ListN.{length}
 use Rattle.text.specs.Limits.{maxOpen}
 use Rattle.token.specs.Table.{toks, start, is}
+use Rattle.structure.specs.declared.Edition.{Edition}
 use Rattle.structure.specs.declared.Level.{Level}
 use Rattle.structure.specs.declared.Why.the-variants.{TooDeep}
 use Rattle.reader.specs.Read.{refusedBy, readOf}
@@ -35,6 +36,6 @@ pub record FirstOver (s : List ℕ) (n j : ℕ) : Type 0 where
   pub before : mostTo s j ≤ n
 
 -- a text is refused as too deep exactly if more than the limit are open at once, whatever room is lent; at the first one too many
-pub record Limited (level : Level) (s : List ℕ) : Type 0 where
-  pub deep : maxOpen < mostOpen s → (n r b : ℕ) → (j : ℕ) × FirstOver s maxOpen j × (readOf level s n r b ≡ refusedBy TooDeep (start s j))
-  pub only : (n r b p : ℕ) → readOf level s n r b ≡ refusedBy TooDeep p → maxOpen < mostOpen s
+pub record Limited (edition : Edition) (level : Level) (s : List ℕ) : Type 0 where
+  pub deep : maxOpen < mostOpen s → (n r b : ℕ) → (j : ℕ) × FirstOver s maxOpen j × (readOf edition level s n r b ≡ refusedBy TooDeep (start s j))
+  pub only : (n r b p : ℕ) → readOf edition level s n r b ≡ refusedBy TooDeep p → maxOpen < mostOpen s

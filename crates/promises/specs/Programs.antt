@@ -15,6 +15,7 @@ use Rattle.printer.specs.declared.Printed.{Printed}
 use Rattle.printer.specs.Answers.{printOf, printIn}
 use Rattle.printer.proofs.print.{ended as print-ended}
 use Rattle.printer.proofs.print.Reads.{Learnt as PrintLearnt}
+use Rattle.structure.specs.declared.Edition.{Edition}
 use Rattle.structure.specs.declared.Level.{Level}
 use Rattle.reader.specs.declared.Reading.{Reading}
 use Rattle.reader.specs.Read.{roomForNodes, roomForRules, readOf, leftIn, numbered}
@@ -49,7 +50,7 @@ pub record Printout : Type 0 where
 
 -- a program: reading a text into lent tables, printing tables to a lent output
 pub record Program : Type 0 where
-  pub read : Level → List ℕ → Tables → Readout
+  pub read : Edition → Level → List ℕ → Tables → Readout
   pub print : Style → Tables → List ℕ → Printout
 
 -- references to tables, and what they refer to
@@ -62,11 +63,11 @@ abbrev pub heldBy : Lent → Tables
 heldBy l = record { nodes = now (l .nodes); rules = now (l .rules); store = now (l .store) }
 
 -- what a caller of `reader::read` learns, of an answer and of what the lent tables are left at
-abbrev pub Reads : Level → RefT (List ℕ) → Lent → Readout → Type 0
-Reads level text lent o =
+abbrev pub Reads : Edition → Level → RefT (List ℕ) → Lent → Readout → Type 0
+Reads edition level text lent o =
     (κs : Lfts 4) →
-    let a : Args (read-ended .signature) κs = (text, (level, (lent .nodes, (lent .rules, (lent .store, tt))))) in
-    ReadLearnt κs a (o .answer) (atExit read-ended κs a (tt, (tt, (o .left .nodes, (o .left .rules, (o .left .store, tt))))))
+    let a : Args (read-ended .signature) κs = (text, (edition, (level, (lent .nodes, (lent .rules, (lent .store, tt)))))) in
+    ReadLearnt κs a (o .answer) (atExit read-ended κs a (tt, (tt, (tt, (o .left .nodes, (o .left .rules, (o .left .store, tt)))))))
 
 -- what a caller of `printer::print` learns, of an answer and of what the lent output is left at
 abbrev pub Prints : Style → Lent → RefT (List ℕ) → Printout → Type 0
@@ -77,14 +78,14 @@ Prints style lent out o =
 
 -- a program that meets the promises: every call of it is as a caller of `read` or `print` learns
 pub record Meets (p : Program) : Type 0 where
-  pub reads : (level : Level) (text : RefT (List ℕ)) (lent : Lent) → Reads level text lent (p .read level (now text) (heldBy lent))
+  pub reads : (edition : Edition) (level : Level) (text : RefT (List ℕ)) (lent : Lent) → Reads edition level text lent (p .read edition level (now text) (heldBy lent))
   pub prints : (style : Style) (lent : Lent) (out : RefT (List ℕ)) → Prints style lent out (p .print style (heldBy lent) (now out))
 
 -- the program that the definitions are
 abbrev pub defined : Program
 defined = record {
-  read = λ level s t.
-      let r = readOf level s (roomForNodes (t .nodes)) (roomForRules (t .rules)) (length (t .store)) in
+  read = λ edition level s t.
+      let r = readOf edition level s (roomForNodes (t .nodes)) (roomForRules (t .rules)) (length (t .store)) in
       let x = tablesOf (lineIn s) (rulesRead level s) in
       record {
         answer = r;

@@ -3,6 +3,7 @@ use Prim.Native.Nat.{ℕ, _*_, _≤_}
 use mathlib.Core.Path.{_≡_}
 use mathlib.Core.Bool.{Bool, true, false, not}
 use mathlib.Core.List.{List, [], _∷_, map}
+use lib.Dec.{leb}
 use lib.ListN.{length, take}
 use Rattle.text.specs.Booleans.{and, or}
 use Rattle.text.specs.Limits.{maxNodes, maxRules, maxText, maxOpen}
@@ -25,10 +26,22 @@ use Rattle.reader.specs.Lines.{lineIn}
 use Rattle.build.specs.Rules as Built
 use Rattle.table.specs.Regroup.{regroup, untagged}
 use Rattle.structure.specs.Counts.{isZero, countedRules}
+use Rattle.structure.specs.declared.Edition.{Edition}
+use Rattle.structure.specs.declared.Edition.the-variants.{First, Second}
 use Rattle.structure.specs.declared.Level.{Level}
 use Rattle.structure.specs.declared.Level.the-variants.{Tagged, Plain}
 
 -- ---- numbers
+
+-- every operation of a tree passes a test, and every one of rules
+unfoldable pub wrapsPass : {P : Type 0} → (Wrap → Bool) → Tree P → Bool
+wrapsPass f (leaf s a) = true
+wrapsPass f (one s o t) = and (f o) (wrapsPass f t)
+wrapsPass f (two s j a b) = and (wrapsPass f a) (wrapsPass f b)
+
+unfoldable pub rulesPass : {P : Type 0} → (Wrap → Bool) → List (Rule P) → Bool
+rulesPass f [] = true
+rulesPass f (r ∷ rs) = and (wrapsPass f (r .tree)) (rulesPass f rs)
 
 -- no zero exact count or zero maximum
 abbrev pub unaryNonzero : Unary → Bool
@@ -47,14 +60,33 @@ abbrev pub wrapNonzero : Wrap → Bool
 wrapNonzero (plain u) = unaryNonzero u
 wrapNonzero (nodeTag b) = true
 
-unfoldable pub nonzero : {P : Type 0} → Tree P → Bool
-nonzero (leaf s a) = true
-nonzero (one s o t) = and (wrapNonzero o) (nonzero t)
-nonzero (two s j a b) = and (nonzero a) (nonzero b)
+abbrev pub nonzeroRules : {P : Type 0} → List (Rule P) → Bool
+nonzeroRules us = rulesPass wrapNonzero us
 
-unfoldable pub nonzeroRules : {P : Type 0} → List (Rule P) → Bool
-nonzeroRules [] = true
-nonzeroRules (r ∷ rs) = and (nonzero (r .tree)) (nonzeroRules rs)
+-- no minimum above its maximum
+abbrev pub unaryOrdered : Unary → Bool
+unaryOrdered PosPred = true
+unaryOrdered NegPred = true
+unaryOrdered Opt = true
+unaryOrdered Rep = true
+unaryOrdered RepOnce = true
+unaryOrdered (RepExact n) = true
+unaryOrdered (RepMin n) = true
+unaryOrdered (RepMax n) = true
+unaryOrdered (RepMinMax n m) = leb n m
+unaryOrdered Push = true
+
+abbrev pub wrapOrdered : Wrap → Bool
+wrapOrdered (plain u) = unaryOrdered u
+wrapOrdered (nodeTag b) = true
+
+abbrev pub orderedRules : {P : Type 0} → List (Rule P) → Bool
+orderedRules us = rulesPass wrapOrdered us
+
+-- what an edition asks of rules that are to come back: the second, that no minimum is above its maximum
+abbrev pub Ordered : {P : Type 0} → Edition → List (Rule P) → Type 0
+Ordered First us = Unit {0}
+Ordered Second us = orderedRules us ≡ true
 
 -- ---- PUSH_LITERAL, which plain refuses
 
@@ -105,10 +137,10 @@ rulesLeft n r b ns rs st = rulesOf (take (nodeSize * n) ns) (take (ruleSize * r)
 
 -- a text is read as these rules, spans aside: with any room only room can be missing, and where it is read, the used parts
 -- of the buffers stand for these rules; the limits leave room, and so does a store as long as the text
-pub record ReadAs {P : Type 0} (level : Level) (s : List ℕ) (us : List (Rule P)) : Type 0 where
+pub record ReadAs {P : Type 0} (edition : Edition) (level : Level) (s : List ℕ) (us : List (Rule P)) : Type 0 where
   pub rules : Same (Built.rulesRead level s) us
-  pub answer : (n r b : ℕ) → readOf level s n r b ≡ roomBy (length us) (counts us) (length (rulesStored us)) n r b
-  pub tables : (n r b x y z : ℕ) → readOf level s n r b ≡ Reading.Read x y z → (ns rs st ns′ rs′ st′ : List ℕ) → Leaves level s (Reading.Read x y z) ns rs st ns′ rs′ st′ → Same (rulesLeft x y z ns′ rs′ st′) us
+  pub answer : (n r b : ℕ) → readOf edition level s n r b ≡ roomBy (length us) (counts us) (length (rulesStored us)) n r b
+  pub tables : (n r b x y z : ℕ) → readOf edition level s n r b ≡ Reading.Read x y z → (ns rs st ns′ rs′ st′ : List ℕ) → Leaves level s (Reading.Read x y z) ns rs st ns′ rs′ st′ → Same (rulesLeft x y z ns′ rs′ st′) us
   pub few-nodes : counts us ≤ maxNodes
   pub few-rules : length us ≤ maxRules
   pub short : length (rulesStored us) ≤ length s

@@ -25,13 +25,14 @@ use Rattle.table.specs.Tree.{Span, Rule, counts, rulesStored}
 use Rattle.table.specs.Record.{nodeSize}
 use Rattle.table.specs.Flat.{noLine, nodesOf}
 use Rattle.table.proofs.Rules.{length-nodes}
+use Rattle.structure.specs.declared.Edition.{Edition}
 use Rattle.structure.specs.declared.Level.{Level}
 use Rattle.structure.specs.declared.Fault.{Fault}
 use Rattle.structure.specs.declared.Fault.the-variants as Fault
 use Rattle.structure.specs.declared.Refusal.{Refusal}
 use Rattle.structure.specs.declared.Why.{Why}
 use Rattle.structure.specs.Refusals.{because}
-use Rattle.structure.specs.declared.Why.the-variants.{TooLong, NotUtf8, NoToken, NotAllowed, TooDeep, Over, Zero, PeekRange, NotScalar, NotPlain, RulesRoom, NodesRoom, StoreRoom}
+use Rattle.structure.specs.declared.Why.the-variants.{TooLong, NotUtf8, NoToken, NotAllowed, TooDeep, Over, Zero, PeekRange, NotScalar, NotPlain, Above, RulesRoom, NodesRoom, StoreRoom}
 use Rattle.structure.specs.declared.Counted.{Counted}
 use Rattle.structure.specs.declared.Counted.the-variants as Counted
 use Rattle.structure.specs.Values.{faults}
@@ -88,45 +89,46 @@ unfolding summaries
 counted-rules (rules us) r a b c e q = (us, refl, cc, cc, cc)
 counted-rules (unruled y) r a b c e q = let z : _≡_ {A = ℕ} 0 1 = cc in absurd (omega arith)
 
-module _ (level : Level) (s : List ℕ) (n r b : ℕ) (c : Counted) (e : c ≡ summaries (grammar level s)) where
-  pub judge-refused : (x : Refusal) → c ≡ Counted.Refused x → Reading.Refused x ≡ judgedOf level s n r b
+module _ (edition : Edition) (level : Level) (s : List ℕ) (n r b : ℕ) (c : Counted) (e : c ≡ summaries (grammar level s)) where
+  pub judge-refused : (x : Refusal) → c ≡ Counted.Refused x → Reading.Refused x ≡ judgedOf edition level s n r b
   unfolding judgedOf
-  judge-refused x q = sym (ap (λ (m : Ruled). ruledBy m (λ us. faulty (faults level s) (λ u. roomBy (length us) (counts us) (length (rulesStored us)) n r b))) (counted-refused (grammar level s) c x e q))
+  judge-refused x q = sym (ap (λ (m : Ruled). ruledBy m (λ us. faulty (faults edition level s) (λ u. roomBy (length us) (counts us) (length (rulesStored us)) n r b))) (counted-refused (grammar level s) c x e q))
 
-  module _ (k l z : ℕ) (q : c ≡ Counted.Rules k l z) (f : Fault) (g : f ≡ faults level s) where
-    pub judge-by : (y : Fault) → f ≡ y → faulty y (λ u. roomBy k l z n r b) ≡ judgedOf level s n r b
+  module _ (k l z : ℕ) (q : c ≡ Counted.Rules k l z) (f : Fault) (g : f ≡ faults edition level s) where
+    pub judge-by : (y : Fault) → f ≡ y → faulty y (λ u. roomBy k l z n r b) ≡ judgedOf edition level s n r b
     unfolding judgedOf
     judge-by y w =
         let (us, m, e₁, e₂, e₃) = counted-rules (grammar level s) c k l z e q in
-        sym (ap (λ (m : Ruled). ruledBy m (λ us. faulty (faults level s) (λ u. roomBy (length us) (counts us) (length (rulesStored us)) n r b))) m
+        sym (ap (λ (m : Ruled). ruledBy m (λ us. faulty (faults edition level s) (λ u. roomBy (length us) (counts us) (length (rulesStored us)) n r b))) m
         ∙ ap (λ (x : Fault). faulty x (λ u. roomBy (length us) (counts us) (length (rulesStored us)) n r b)) (sym g ∙ w)
         ∙ rw (e₁, e₂, e₃))
 
-    pub judge-room : f ≡ Fault.Sound → (y : Reading) → y ≡ roomBy k l z n r b → y ≡ judgedOf level s n r b
+    pub judge-room : f ≡ Fault.Sound → (y : Reading) → y ≡ roomBy k l z n r b → y ≡ judgedOf edition level s n r b
     judge-room w y h = h ∙ judge-by Fault.Sound w
 
 -- ---- a text whose values are sound
 
-module _ (level : Level) (s : List ℕ) where
+module _ (edition : Edition) (level : Level) (s : List ℕ) where
   -- every string means characters
-  pub sound-scalars : faults level s ≡ Fault.Sound → Scalars s
+  pub sound-scalars : faults edition level s ≡ Fault.Sound → Scalars s
   sound-scalars e = record {
-    strings = λ i q. sound-characters level s e i (or-first (is s i 23) (or (is s i 24) (is s i 25)) q);
-    insens = λ i q. sound-characters level s e i (or-second (is s i 23) (or (is s i 24) (is s i 25)) (or-first (is s i 24) (is s i 25) q));
+    strings = λ i q. sound-characters edition level s e i (or-first (is s i 23) (or (is s i 24) (is s i 25)) q);
+    insens = λ i q. sound-characters edition level s e i (or-second (is s i 23) (or (is s i 24) (is s i 25)) (or-first (is s i 24) (is s i 25) q));
   }
 
 -- ---- what is read is built
 
-module _ (level : Level) (s ns rs st : List ℕ) where
-  pub build-ready : length s ≤ maxText → {x y z : ℕ} → judgedOf level s (roomForNodes ns) (roomForRules rs) (length st) ≡ Reading.Read x y z
+module _ (edition : Edition) (level : Level) (s ns rs st : List ℕ) where
+  pub build-ready : length s ≤ maxText → {x y z : ℕ} → judgedOf edition level s (roomForNodes ns) (roomForRules rs) (length st) ≡ Reading.Read x y z
       → Scalars s × GrammarRoom (grammar level s) (rulesRead level s) ns rs st
   build-ready h e =
-      let c = judged-counts level s (roomForNodes ns) (roomForRules rs) (length st) e in
+      let c = judged-counts edition level s (roomForNodes ns) (roomForRules rs) (length st) e in
       let a = c .nodes-fit in
       let b = c .rules-fit in
       let d = stored-fits s level (rulesRead level s) (c .read) in
-      (sound-scalars level s (c .sound), record { read = c .read; rows = omega arith; room = omega arith; few = omega arith; fits = c .store-fits; low = omega arith })
+      (sound-scalars edition level s (c .sound), record { read = c .read; rows = omega arith; room = omega arith; few = omega arith; fits = c .store-fits; low = omega arith })
 
+module _ (level : Level) (s ns rs st : List ℕ) where
   pub read-left : (x y z : ℕ) (ns₁ ns′ rs′ st′ : List ℕ) → x ≡ counts (rulesRead level s) → RulesBuilt (rulesRead level s) ns rs st ns₁ rs′ st′
       → ns′ ≡ withLines (lineIn s) ns₁ x → Leaves level s (Reading.Read x y z) ns rs st ns′ rs′ st′
   unfolding leftIn
@@ -141,19 +143,19 @@ pub kept : (level : Level) (s ns rs st : List ℕ) (r : Refusal) → Leaves leve
 unfolding leftIn
 kept level s ns rs st r = record { nodes = refl; rules = refl; store = refl }
 
-module _ (level : Level) (s ns rs st : List ℕ) (x : Reading) (n r : ℕ) (e : x ≡ judgedOf level s n r (length st)) (p : n ≡ roomForNodes ns) (q : r ≡ roomForRules rs) where
-  judged-is : x ≡ judgedOf level s (roomForNodes ns) (roomForRules rs) (length st)
-  judged-is = e ∙ ap (λ (k : ℕ). judgedOf level s k r (length st)) p ∙ ap (λ (k : ℕ). judgedOf level s (roomForNodes ns) k (length st)) q
+module _ (edition : Edition) (level : Level) (s ns rs st : List ℕ) (x : Reading) (n r : ℕ) (e : x ≡ judgedOf edition level s n r (length st)) (p : n ≡ roomForNodes ns) (q : r ≡ roomForRules rs) where
+  judged-is : x ≡ judgedOf edition level s (roomForNodes ns) (roomForRules rs) (length st)
+  judged-is = e ∙ ap (λ (k : ℕ). judgedOf edition level s k r (length st)) p ∙ ap (λ (k : ℕ). judgedOf edition level s (roomForNodes ns) k (length st)) q
 
-  pub build-kept : (y : Refusal) → x ≡ Reading.Refused y → (x ≡ judgedOf level s (roomForNodes ns) (roomForRules rs) (length st)) × Leaves level s x ns rs st ns rs st
+  pub build-kept : (y : Refusal) → x ≡ Reading.Refused y → (x ≡ judgedOf edition level s (roomForNodes ns) (roomForRules rs) (length st)) × Leaves level s x ns rs st ns rs st
   build-kept y w = (judged-is, rw w (kept level s ns rs st y))
 
   module _ {a b c : ℕ} (w : x ≡ Reading.Read a b c) where
     pub build-room : length s ≤ maxText → Scalars s × GrammarRoom (grammar level s) (rulesRead level s) ns rs st
-    build-room h = build-ready level s ns rs st h (sym judged-is ∙ w)
+    build-room h = build-ready edition level s ns rs st h (sym judged-is ∙ w)
 
-    counted : Counts level s (roomForNodes ns) (roomForRules rs) (length st) a b c
-    counted = judged-counts level s (roomForNodes ns) (roomForRules rs) (length st) (sym judged-is ∙ w)
+    counted : Counts edition level s (roomForNodes ns) (roomForRules rs) (length st) a b c
+    counted = judged-counts edition level s (roomForNodes ns) (roomForRules rs) (length st) (sym judged-is ∙ w)
 
     -- the nodes that get their lines are there
     pub build-nodes : (ns₁ rs′ st′ : List ℕ) → RulesBuilt (rulesRead level s) ns rs st ns₁ rs′ st′ → nodeSize * a ≤ length ns₁
@@ -165,22 +167,22 @@ module _ (level : Level) (s ns rs st : List ℕ) (x : Reading) (n r : ℕ) (e : 
         omega (arith, ap length (d .nodes-is) ∙ length-fronted (nodesOf noLine us) ns (omega arith))
 
     pub build-read : (ns₁ ns′ rs′ st′ : List ℕ) → RulesBuilt (rulesRead level s) ns rs st ns₁ rs′ st′ → ns′ ≡ withLines (lineIn s) ns₁ a
-        → (Reading.Read a b c ≡ judgedOf level s (roomForNodes ns) (roomForRules rs) (length st)) × Leaves level s (Reading.Read a b c) ns rs st ns′ rs′ st′
+        → (Reading.Read a b c ≡ judgedOf edition level s (roomForNodes ns) (roomForRules rs) (length st)) × Leaves level s (Reading.Read a b c) ns rs st ns′ rs′ st′
     build-read ns₁ ns′ rs′ st′ d l = (sym w ∙ judged-is, read-left level s ns rs st a b c ns₁ ns′ rs′ st′ (counted .nodes-are) d l)
 
 -- ---- tokens in the table
 
-module _ (m : ℕ) (level : Level) (s : List ℕ) (n r b : ℕ) where
-  tried-fits : length (toks s) ≤ m → attemptOf m level s n r b ≡ Attempt.Done (listedOf level s n r b)
+module _ (m : ℕ) (edition : Edition) (level : Level) (s : List ℕ) (n r b : ℕ) where
+  tried-fits : length (toks s) ≤ m → attemptOf m edition level s n r b ≡ Attempt.Done (listedOf edition level s n r b)
   unfolding attemptOf
   tried-fits h = rw (le-leb (length (toks s)) m h)
 
-  tried-over : m < length (toks s) → attemptOf m level s n r b ≡ Attempt.Full
+  tried-over : m < length (toks s) → attemptOf m edition level s n r b ≡ Attempt.Full
   unfolding attemptOf
   tried-over h = rw (lt-leb (length (toks s)) m h)
 
   -- what was done is what the text gets
-  tried-done : {t : Attempt} {x : Reading} → t ≡ attemptOf m level s n r b → t ≡ Attempt.Done x → x ≡ listedOf level s n r b
+  tried-done : {t : Attempt} {x : Reading} → t ≡ attemptOf m edition level s n r b → t ≡ Attempt.Done x → x ≡ listedOf edition level s n r b
   tried-done {t} {x} e q =
       ⊎-elim
       (λ h.
@@ -188,52 +190,52 @@ module _ (m : ℕ) (level : Level) (s : List ℕ) (n r b : ℕ) where
       let z : _≡_ {A = ℕ} 0 1 = cc in
       absurd (omega arith))
       (λ h.
-      let w : Attempt.Done x ≡ Attempt.Done (listedOf level s n r b) = sym q ∙ e ∙ tried-fits h in
+      let w : Attempt.Done x ≡ Attempt.Done (listedOf edition level s n r b) = sym q ∙ e ∙ tried-fits h in
       cc)
       (lt-or-ge m (length (toks s)))
 
   -- as many tokens as bytes are enough
-  pub tried-all : {t : Attempt} → length s ≤ m → t ≡ attemptOf m level s n r b → t ≡ Attempt.Full → ⊥
+  pub tried-all : {t : Attempt} → length s ≤ m → t ≡ attemptOf m edition level s n r b → t ≡ Attempt.Full → ⊥
   tried-all {t} h e q =
       let l = few s in
-      let w : Attempt.Full ≡ Attempt.Done (listedOf level s n r b) = sym q ∙ e ∙ tried-fits (omega arith) in
+      let w : Attempt.Full ≡ Attempt.Done (listedOf edition level s n r b) = sym q ∙ e ∙ tried-fits (omega arith) in
       let z : _≡_ {A = ℕ} 0 1 = cc in
       omega arith
 
 -- one size of table did
-pub listed-done : (m : ℕ) (level : Level) (s ns rs st ns₁ rs₁ st₁ : List ℕ) {t : Attempt} {x : Reading} → t ≡ attemptOf m level s (roomForNodes ns) (roomForRules rs) (length st)
-    → AttemptLeaves level s t ns rs st ns₁ rs₁ st₁ → t ≡ Attempt.Done x → (x ≡ listedOf level s (roomForNodes ns) (roomForRules rs) (length st)) × Leaves level s x ns rs st ns₁ rs₁ st₁
-listed-done m level s ns rs st ns₁ rs₁ st₁ e w q = (tried-done m level s (roomForNodes ns) (roomForRules rs) (length st) e q, rw q at w)
+pub listed-done : (m : ℕ) (edition : Edition) (level : Level) (s ns rs st ns₁ rs₁ st₁ : List ℕ) {t : Attempt} {x : Reading} → t ≡ attemptOf m edition level s (roomForNodes ns) (roomForRules rs) (length st)
+    → AttemptLeaves level s t ns rs st ns₁ rs₁ st₁ → t ≡ Attempt.Done x → (x ≡ listedOf edition level s (roomForNodes ns) (roomForRules rs) (length st)) × Leaves level s x ns rs st ns₁ rs₁ st₁
+listed-done m edition level s ns rs st ns₁ rs₁ st₁ e w q = (tried-done m edition level s (roomForNodes ns) (roomForRules rs) (length st) e q, rw q at w)
 
 -- or was full, and another followed
-pub listed-again : (level : Level) (s ns rs st ns₁ rs₁ st₁ ns₂ rs₂ st₂ : List ℕ) {t : Attempt} {x : Reading} → AttemptLeaves level s t ns rs st ns₁ rs₁ st₁ → t ≡ Attempt.Full
-    → x ≡ listedOf level s (roomForNodes ns₁) (roomForRules rs₁) (length st₁) → Leaves level s x ns₁ rs₁ st₁ ns₂ rs₂ st₂
-    → (x ≡ listedOf level s (roomForNodes ns) (roomForRules rs) (length st)) × Leaves level s x ns rs st ns₂ rs₂ st₂
-listed-again level s ns rs st ns₁ rs₁ st₁ ns₂ rs₂ st₂ w q e l =
+pub listed-again : (edition : Edition) (level : Level) (s ns rs st ns₁ rs₁ st₁ ns₂ rs₂ st₂ : List ℕ) {t : Attempt} {x : Reading} → AttemptLeaves level s t ns rs st ns₁ rs₁ st₁ → t ≡ Attempt.Full
+    → x ≡ listedOf edition level s (roomForNodes ns₁) (roomForRules rs₁) (length st₁) → Leaves level s x ns₁ rs₁ st₁ ns₂ rs₂ st₂
+    → (x ≡ listedOf edition level s (roomForNodes ns) (roomForRules rs) (length st)) × Leaves level s x ns rs st ns₂ rs₂ st₂
+listed-again edition level s ns rs st ns₁ rs₁ st₁ ns₂ rs₂ st₂ w q e l =
     let v : (ns₁ ≡ ns) × (rs₁ ≡ rs) × (st₁ ≡ st) = rw q at w in
     (rw (v .0, v .1, v .2) at e, rw (v .0, v .1, v .2) at l)
 
 module _ (s o₀ : List ℕ) (f : Filled) (e : f ≡ filledOf (roomOf o₀) s) where
-  pub list-and-read-full : (level : Level) (ns rs st : List ℕ) (n r b : ℕ) → f ≡ Filled.Full → (Attempt.Full ≡ attemptOf (roomOf o₀) level s n r b) × AttemptLeaves level s Attempt.Full ns rs st ns rs st
-  list-and-read-full level ns rs st n r b q = (sym (tried-over (roomOf o₀) level s n r b (filled-over (roomOf o₀) s (sym e ∙ q))), (refl, refl, refl))
+  pub list-and-read-full : (edition : Edition) (level : Level) (ns rs st : List ℕ) (n r b : ℕ) → f ≡ Filled.Full → (Attempt.Full ≡ attemptOf (roomOf o₀) edition level s n r b) × AttemptLeaves level s Attempt.Full ns rs st ns rs st
+  list-and-read-full edition level ns rs st n r b q = (sym (tried-over (roomOf o₀) edition level s n r b (filled-over (roomOf o₀) s (sym e ∙ q))), (refl, refl, refl))
 
-  pub list-and-read-stopped : (level : Level) (ns rs st : List ℕ) (n r b p : ℕ) → f ≡ Filled.NoToken p → (y : Reading) → y ≡ refusedBy NoToken p
-      → (Attempt.Done y ≡ attemptOf (roomOf o₀) level s n r b) × AttemptLeaves level s (Attempt.Done y) ns rs st ns rs st
+  pub list-and-read-stopped : (edition : Edition) (level : Level) (ns rs st : List ℕ) (n r b p : ℕ) → f ≡ Filled.NoToken p → (y : Reading) → y ≡ refusedBy NoToken p
+      → (Attempt.Done y ≡ attemptOf (roomOf o₀) edition level s n r b) × AttemptLeaves level s (Attempt.Done y) ns rs st ns rs st
   unfolding listedOf
-  list-and-read-stopped level ns rs st n r b p q y h =
+  list-and-read-stopped edition level ns rs st n r b p q y h =
       let w = filled-none (roomOf o₀) s p (sym e ∙ q) in
-      let z : refusedBy NoToken p ≡ listedOf level s n r b = sym (ap (λ (x : Scan). checkedBy x (refusedBy NoToken) (λ u. judgedOf level s n r b)) (w .1)) in
-      (ap Attempt.Done (h ∙ z) ∙ sym (tried-fits (roomOf o₀) level s n r b (w .0)), rw h (kept level s ns rs st (because NoToken p)))
+      let z : refusedBy NoToken p ≡ listedOf edition level s n r b = sym (ap (λ (x : Scan). checkedBy x (refusedBy NoToken) (λ u. judgedOf edition level s n r b)) (w .1)) in
+      (ap Attempt.Done (h ∙ z) ∙ sym (tried-fits (roomOf o₀) edition level s n r b (w .0)), rw h (kept level s ns rs st (because NoToken p)))
 
   module _ (n : ℕ) (q : f ≡ Filled.All n) where
     all : (length (toks s) ≤ roomOf o₀) × (n ≡ length (toks s)) × (tokensOf s .fault ≡ Scan.Through)
     all = filled-all (roomOf o₀) s n (sym e ∙ q)
 
-    pub list-and-read-filled : (level : Level) (x : Reading) (k r b : ℕ) → x ≡ judgedOf level s k r b → Attempt.Done x ≡ attemptOf (roomOf o₀) level s k r b
+    pub list-and-read-filled : (edition : Edition) (level : Level) (x : Reading) (k r b : ℕ) → x ≡ judgedOf edition level s k r b → Attempt.Done x ≡ attemptOf (roomOf o₀) edition level s k r b
     unfolding listedOf
-    list-and-read-filled level x k r b h =
-        let z : x ≡ listedOf level s k r b = h ∙ sym (ap (λ (y : Scan). checkedBy y (refusedBy NoToken) (λ u. judgedOf level s k r b)) (all .2)) in
-        ap Attempt.Done z ∙ sym (tried-fits (roomOf o₀) level s k r b (all .0))
+    list-and-read-filled edition level x k r b h =
+        let z : x ≡ listedOf edition level s k r b = h ∙ sym (ap (λ (y : Scan). checkedBy y (refusedBy NoToken) (λ u. judgedOf edition level s k r b)) (all .2)) in
+        ap Attempt.Done z ∙ sym (tried-fits (roomOf o₀) edition level s k r b (all .0))
 
     -- the product that is the used part's length is a small number
     pub few-numbers : length s ≤ maxText → n * tokenSize ≤ 196608
@@ -266,33 +268,33 @@ module _ (s o₀ : List ℕ) (f : Filled) (e : f ≡ filledOf (roomOf o₀) s) w
 -- ---- the whole
 
 -- what the promise of `read` says of an answer and of what the buffers hold afterwards
-pub record Meets (level : Level) (s ns rs st : List ℕ) (r : Reading) (ns′ rs′ st′ : List ℕ) : Type 0 where
-  pub answer : r ≡ readOf level s (roomForNodes ns) (roomForRules rs) (length st)
-  pub report : numbered r ≡ reported level s (roomForNodes ns) (roomForRules rs) (length st)
+pub record Meets (edition : Edition) (level : Level) (s ns rs st : List ℕ) (r : Reading) (ns′ rs′ st′ : List ℕ) : Type 0 where
+  pub answer : r ≡ readOf edition level s (roomForNodes ns) (roomForRules rs) (length st)
+  pub report : numbered r ≡ reported edition level s (roomForNodes ns) (roomForRules rs) (length st)
   pub left : Leaves level s r ns rs st ns′ rs′ st′
 
-module _ (level : Level) (s ns rs st : List ℕ) where
-  met : {r : Reading} {ns′ rs′ st′ : List ℕ} → r ≡ readOf level s (roomForNodes ns) (roomForRules rs) (length st) → Leaves level s r ns rs st ns′ rs′ st′ → Meets level s ns rs st r ns′ rs′ st′
+module _ (edition : Edition) (level : Level) (s ns rs st : List ℕ) where
+  met : {r : Reading} {ns′ rs′ st′ : List ℕ} → r ≡ readOf edition level s (roomForNodes ns) (roomForRules rs) (length st) → Leaves level s r ns rs st ns′ rs′ st′ → Meets edition level s ns rs st r ns′ rs′ st′
   unfolding reported
   met e l = record { answer = e; report = ap numbered e; left = l }
 
-  pub read-long : maxText < length s → (y : Reading) → y ≡ refusedBy TooLong 0 → Meets level s ns rs st y ns rs st
+  pub read-long : maxText < length s → (y : Reading) → y ≡ refusedBy TooLong 0 → Meets edition level s ns rs st y ns rs st
   unfolding readOf
   read-long h y w = met (w ∙ sym (choose-false (leb (length s) maxText) _ _ (lt-leb (length s) maxText h))) (rw w (kept level s ns rs st (because TooLong 0)))
 
   module _ (h : length s ≤ maxText) (c : Scan) (e : c ≡ firstBad s) where
     by-check : {y : Scan} → c ≡ y
-        → checkedBy y (refusedBy NotUtf8) (λ u. listedOf level s (roomForNodes ns) (roomForRules rs) (length st)) ≡ readOf level s (roomForNodes ns) (roomForRules rs) (length st)
+        → checkedBy y (refusedBy NotUtf8) (λ u. listedOf edition level s (roomForNodes ns) (roomForRules rs) (length st)) ≡ readOf edition level s (roomForNodes ns) (roomForRules rs) (length st)
     unfolding readOf
     by-check q =
         sym (choose-true (leb (length s) maxText) _ _ (le-leb (length s) maxText h)
-        ∙ ap (λ (x : Scan). checkedBy x (refusedBy NotUtf8) (λ u. listedOf level s (roomForNodes ns) (roomForRules rs) (length st))) (sym e ∙ q))
+        ∙ ap (λ (x : Scan). checkedBy x (refusedBy NotUtf8) (λ u. listedOf edition level s (roomForNodes ns) (roomForRules rs) (length st))) (sym e ∙ q))
 
-    pub read-bad : (p : ℕ) → c ≡ Scan.StopsAt p → (y : Reading) → y ≡ refusedBy NotUtf8 p → Meets level s ns rs st y ns rs st
+    pub read-bad : (p : ℕ) → c ≡ Scan.StopsAt p → (y : Reading) → y ≡ refusedBy NotUtf8 p → Meets edition level s ns rs st y ns rs st
     read-bad p q y w = met (w ∙ by-check q) (rw w (kept level s ns rs st (because NotUtf8 p)))
 
-    pub read-good : c ≡ Scan.Through → (r : Reading) (ns′ rs′ st′ : List ℕ) → r ≡ listedOf level s (roomForNodes ns) (roomForRules rs) (length st) → Leaves level s r ns rs st ns′ rs′ st′
-        → Meets level s ns rs st r ns′ rs′ st′
+    pub read-good : c ≡ Scan.Through → (r : Reading) (ns′ rs′ st′ : List ℕ) → r ≡ listedOf edition level s (roomForNodes ns) (roomForRules rs) (length st) → Leaves level s r ns rs st ns′ rs′ st′
+        → Meets edition level s ns rs st r ns′ rs′ st′
     read-good q r ns′ rs′ st′ w l = met (w ∙ by-check q) l
 
 -- number, place and counts decide the answer
@@ -308,7 +310,8 @@ whyOf n =
     (λ u. choose (eqb n 7) (λ u. PeekRange)
     (λ u. choose (eqb n 8) (λ u. NotScalar)
     (λ u. choose (eqb n 13) (λ u. NotPlain)
-    (λ u. choose (eqb n 12) (λ u. RulesRoom) (λ u. choose (eqb n 10) (λ u. NodesRoom) (λ u. StoreRoom))))))))))))
+    (λ u. choose (eqb n 15) (λ u. Above)
+    (λ u. choose (eqb n 12) (λ u. RulesRoom) (λ u. choose (eqb n 10) (λ u. NodesRoom) (λ u. StoreRoom)))))))))))))
 
 why-back : (w : Why) → (whyOf (numberOf w) ≡ w) × (eqb (numberOf w) 0 ≡ false)
 unfolding whyOf numberOf
@@ -322,6 +325,7 @@ why-back Zero = (refl, refl)
 why-back PeekRange = (refl, refl)
 why-back NotScalar = (refl, refl)
 why-back NotPlain = (refl, refl)
+why-back Above = (refl, refl)
 why-back RulesRoom = (refl, refl)
 why-back NodesRoom = (refl, refl)
 why-back StoreRoom = (refl, refl)

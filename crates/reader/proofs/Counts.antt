@@ -14,6 +14,7 @@ use Rattle.text.proofs.Booleans.{split}
 use Rattle.text.specs.Limits.{maxText}
 use Rattle.token.specs.Lists.{tokensOf}
 use Rattle.table.specs.Tree.{Span, Rule, counts, rulesStored}
+use Rattle.structure.specs.declared.Edition.{Edition}
 use Rattle.structure.specs.declared.Level.{Level}
 use Rattle.structure.specs.declared.Why.{Why}
 use Rattle.structure.specs.declared.Why.the-variants.{NotUtf8, NoToken}
@@ -26,9 +27,9 @@ use Rattle.reader.specs.declared.Reading.{Reading}
 use Rattle.reader.specs.declared.Reading.the-variants as Reading
 use Rattle.reader.specs.Read.{roomBy, faulty, checkedBy, refusedBy, ruledBy, judgedOf, listedOf, readOf}
 
-pub record Counts (level : Level) (s : List ℕ) (n r b x y z : ℕ) : Type 0 where
+pub record Counts (edition : Edition) (level : Level) (s : List ℕ) (n r b x y z : ℕ) : Type 0 where
   pub read : grammar level s ≡ rules (rulesRead level s)
-  pub sound : faults level s ≡ Fault.Sound
+  pub sound : faults edition level s ≡ Fault.Sound
   pub nodes-are : x ≡ counts (rulesRead level s)
   pub rules-are : y ≡ length (rulesRead level s)
   pub store-is : z ≡ length (rulesStored (rulesRead level s))
@@ -66,16 +67,16 @@ module _ {x y z : ℕ} where
   checked-read w (Scan.StopsAt p) g e = let z : _≡_ {A = ℕ} 0 1 = cc in absurd (omega arith)
   checked-read w Scan.Through g e = (refl, e)
 
-  module _ (level : Level) (s : List ℕ) (n r b : ℕ) where
-    pub judged-counts : judgedOf level s n r b ≡ Reading.Read x y z → Counts level s n r b x y z
+  module _ (edition : Edition) (level : Level) (s : List ℕ) (n r b : ℕ) where
+    pub judged-counts : judgedOf edition level s n r b ≡ Reading.Read x y z → Counts edition level s n r b x y z
     unfolding judgedOf
     judged-counts e =
         let (m, e₁) = ruled-read (grammar level s) _ e in
-        let (f, e₂) = faulty-read (faults level s) _ e₁ in
+        let (f, e₂) = faulty-read (faults edition level s) _ e₁ in
         let ((p, h), (q, i), (o, j)) = room-read (length (rulesRead level s)) (counts (rulesRead level s)) (length (rulesStored (rulesRead level s))) n r b e₂ in
         record { read = m; sound = f; nodes-are = p; rules-are = q; store-is = o; nodes-fit = h; rules-fit = i; store-fits = j }
 
-    read-through : readOf level s n r b ≡ Reading.Read x y z → Text s × (judgedOf level s n r b ≡ Reading.Read x y z)
+    read-through : readOf edition level s n r b ≡ Reading.Read x y z → Text s × (judgedOf edition level s n r b ≡ Reading.Read x y z)
     unfolding readOf listedOf
     read-through =
         split (leb (length s) maxText) _ _
@@ -85,8 +86,8 @@ module _ {x y z : ℕ} where
         (record { short = leb-true (length s) maxText h; utf8 = u; lexed = t }, e₂))
         (λ h q. let z : _≡_ {A = ℕ} 0 1 = cc in absurd (omega arith))
 
-    pub read-text : readOf level s n r b ≡ Reading.Read x y z → Text s
+    pub read-text : readOf edition level s n r b ≡ Reading.Read x y z → Text s
     read-text e = read-through e .0
 
-    pub read-counts : readOf level s n r b ≡ Reading.Read x y z → Counts level s n r b x y z
+    pub read-counts : readOf edition level s n r b ≡ Reading.Read x y z → Counts edition level s n r b x y z
     read-counts e = judged-counts (read-through e .1)

@@ -3,5 +3,6 @@ pub mod Lines
 pub mod Answers
 pub mod Counts
 pub mod Reasons
+pub mod Editions
 pub mod Good
 pub mod Firsts

@@ -20,6 +20,7 @@ use Rattle.table.specs.Tree.{Span, Tree, leaf, one, two, below, count, wrapStor
 use Rattle.table.specs.Record.{nodeSize}
 use Rattle.table.specs.Flat.{numbersOf, noLine, recordOf, leafAt, opAt, flat, nodesFrom, nodesOf}
 use Rattle.table.proofs.Rules.{length-nodes}
+use Rattle.structure.specs.declared.Edition.{Edition}
 use Rattle.structure.specs.declared.Level.{Level}
 use Rattle.build.specs.Rules.{rulesRead}
 use Rattle.reader.specs.declared.Reading.the-variants as Reading
@@ -202,12 +203,12 @@ lines-fronted line us o =
 -- ---- what is read
 
 -- the seventh number of every record that is used is one plus the LF bytes before the span's start
-module _ (level : Level) (s ns rs st ns′ rs′ st′ : List ℕ) {x y z : ℕ} (e : readOf level s (roomForNodes ns) (roomForRules rs) (length st) ≡ Reading.Read x y z) (h : Leaves level s (Reading.Read x y z) ns rs st ns′ rs′ st′) where
+module _ (edition : Edition) (level : Level) (s ns rs st ns′ rs′ st′ : List ℕ) {x y z : ℕ} (e : readOf edition level s (roomForNodes ns) (roomForRules rs) (length st) ≡ Reading.Read x y z) (h : Leaves level s (Reading.Read x y z) ns rs st ns′ rs′ st′) where
   pub read-lines : (k : ℕ) → k < x → getD ns′ (nodeSize * k + 6) 0 ≡ lineIn s (getD ns′ (nodeSize * k + 1) 0)
   unfolding leftIn
   read-lines k l =
       let us = rulesRead level s in
-      let c = read-counts level s (roomForNodes ns) (roomForRules rs) (length st) e in
+      let c = read-counts edition level s (roomForNodes ns) (roomForRules rs) (length st) e in
       let n = length-nodes noLine 0 0 us in
       let f = c .nodes-fit in
       let m = length-fronted (nodesOf noLine us) ns (omega arith) in

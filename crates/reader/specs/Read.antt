@@ -14,6 +14,7 @@ use Rattle.token.specs.Lists.{tokensOf}
 use Rattle.table.specs.Tree.{Span, Rule, counts, rulesStored}
 use Rattle.table.specs.Record.{nodesIn, rulesIn}
 use Rattle.table.specs.Flat.{nodesOf, recordsOf}
+use Rattle.structure.specs.declared.Edition.{Edition}
 use Rattle.structure.specs.declared.Level.{Level}
 use Rattle.structure.specs.declared.Fault.{Fault}
 use Rattle.structure.specs.declared.Fault.the-variants as Fault
@@ -22,7 +23,7 @@ use Rattle.reader.specs.declared.Reading.the-variants as Reading
 use Rattle.reader.specs.declared.Attempt.{Attempt}
 use Rattle.reader.specs.declared.Attempt.the-variants as Attempt
 use Rattle.structure.specs.declared.Why.{Why}
-use Rattle.structure.specs.declared.Why.the-variants.{TooLong, NotUtf8, NoToken, NotAllowed, TooDeep, Over, Zero, PeekRange, NotScalar, NotPlain, RulesRoom, NodesRoom, StoreRoom}
+use Rattle.structure.specs.declared.Why.the-variants.{TooLong, NotUtf8, NoToken, NotAllowed, TooDeep, Over, Zero, PeekRange, NotScalar, NotPlain, Above, RulesRoom, NodesRoom, StoreRoom}
 use Rattle.structure.specs.Refusals.{because}
 use Rattle.structure.specs.Values.{faults}
 use Rattle.structure.specs.Structure.{Ruled, rules, unruled, grammar}
@@ -62,22 +63,22 @@ abbrev pub ruledBy : Ruled → (List (Rule Span) → Reading) → Reading
 ruledBy (rules us) f = f us
 ruledBy (unruled r) f = Reading.Refused r
 
--- 4 and 9; 5, 6, 7, 8 and 13; 12, 10, 11
-unfoldable pub judgedOf : Level → List ℕ → ℕ → ℕ → ℕ → Reading
-judgedOf level s n r b = ruledBy (grammar level s) (λ us. faulty (faults level s) (λ u. roomFor us n r b))
+-- 4 and 9; 5, 6, 7, 8, 13 and 15; 12, 10, 11
+unfoldable pub judgedOf : Edition → Level → List ℕ → ℕ → ℕ → ℕ → Reading
+judgedOf edition level s n r b = ruledBy (grammar level s) (λ us. faulty (faults edition level s) (λ u. roomFor us n r b))
 
 -- 3 before those
-unfoldable pub listedOf : Level → List ℕ → ℕ → ℕ → ℕ → Reading
-listedOf level s n r b = checkedBy (tokensOf s .fault) (refusedBy NoToken) (λ u. judgedOf level s n r b)
+unfoldable pub listedOf : Edition → Level → List ℕ → ℕ → ℕ → ℕ → Reading
+listedOf edition level s n r b = checkedBy (tokensOf s .fault) (refusedBy NoToken) (λ u. judgedOf edition level s n r b)
 
 -- by a table of m tokens: it has to hold all before the first 3
-unfoldable pub attemptOf : ℕ → Level → List ℕ → ℕ → ℕ → ℕ → Attempt
-attemptOf m level s n r b = choose (leb (length (tokensOf s .list)) m) (λ u. Attempt.Done (listedOf level s n r b)) (λ u. Attempt.Full)
+unfoldable pub attemptOf : ℕ → Edition → Level → List ℕ → ℕ → ℕ → ℕ → Attempt
+attemptOf m edition level s n r b = choose (leb (length (tokensOf s .list)) m) (λ u. Attempt.Done (listedOf edition level s n r b)) (λ u. Attempt.Full)
 
 -- 1 and 2 before those; each phase covers the whole text first
-unfoldable pub readOf : Level → List ℕ → ℕ → ℕ → ℕ → Reading
-readOf level s n r b =
-    choose (leb (length s) maxText) (λ u. checkedBy (firstBad s) (refusedBy NotUtf8) (λ u. listedOf level s n r b)) (λ u. refusedBy TooLong 0)
+unfoldable pub readOf : Edition → Level → List ℕ → ℕ → ℕ → ℕ → Reading
+readOf edition level s n r b =
+    choose (leb (length s) maxText) (λ u. checkedBy (firstBad s) (refusedBy NotUtf8) (λ u. listedOf edition level s n r b)) (λ u. refusedBy TooLong 0)
 
 -- a success changes only the used part, a refusal nothing
 unfoldable pub leftIn : Reading → List ℕ → List ℕ → List ℕ
@@ -107,6 +108,7 @@ numberOf Zero = 6
 numberOf PeekRange = 7
 numberOf NotScalar = 8
 numberOf NotPlain = 13
+numberOf Above = 15
 numberOf RulesRoom = 12
 numberOf NodesRoom = 10
 numberOf StoreRoom = 11
@@ -116,8 +118,8 @@ numbered (Reading.Read n r b) = record { number = 0; place = 0; nodes = n; rules
 numbered (Reading.Refused r) = refusal (numberOf (r .why)) (r .place)
 
 -- what is to be answered, in those numbers
-unfoldable pub reported : Level → List ℕ → ℕ → ℕ → ℕ → Numbered
-reported level s n r b = numbered (readOf level s n r b)
+unfoldable pub reported : Edition → Level → List ℕ → ℕ → ℕ → ℕ → Numbered
+reported edition level s n r b = numbered (readOf edition level s n r b)
 
 -- the three buffers afterwards, by the answer
 pub record Leaves (level : Level) (s : List ℕ) (r : Reading) (ns rs st ns′ rs′ st′ : List ℕ) : Type 0 where

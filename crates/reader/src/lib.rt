@@ -4,6 +4,7 @@
 
 pub mod inner;
 
+use structure::Edition;
 use structure::Level;
 use structure::Refusal;
 use structure::Why;
@@ -50,22 +51,24 @@ pub fn number_of(why: Why) -> u64
         Why::PeekRange => 7,
         Why::NotScalar => 8,
         Why::NotPlain => 13,
+        Why::Above => 15,
         Why::RulesRoom => 12,
         Why::NodesRoom => 10,
         Why::StoreRoom => 11,
     }
 }
 
-// Reads a text into tables: its rules in `rules`, their nodes in `nodes`, their texts in `store`.
+// Reads a text into tables, as an edition has it: its rules in `rules`, their nodes in `nodes`, their texts in `store`.
 pub fn read(
     text: &[u8],
+    edition: Edition,
     level: Level,
     nodes: &mut [u32],
     rules: &mut [u32],
     store: &mut [u8],
 ) -> Reading
-    ensures answer { λ r. ⌜ r ≡ readOf level (now (text .entry)) (roomForNodes (now (nodes .entry))) (roomForRules (now (rules .entry))) (length (now (store .entry))) ⌝ }
-    ensures report { λ r. ⌜ numbered r ≡ reported level (now (text .entry)) (roomForNodes (now (nodes .entry))) (roomForRules (now (rules .entry))) (length (now (store .entry))) ⌝ }
+    ensures answer { λ r. ⌜ r ≡ readOf edition level (now (text .entry)) (roomForNodes (now (nodes .entry))) (roomForRules (now (rules .entry))) (length (now (store .entry))) ⌝ }
+    ensures report { λ r. ⌜ numbered r ≡ reported edition level (now (text .entry)) (roomForNodes (now (nodes .entry))) (roomForRules (now (rules .entry))) (length (now (store .entry))) ⌝ }
     ensures nodes { λ r. ⌜ now (nodes .exit) ≡ leftIn r (nodesOf (lineIn (now (text .entry))) (rulesRead level (now (text .entry)))) (now (nodes .entry)) ⌝ }
     ensures rules { λ r. ⌜ now (rules .exit) ≡ leftIn r (recordsOf (rulesRead level (now (text .entry)))) (now (rules .entry)) ⌝ }
     ensures store { λ r. ⌜ now (store .exit) ≡ leftIn r (rulesStored (rulesRead level (now (text .entry)))) (now (store .entry)) ⌝ }
@@ -79,7 +82,7 @@ pub fn read(
     }
     let t = text::inner::classes::classes();
     if text.len() <= 2048 {
-        return inner::listings::read_listed(&t, text, level, nodes, rules, store, 1536);
+        return inner::listings::read_listed(&t, text, edition, level, nodes, rules, store, 1536);
     }
-    inner::listings::read_listed(&t, text, level, nodes, rules, store, 12288)
+    inner::listings::read_listed(&t, text, edition, level, nodes, rules, store, 12288)
 }

@@ -1,8 +1,9 @@
-// Reads the texts of its standard input. A line names the level (t or p), how many numbers of the
-// nodes' and the rules' buffers and how many bytes of the store are lent, and the text, in pieces: how
+// Reads the texts of its standard input. A line names the level (t or p; T or P by the second edition), how many
+// numbers of the nodes' and the rules' buffers and how many bytes of the store are lent, and the text, in pieces: how
 // many times, and what in hex. It is written again with what came of it: number, place, the nodes,
 // rules and store bytes used, how many numbers or bytes of each whole buffer still stand at what was
 // there before, then what was used of each (of the longer ones a sum).
+use structure::Edition;
 use structure::Level;
 use table::inner::layout::NODE_SIZE;
 use table::inner::layout::RULE_SIZE;
@@ -61,10 +62,16 @@ fn answer(told: &[u64; 5], nodes: &[u32], rules: &[u32], store: &[u8]) {
 }
 
 fn level_of(b: u8) -> Level {
-    if b == b'p' {
-        Level::Plain
-    } else {
-        Level::Tagged
+    match b {
+        b'p' | b'P' => Level::Plain,
+        _ => Level::Tagged,
+    }
+}
+
+fn edition_of(b: u8) -> Edition {
+    match b {
+        b'T' | b'P' => Edition::Second,
+        _ => Edition::First,
     }
 }
 
@@ -84,6 +91,7 @@ fn run_line(line: &[u8]) {
     let long = vectors::pieces(line, 4, &mut text);
     let told = lending::read_within(
         &text[..long],
+        edition_of(op[0]),
         level_of(op[0]),
         n,
         m,

@@ -5,7 +5,8 @@
 //
 // - t LEVEL HEX NODES RULES STORE: a text is read, at level 1 tagged, 0 plain; the rooms in numbers and
 //   bytes. Number, place, the nodes, rules and store bytes used; the nodes, the rules, the store.
-// - x LEVEL COUNT:HEX,.. NODES RULES STORE: the same of a long text, made of pieces. A sum in place of each.
+// - e LEVEL HEX NODES RULES STORE: the same by the second edition; every other reading is by the first.
+// - x LEVEL COUNT:HEX,.. NODES RULES STORE: as t, of a long text, made of pieces. A sum in place of each.
 // - k PLACE HEX, l PLACE COUNT:HEX,..: the lister. Number, place, kind, start, end.
 // - p ROOM NODES RULES STORE, s ROOM NODES RULES STORE: tables are printed, in full and short. Number,
 //   place, bytes used; the text.
@@ -18,6 +19,7 @@
 //
 // The input is read in blocks of 65,536 bytes, and no line lies in two of them: empty lines fill a block up.
 use forms::Style;
+use structure::Edition;
 use structure::Level;
 use table::inner::layout::NODE_SIZE;
 use table::inner::layout::RULE_SIZE;
@@ -154,7 +156,7 @@ fn level_of(n: u64) -> Level {
     if n == 0 { Level::Plain } else { Level::Tagged }
 }
 
-fn run_text(line: &[u8], level: Level, long: bool) {
+fn run_text(line: &[u8], edition: Edition, level: Level, long: bool) {
     let mut text = [0u8; 70100];
     let mut nodes = [2863311530u32; 28720];
     let mut rules = [2863311530u32; 6200];
@@ -165,6 +167,7 @@ fn run_text(line: &[u8], level: Level, long: bool) {
     let k = vectors::number(vectors::word(line, 5)) as usize;
     let told = lending::read_within(
         &text[..used],
+        edition,
         level,
         n,
         m,
@@ -335,8 +338,9 @@ fn run_line(line: &[u8]) {
         return;
     }
     match line[at] {
-        b't' => run_text(line, level_of(n), false),
-        b'x' => run_text(line, level_of(n), true),
+        b't' => run_text(line, Edition::First, level_of(n), false),
+        b'e' => run_text(line, Edition::Second, level_of(n), false),
+        b'x' => run_text(line, Edition::First, level_of(n), true),
         b'k' => run_lister(line, n as usize, false),
         b'l' => run_lister(line, n as usize, true),
         b'p' => run_tables(Style::Full, line, n as usize),

@@ -7,6 +7,7 @@ use lib.ListN.{length, take, replicate, length-replicate}
 use Rattle.table.specs.Tree.{rulesStored}
 use Rattle.table.specs.Record.{nodeSize, ruleSize}
 use Rattle.table.specs.Flat.{nodesOf, recordsOf}
+use Rattle.structure.specs.declared.Edition.the-variants.{First}
 use Rattle.structure.specs.declared.Level.the-variants.{Tagged}
 use Rattle.structure.specs.declared.Refusal.{Refusal}
 use Rattle.build.specs.Rules.{rulesRead}
@@ -49,7 +50,7 @@ in-is style s o Printed.NoRoom = refl
 module _ (s ns rs st : List ℕ) (a : Reading) (ns′ rs′ st′ : List ℕ) (p : Promised s ns rs st a ns′ rs′ st′)
     (h₁ : length ns ≡ nodeSize * 2048) (h₂ : length rs ≡ ruleSize * 1024) (h₃ : length st ≡ 65536) (style : Style) (o : List ℕ) where
   -- the room that the desk asks for
-  asked : Read.readOf Tagged s 2048 1024 65536 ≡ a
+  asked : Read.readOf First Tagged s 2048 1024 65536 ≡ a
   asked = sym (p .0 ∙ rw (h₁, h₂, h₃))
 
   pub read-refused : {r : Refusal} {n : ℕ} → a ≡ Reading.Refused r → n ≡ Read.numberOf (r .why) → Answers style s o (Answer.Refused n (r .place)) o

@@ -14,6 +14,7 @@ use Rattle.table.specs.Tree.{rulesStored}
 use Rattle.table.specs.Record.{nodeSize, ruleSize}
 use Rattle.table.specs.Flat.{nodesOf, recordsOf}
 use Rattle.table.proofs.Rules.{length-nodes, length-records}
+use Rattle.structure.specs.declared.Edition.the-variants.{First}
 use Rattle.structure.specs.declared.Level.the-variants.{Tagged}
 use Rattle.structure.specs.declared.Why.{Why}
 use Rattle.structure.specs.declared.Refusal.{Refusal}
@@ -68,19 +69,19 @@ pub record Fronts (s ns rs : List ℕ) (x y z : ℕ) (ns′ rs′ st′ : List �
 -- what `read` promises of its answer and of the buffers afterwards
 abbrev pub Promised : (s ns rs st : List ℕ) → Reading → (ns′ rs′ st′ : List ℕ) → Type 0
 Promised s ns rs st a ns′ rs′ st′ =
-    (a ≡ readOf Tagged s (roomForNodes ns) (roomForRules rs) (length st))
-    × ((numbered a ≡ reported Tagged s (roomForNodes ns) (roomForRules rs) (length st))
+    (a ≡ readOf First Tagged s (roomForNodes ns) (roomForRules rs) (length st))
+    × ((numbered a ≡ reported First Tagged s (roomForNodes ns) (roomForRules rs) (length st))
     × ((ns′ ≡ leftIn a (nodesOf (lineIn s) (rulesRead Tagged s)) ns) × ((rs′ ≡ leftIn a (recordsOf (rulesRead Tagged s)) rs) × (st′ ≡ leftIn a (rulesStored (rulesRead Tagged s)) st))))
 
 module _ (s ns rs st : List ℕ) (a : Reading) (ns′ rs′ st′ : List ℕ) (p : Promised s ns rs st a ns′ rs′ st′) where
-  pub leaves : Leaves Tagged s (readOf Tagged s (roomForNodes ns) (roomForRules rs) (length st)) ns rs st ns′ rs′ st′
+  pub leaves : Leaves Tagged s (readOf First Tagged s (roomForNodes ns) (roomForRules rs) (length st)) ns rs st ns′ rs′ st′
   leaves = let e = p .0 in record { nodes = rw (← e) (p .1 .1 .0); rules = rw (← e) (p .1 .1 .1 .0); store = rw (← e) (p .1 .1 .1 .1) }
 
   pub fronts : {x y z : ℕ} → a ≡ Reading.Read x y z → Fronts s ns rs x y z ns′ rs′ st′
   unfolding leftIn
   fronts q =
       let us = rulesRead Tagged s in
-      let t = read-counts Tagged s (roomForNodes ns) (roomForRules rs) (length st) (sym (p .0) ∙ q) in
+      let t = read-counts First Tagged s (roomForNodes ns) (roomForRules rs) (length st) (sym (p .0) ∙ q) in
       record {
         few-nodes = rw (t .nodes-are) (t .nodes-fit);
         few-rules = rw (t .rules-are) (t .rules-fit);

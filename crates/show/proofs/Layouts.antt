@@ -6,6 +6,7 @@ use native.Mathlib.Omega.{arith}
 use lib.ListN.{length, take}
 use Rattle.table.specs.Record.{nodeSize, ruleSize}
 use Rattle.table.proofs.Rules.{length-nodes, length-records}
+use Rattle.structure.specs.declared.Edition.the-variants.{First}
 use Rattle.structure.specs.declared.Level.the-variants.{Tagged}
 use Rattle.structure.specs.declared.Refusal.{Refusal}
 use Rattle.build.specs.Rules.{rulesRead}
@@ -44,7 +45,7 @@ module _ {a b c k : ℕ} where
   sizes-by n r m Found.NoRule e = let z : _≡_ {A = ℕ} 0 1 = cc in absurd (omega arith)
 
   module _ (s name ns rs st : List ℕ) where
-    inside-by : (x : Reading) → readOf Tagged s (roomForNodes ns) (roomForRules rs) (length st) ≡ x
+    inside-by : (x : Reading) → readOf First Tagged s (roomForNodes ns) (roomForRules rs) (length st) ≡ x
         → layoutOf s name (roomForNodes ns) (roomForRules rs) (length st) ≡ Layout.Tables a b c k → (a ≤ length ns) × ((b ≤ length rs) × (c ≤ length st))
     unfolding layoutOf layoutIn reported
     inside-by (Reading.Refused r) q e =
@@ -53,7 +54,7 @@ module _ {a b c k : ℕ} where
         absurd (omega arith)
     inside-by (Reading.Read x y z) q e =
         let us = rulesRead Tagged s in
-        let t = read-counts Tagged s (roomForNodes ns) (roomForRules rs) (length st) q in
+        let t = read-counts First Tagged s (roomForNodes ns) (roomForRules rs) (length st) q in
         let (n, r, m) = sizes-by _ _ _ _ (sym (by-read _ Layout.Refused q) ∙ e) in
         let u = length-nodes (lineIn s) 0 0 us in
         let v = length-records 0 0 us in
@@ -61,4 +62,4 @@ module _ {a b c k : ℕ} where
 
     pub layout-inside : {x : Layout} → x ≡ layoutOf s name (roomForNodes ns) (roomForRules rs) (length st) → x ≡ Layout.Tables a b c k
         → (a ≤ length ns) × ((b ≤ length rs) × (c ≤ length st))
-    layout-inside e q = inside-by (readOf Tagged s (roomForNodes ns) (roomForRules rs) (length st)) refl (sym e ∙ q)
+    layout-inside e q = inside-by (readOf First Tagged s (roomForNodes ns) (roomForRules rs) (length st)) refl (sym e ∙ q)

@@ -19,13 +19,14 @@ use Rattle.table.specs.declared.TableCheck.the-variants as Table
 use Rattle.table.specs.declared.Named.{Named}
 use Rattle.table.specs.declared.Named.the-variants as Named
 use Rattle.table.specs.Names.{ruleNamed}
+use Rattle.structure.specs.declared.Edition.the-variants.{First}
 use Rattle.structure.specs.declared.Level.the-variants.{Tagged}
 use Rattle.build.specs.Rules.{rulesRead}
 use Rattle.reader.specs.declared.Reading.{Reading}
 use Rattle.reader.specs.declared.Reading.the-variants as Reading
 use Rattle.reader.specs.Read as Read
 use Rattle.reader.proofs.Good.{read-good}
-use Rattle.reader.proofs.Reasons.{number-range}
+use Rattle.reader.proofs.Reasons.{first-numbers}
 use Rattle.forms.specs.declared.Style.{Style}
 use Rattle.printer.specs.Answers as Printer
 use Rattle.matcher.specs.Sought.{foundBy, foundOf}
@@ -49,41 +50,41 @@ by-room true k = refl
 by-room false k = refl
 
 module _ (style : Style) (s : List ℕ) where
-  put-by : {x y z : ℕ} (m : ℕ) → Read.readOf Tagged s 2048 maxRules maxStore ≡ Reading.Read x y z → answerOf style s m ≡ Put (printedText style s) m
+  put-by : {x y z : ℕ} (m : ℕ) → Read.readOf First Tagged s 2048 maxRules maxStore ≡ Reading.Read x y z → answerOf style s m ≡ Put (printedText style s) m
   unfolding answerOf reading Read.reported printing Printer.reported printedText
   put-by m e =
-      by-read _ Answer.Refused e ∙ rw (read-good Tagged s 2048 maxRules maxStore e (omega arith) (omega arith)) (by-room (leb (length (printedText style s)) m) (length (printedText style s)))
+      by-read _ Answer.Refused e ∙ rw (read-good First Tagged s 2048 maxRules maxStore e (omega arith) (omega arith)) (by-room (leb (length (printedText style s)) m) (length (printedText style s)))
 
-  answer-by : (a : Reading) (m : ℕ) → Read.readOf Tagged s 2048 maxRules maxStore ≡ a → {n p : ℕ} → answerOf style s m ≡ Answer.Refused n p → Tellable n
+  answer-by : (a : Reading) (m : ℕ) → Read.readOf First Tagged s 2048 maxRules maxStore ≡ a → {n p : ℕ} → answerOf style s m ≡ Answer.Refused n p → Tellable n
   unfolding answerOf reading Read.reported
   answer-by (Reading.Read x y z) m e q =
       split (leb (length (printedText style s)) m) _ _ (λ b w. let z : _≡_ {A = ℕ} 0 1 = cc in absurd (omega arith)) (λ b w. inr (cc)) (sym (put-by m e) ∙ q)
   answer-by (Reading.Refused r) m e {n} q =
       let w = sym (by-refused _ Answer.Refused e) ∙ q in
       let z : Read.numberOf (r .why) ≡ n = cc in
-      let l = number-range (r .why) in
+      let l = first-numbers Tagged s 2048 maxRules maxStore r e in
       inl (omega arith, omega arith)
 
-  read-by : (a : Reading) → Read.readOf Tagged s 2048 maxRules maxStore ≡ a → reading s .number ≡ 0 → (m : ℕ) → answerOf style s m ≡ Put (printedText style s) m
+  read-by : (a : Reading) → Read.readOf First Tagged s 2048 maxRules maxStore ≡ a → reading s .number ≡ 0 → (m : ℕ) → answerOf style s m ≡ Put (printedText style s) m
   unfolding reading Read.reported Read.numbered
   read-by (Reading.Read x y z) e h m = put-by m e
   read-by (Reading.Refused r) e h m =
       let w : Read.numberOf (r .why) ≡ 0 = ap (λ (x : Reading). Read.numbered x .number) (sym e) ∙ h in
-      let l = number-range (r .why) in
+      let l = first-numbers Tagged s 2048 maxRules maxStore r e in
       absurd (omega arith)
 
   module _ (h : reading s .number ≡ 0) (m : ℕ) where
     -- a text that is read is printed where its text fits
     pub desk-prints : length (printedText style s) ≤ m → answerOf style s m ≡ Answer.Printed (length (printedText style s))
-    desk-prints l = read-by (Read.readOf Tagged s 2048 maxRules maxStore) refl h m ∙ rw (le-leb (length (printedText style s)) m l)
+    desk-prints l = read-by (Read.readOf First Tagged s 2048 maxRules maxStore) refl h m ∙ rw (le-leb (length (printedText style s)) m l)
 
     -- and else it is 23
     pub desk-over : m < length (printedText style s) → answerOf style s m ≡ Answer.Refused 23 0
-    desk-over l = read-by (Read.readOf Tagged s 2048 maxRules maxStore) refl h m ∙ rw (lt-leb (length (printedText style s)) m l)
+    desk-over l = read-by (Read.readOf First Tagged s 2048 maxRules maxStore) refl h m ∙ rw (lt-leb (length (printedText style s)) m l)
 
   -- the desk answers no 20, 21 and 22
   pub desk-told : (m : ℕ) {n p : ℕ} → answerOf style s m ≡ Answer.Refused n p → Tellable n
-  desk-told m e = answer-by (Read.readOf Tagged s 2048 maxRules maxStore) m refl e
+  desk-told m e = answer-by (Read.readOf First Tagged s 2048 maxRules maxStore) m refl e
 
   writes-by : (a : Answer) (o : List ℕ) → answerOf style s (length o) ≡ a
       → ((n : ℕ) × (deskOf style s (length o) ≡ Text n) × (deskIn style s o ≡ fronted (printedText style s) o)) ⊎ LineWritten style s o
@@ -103,17 +104,17 @@ module _ (s name : List ℕ) (n r b : ℕ) (h : n ≤ maxNodes) (l : r ≤ maxRu
   found-none x y z (Named.By j) e = let z : _≡_ {A = ℕ} 0 1 = cc in omega arith
   found-none x y z Named.Nobody e = let z : _≡_ {A = ℕ} 0 1 = cc in omega arith
 
-  layout-by : (a : Reading) → Read.readOf Tagged s n r b ≡ a → layoutOf s name n r b ≡ Layout.Refused k p → (1 ≤ k) × (k ≤ 13)
+  layout-by : (a : Reading) → Read.readOf First Tagged s n r b ≡ a → layoutOf s name n r b ≡ Layout.Refused k p → (1 ≤ k) × (k ≤ 13)
   unfolding layoutOf layoutIn foundOf Read.reported
   layout-by (Reading.Read x y z) e q =
       let us = rulesRead Tagged s in
-      absurd (found-none _ _ _ (ruleNamed (recordsOf us) (rulesStored us) name) (rw (read-good Tagged s n r b e h l) at (sym (by-read _ Layout.Refused e) ∙ q)))
+      absurd (found-none _ _ _ (ruleNamed (recordsOf us) (rulesStored us) name) (rw (read-good First Tagged s n r b e h l) at (sym (by-read _ Layout.Refused e) ∙ q)))
   layout-by (Reading.Refused x) e q =
       let w = sym (by-refused _ Layout.Refused e) ∙ q in
       let z : Read.numberOf (x .why) ≡ k = cc in
-      let l = number-range (x .why) in
+      let l = first-numbers Tagged s n r b x e in
       (omega arith, omega arith)
 
   -- a layout is refused by the reader alone: no layout that is read has false tables
   pub layout-told : layoutOf s name n r b ≡ Layout.Refused k p → (1 ≤ k) × (k ≤ 13)
-  layout-told e = layout-by (Read.readOf Tagged s n r b) refl e
+  layout-told e = layout-by (Read.readOf First Tagged s n r b) refl e

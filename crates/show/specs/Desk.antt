@@ -10,6 +10,7 @@ use Rattle.text.specs.Booleans.{choose}
 use Rattle.text.specs.Splice.{fronted}
 use Rattle.table.specs.Tree.{rulesStored}
 use Rattle.table.specs.Flat.{nodesOf, recordsOf}
+use Rattle.structure.specs.declared.Edition.the-variants.{First}
 use Rattle.structure.specs.declared.Level.the-variants.{Tagged}
 use Rattle.reader.specs.Read as Read
 use Rattle.reader.specs.Lines.{lineIn}
@@ -25,7 +26,7 @@ use Rattle.show.specs.Shown.{refusedBy}
 
 -- the reading at the tagged level, with room for 2,048 nodes, 1,024 rules and 65,536 store bytes
 unfoldable pub reading : List ℕ → Read.Numbered
-reading s = Read.reported Tagged s 2048 maxRules maxStore
+reading s = Read.reported First Tagged s 2048 maxRules maxStore
 
 -- the printing of a text's rules in a style, to an output of m bytes
 unfoldable pub printing : Style → List ℕ → ℕ → Answers.Numbered

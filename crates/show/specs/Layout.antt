@@ -6,6 +6,7 @@ use lib.ListN.{length}
 use Rattle.text.specs.Booleans.{choose}
 use Rattle.table.specs.Tree.{rulesStored}
 use Rattle.table.specs.Flat.{nodesOf, recordsOf}
+use Rattle.structure.specs.declared.Edition.the-variants.{First}
 use Rattle.structure.specs.declared.Level.the-variants.{Tagged}
 use Rattle.reader.specs.Read as Read
 use Rattle.reader.specs.Lines.{lineIn}
@@ -35,6 +36,6 @@ layoutIn ns rs st name = layoutBy (length ns) (length rs) (length st) (foundOf n
 -- the reading at the tagged level, with room for n nodes, r rules and b store bytes; then the lowest rule of the name
 unfoldable pub layoutOf : List ℕ → List ℕ → ℕ → ℕ → ℕ → Layout
 layoutOf s name n r b =
-    choose (eqb (Read.reported Tagged s n r b .number) 0)
+    choose (eqb (Read.reported First Tagged s n r b .number) 0)
     (λ u. layoutIn (nodesOf (lineIn s) (Built.rulesRead Tagged s)) (recordsOf (Built.rulesRead Tagged s)) (rulesStored (Built.rulesRead Tagged s)) name)
-    (λ u. Refused (Read.reported Tagged s n r b .number) (Read.reported Tagged s n r b .place))
+    (λ u. Refused (Read.reported First Tagged s n r b .number) (Read.reported First Tagged s n r b .place))

@@ -4,6 +4,7 @@ use forms::Style;
 use printer::Printed;
 use reader::Reading;
 use replies::Found;
+use structure::Edition;
 use structure::Level;
 use table::inner::layout::NODE_SIZE;
 use table::inner::layout::RULE_SIZE;
@@ -14,6 +15,7 @@ ghost use lib.ListN.{length};
 ghost use Rattle.show.specs.Shown.{refusedBy};
 ghost use Rattle.printer.specs.Answers.{numbered as printNumbered};
 ghost use Rattle.show.specs.Desk.{printed as answered, answerOf, answerIn, deskOf, deskIn};
+ghost use Rattle.structure.specs.declared.Edition.the-variants.{First};
 ghost use Rattle.structure.specs.declared.Level.the-variants.{Tagged};
 ghost use Rattle.reader.specs.Read.{roomForNodes, roomForRules, readOf, Leaves};
 ghost use Rattle.replies.specs.Replies.{numbered};
@@ -76,7 +78,14 @@ fn print_back(style: Style, text: &[u8], out: &mut [u8]) -> Answer
     let mut nodes = [0u32; NODE_SIZE * 2048];
     let mut rules = [0u32; RULE_SIZE * limits::RULES];
     let mut store = [0u8; limits::STORE];
-    let reading = reader::read(text, Level::Tagged, &mut nodes, &mut rules, &mut store);
+    let reading = reader::read(
+        text,
+        Edition::First,
+        Level::Tagged,
+        &mut nodes,
+        &mut rules,
+        &mut store,
+    );
     match reading {
         Reading::Read(n, r, b) => {
             let n = NODE_SIZE * n;
@@ -152,9 +161,9 @@ pub fn read_layout(
     store: &mut [u8],
 ) -> Layout
     ensures answered { λ r. ⌜ r ≡ layoutOf (now (text .entry)) (now (name .entry)) (roomForNodes (now (nodes .entry))) (roomForRules (now (rules .entry))) (length (now (store .entry))) ⌝ }
-    ensures tables { λ r. ⌜ Leaves Tagged (now (text .entry)) (readOf Tagged (now (text .entry)) (roomForNodes (now (nodes .entry))) (roomForRules (now (rules .entry))) (length (now (store .entry)))) (now (nodes .entry)) (now (rules .entry)) (now (store .entry)) (now (nodes .exit)) (now (rules .exit)) (now (store .exit)) ⌝ }
+    ensures tables { λ r. ⌜ Leaves Tagged (now (text .entry)) (readOf First Tagged (now (text .entry)) (roomForNodes (now (nodes .entry))) (roomForRules (now (rules .entry))) (length (now (store .entry)))) (now (nodes .entry)) (now (rules .entry)) (now (store .entry)) (now (nodes .exit)) (now (rules .exit)) (now (store .exit)) ⌝ }
 {
-    let reading = reader::read(text, Level::Tagged, nodes, rules, store);
+    let reading = reader::read(text, Edition::First, Level::Tagged, nodes, rules, store);
     match reading {
         Reading::Read(n, r, b) => {
             let n = NODE_SIZE * n;

@@ -16,12 +16,13 @@ use Rattle.table.specs.Tree.{Span, Atom, text, range, peekSlice, Wrap, plain, n
 use Rattle.table.specs.declared.Unary.{Unary}
 use Rattle.table.specs.declared.Unary.the-variants.{PosPred, NegPred, Opt, Rep, RepOnce, RepExact, RepMin, RepMax, RepMinMax, Push}
 use Rattle.table.specs.declared.End.the-variants as End
+use Rattle.structure.specs.declared.Edition.{Edition}
 use Rattle.structure.specs.declared.Level.{Level}
 use Rattle.structure.specs.declared.Fault.the-variants.{Sound}
 use Rattle.structure.specs.Values.{negated, integerOf, faults}
 use Rattle.structure.specs.Structure.{rules, grammar}
 use Rattle.structure.specs.Counts.{small, isZero, positive, unaryCounts, wrapCounts, atomCounts, counted, countedRules}
-use Rattle.structure.specs.Held.{Value, exact, least, most, peeked, single, bytes, pushes, unaryValues, wrapValues, atomValues, treeValues, rulesValues, valueAt, valuesTo, Counts, Right, RightTo}
+use Rattle.structure.specs.Held.{Value, exact, least, most, lower, peeked, single, bytes, pushes, unaryValues, wrapValues, atomValues, treeValues, rulesValues, valueAt, valuesTo, Counts, Right, RightTo}
 use Rattle.structure.proofs.Numerals.{decimal-most}
 use Rattle.structure.proofs.Held.{at-most-one, grammar-values}
 use Rattle.structure.proofs.Judged.{sound-right}
@@ -30,6 +31,7 @@ use Rattle.structure.proofs.Judged.{sound-right}
 abbrev fair : Value → Bool
 fair (exact n) = positive n
 fair (least n) = small n
+fair (lower n m) = small n
 fair (most n) = positive n
 fair (peeked n) = small n
 fair (single c) = true
@@ -42,7 +44,7 @@ allFair (v ∷ vs) = and (fair v) (allFair vs)
 
 -- ---- right values are fair
 
-module _ (level : Level) (s : List ℕ) (i : ℕ) where
+module _ (edition : Edition) (level : Level) (s : List ℕ) (i : ℕ) where
   small-count : (n : ℕ) → Counts s i n → small n ≡ true
   small-count n e = le-leb n 4294967295 (decimal-most 4294967295 n (word s i) e)
 
@@ -57,9 +59,10 @@ module _ (level : Level) (s : List ℕ) (i : ℕ) where
   integer-most m e =
       split (is s i 21) _ _ (λ a f. omega (arith, decimal-most 2147483648 m (trimmed s i 1 0) f)) (λ a f. omega (arith, decimal-most 2147483647 m (word s i) f)) e
 
-  right-fair : (v : Value) → Right level s i v → fair v ≡ true
+  right-fair : (v : Value) → Right edition level s i v → fair v ≡ true
   right-fair (exact n) h = positive-count n (h .0) (h .1)
   right-fair (least n) h = small-count n h
+  right-fair (lower n m) h = small-count n (h .0)
   right-fair (most n) h = positive-count n (h .0) (h .1)
   right-fair (peeked n) h =
       ⊎-elim (λ a. le-leb n 4294967295 (omega (arith, a .1)))
@@ -78,13 +81,13 @@ unfolding allFair
 fair-append [] ws = refl
 fair-append (v ∷ vs) ws = ap (and (fair v)) (fair-append vs ws) ∙ and-assoc (fair v) (allFair vs) (allFair ws)
 
-values-fair : (level : Level) (s : List ℕ) (n : ℕ) → RightTo level s n → allFair (valuesTo s n) ≡ true
+values-fair : (edition : Edition) (level : Level) (s : List ℕ) (n : ℕ) → RightTo edition level s n → allFair (valuesTo s n) ≡ true
 unfolding valuesTo allFair
-values-fair level s zero h = refl
-values-fair level s (suc n) h =
+values-fair edition level s zero h = refl
+values-fair edition level s (suc n) h =
     fair-append (valuesTo s n) (valueAt s n)
-    ∙ and-both (allFair (valuesTo s n)) (allFair (valueAt s n)) (values-fair level s n (λ i l. h i (omega arith)))
-    (⊎-elim (λ e. ap allFair e) (λ a. let (v, e) = a in ap allFair e ∙ and-both (fair v) true (right-fair level s n v (h n (omega arith) v e)) refl) (at-most-one s n))
+    ∙ and-both (allFair (valuesTo s n)) (allFair (valueAt s n)) (values-fair edition level s n (λ i l. h i (omega arith)))
+    (⊎-elim (λ e. ap allFair e) (λ a. let (v, e) = a in ap allFair e ∙ and-both (fair v) true (right-fair edition level s n v (h n (omega arith) v e)) refl) (at-most-one s n))
 
 -- ---- trees
 
@@ -131,5 +134,5 @@ rules-fair (r ∷ us) h =
     and-both (counted (r .tree)) (countedRules us) (tree-fair (r .tree) a) (rules-fair us b)
 
 -- every number of the trees is of 32 bits, and no exact count or maximum is 0
-pub sound-counted : (level : Level) (s : List ℕ) (us : List (Rule Span)) → grammar level s ≡ rules us → faults level s ≡ Sound → countedRules us ≡ true
-sound-counted level s us e f = rules-fair us (ap allFair (grammar-values level s us e) ∙ values-fair level s (length (toks s)) (sound-right level s f))
+pub sound-counted : (edition : Edition) (level : Level) (s : List ℕ) (us : List (Rule Span)) → grammar level s ≡ rules us → faults edition level s ≡ Sound → countedRules us ≡ true
+sound-counted edition level s us e f = rules-fair us (ap allFair (grammar-values level s us e) ∙ values-fair edition level s (length (toks s)) (sound-right edition level s f))

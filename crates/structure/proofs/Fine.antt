@@ -27,6 +27,7 @@ use Rattle.table.specs.Tree.{Span, Tree, leaf, one, two, Rule, placed, startsAt
 use Rattle.table.specs.Check.{isThrough, isUtf8, isLabel, fine, fineRule, fineRules}
 use Rattle.table.specs.Check as Check
 use Rattle.table.specs.declared.Join.the-variants.{Seq}
+use Rattle.structure.specs.declared.Edition.{Edition}
 use Rattle.structure.specs.declared.Level.{Level}
 use Rattle.structure.specs.declared.Level.the-variants.{Tagged, Plain}
 use Rattle.structure.specs.declared.Fault.the-variants.{Sound}
@@ -47,12 +48,12 @@ abbrev pub Characters : List ℕ → Type 0
 Characters s = (i : ℕ) → or (is s i 23) (or (is s i 24) (is s i 25)) ≡ true → badEscape (literalBytes s i) ≡ Through
 
 -- as where no value is at fault
-pub sound-characters : (level : Level) (s : List ℕ) → faults level s ≡ Sound → Characters s
+pub sound-characters : (edition : Edition) (level : Level) (s : List ℕ) → faults edition level s ≡ Sound → Characters s
 unfolding valueBy
-sound-characters level s e i d =
-    or-by (is s i 23) _ d (λ a. sound-right level s e i (inside-is s i 23 (omega arith) a) (bytes (string s i)) (value-is s i 23 a))
-    (λ b. or-by (is s i 24) _ b (λ a. sound-right level s e i (inside-is s i 24 (omega arith) a) (bytes (string s i)) (value-is s i 24 a))
-    (λ a. sound-right level s e i (inside-is s i 25 (omega arith) a) (single (character s i)) (value-is s i 25 a)))
+sound-characters edition level s e i d =
+    or-by (is s i 23) _ d (λ a. sound-right edition level s e i (inside-is s i 23 (omega arith) a) (bytes (string s i)) (value-is s i 23 a))
+    (λ b. or-by (is s i 24) _ b (λ a. sound-right edition level s e i (inside-is s i 24 (omega arith) a) (bytes (string s i)) (value-is s i 24 a))
+    (λ a. sound-right edition level s e i (inside-is s i 25 (omega arith) a) (single (character s i)) (value-is s i 25 a)))
 
 -- ---- texts and characters
 
@@ -225,5 +226,5 @@ module _ (s : List ℕ) (u : firstBad s ≡ Through) (scalars : Characters s) wh
     grammar-fine us e = all-rules level s (λ at us. fineRules us ≡ true) (λ at. refl) (λ at us h. h) more-fine us e
 
 -- of a text of UTF-8 whose values are sound
-pub sound-fine : (level : Level) (s : List ℕ) (us : List (Rule Span)) → firstBad s ≡ Through → grammar level s ≡ rules us → faults level s ≡ Sound → fineRules us ≡ true
-sound-fine level s us u e f = grammar-fine s u (sound-characters level s f) level us e
+pub sound-fine : (edition : Edition) (level : Level) (s : List ℕ) (us : List (Rule Span)) → firstBad s ≡ Through → grammar level s ≡ rules us → faults edition level s ≡ Sound → fineRules us ≡ true
+sound-fine edition level s us u e f = grammar-fine s u (sound-characters edition level s f) level us e

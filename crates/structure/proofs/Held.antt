@@ -11,9 +11,9 @@ use native.Mathlib.Omega.{arith}
 use lib.Dec.{leb, eqb}
 use lib.ListN.{length}
 use borrow.Author.Tests.{leb-true, eqb-true, eq-eqb, ne-eqb}
-use Rattle.text.specs.Booleans.{choose, or}
+use Rattle.text.specs.Booleans.{choose, and, or}
 use Rattle.text.specs.Words.{begins, push}
-use Rattle.text.proofs.Booleans.{and-true, and-first, and-second, or-by, choose-by, choose-false, choose-true, split}
+use Rattle.text.proofs.Booleans.{and-true, and-both, and-first, and-second, or-by, choose-by, choose-false, choose-true, split}
 use Rattle.token.specs.Table.{toks, kind, start, end, is, word, label}
 use Rattle.token.specs.Tokens.{pushLiteral}
 use Rattle.table.specs.Tree.{Span, Atom, peekSlice, Wrap, plain, nodeTag, Tree, leaf, one, two, Rule, placed, endsAt, startsAt}
@@ -26,8 +26,8 @@ use Rattle.table.specs.declared.End.the-variants.{Open, At}
 use Rattle.structure.specs.Tokens.{across, same, spells, peek}
 use Rattle.structure.specs.Values.{number, isInteger, integer, string, character}
 use Rattle.structure.specs.Structure.{Parsed, got, refused, next, want, join, closed, prefixed, postfixed, inTag, post, postfixAt, sliceTo, slice, leafAt, Call, expr, term, signed, node, chain, posts, body, place, Run, isName, silent, markAt, pastMark, pastBar, Ruled, rules, unruled, withRule, Ruling, ruling, noRule, thenRules, ruleFrom, rulesUpTo, docsIn, docs, grammar}
-use Rattle.structure.specs.Held.{Value, exact, least, most, peeked, single, bytes, pushes, unaryValues, wrapValues, atomValues, treeValues, rulesValues, kindBefore, numberValue, valueBy, valueAt, valuesTo, valuesIn}
-use Rattle.structure.proofs.Steps.{inside-is, is-kind, spelled-word, begins-more, next-got, want-got, opened-got, posts-by}
+use Rattle.structure.specs.Held.{Value, exact, least, most, lower, peeked, single, bytes, pushes, unaryValues, wrapValues, atomValues, treeValues, rulesValues, kindBefore, minimumValue, numberValue, valueBy, valueAt, valuesTo, valuesIn}
+use Rattle.structure.proofs.Steps.{inside-is, is-kind, another, spelled-word, begins-more, next-got, want-got, opened-got, posts-by}
 use Rattle.structure.proofs.Cases.{PostfixRead, opt, rep, once, both, greatest, postfix-read, LeafRead, literal, sliced, ident, str, insens, ranges, leaf-read, rule-read}
 use Rattle.structure.proofs.Cases as Cases
 use Rattle.structure.proofs.Fuel.{went}
@@ -138,8 +138,25 @@ module _ (s : List ℕ) (at : ℕ) where
   exact-one : (i : ℕ) → is s i 20 ≡ true → kindBefore s i ≡ 2 → is s (i + 1) 3 ≡ true → valuesTo s (i + 1) ≡ valuesTo s i ++ (exact (number s i) ∷ [])
   exact-one i e g c = values-number s i 2 (exact (number s i)) e g (choose-true (is s (i + 1) 3) _ _ c)
 
-  least-one : (i : ℕ) → is s i 20 ≡ true → kindBefore s i ≡ 2 → is s (i + 1) 3 ≡ false → valuesTo s (i + 1) ≡ valuesTo s i ++ (least (number s i) ∷ [])
-  least-one i e g c = values-number s i 2 (least (number s i)) e g (choose-false (is s (i + 1) 3) _ _ c)
+  minimum-one : (i : ℕ) (v : Value) → is s i 20 ≡ true → kindBefore s i ≡ 2 → is s (i + 1) 3 ≡ false → minimumValue s i ≡ v → valuesTo s (i + 1) ≡ valuesTo s i ++ (v ∷ [])
+  minimum-one i v e g c q = values-number s i 2 v e g (choose-false (is s (i + 1) 3) _ _ c ∙ q)
+
+  -- without a maximum, since `}` follows the comma
+  least-one : (i : ℕ) → is s i 20 ≡ true → kindBefore s i ≡ 2 → is s (i + 1) 3 ≡ false → is s (i + 1 + 1) 3 ≡ true → valuesTo s (i + 1) ≡ valuesTo s i ++ (least (number s i) ∷ [])
+  least-one i e g c d =
+      let z : i + 1 + 1 ≡ i + 2 = omega arith in
+      minimum-one i (least (number s i)) e g c
+      (choose-false (and (is s (i + 1) 15) (is s (i + 2) 20)) _ _
+      (and-second (is s (i + 1) 15) (is s (i + 2) 20) (another s (i + 2) (kind s (i + 2)) 3 20 refl (is-kind s (i + 2) 3 (sym (ap (λ (j : ℕ). is s j 3) z) ∙ d)) (λ q. omega arith))))
+
+  -- and with one
+  lower-one : (i : ℕ) → is s i 20 ≡ true → kindBefore s i ≡ 2 → is s (i + 1) 3 ≡ false → is s (i + 1) 15 ≡ true → is s (i + 1 + 1) 20 ≡ true
+      → valuesTo s (i + 1) ≡ valuesTo s i ++ (lower (number s i) (number s (i + 1 + 1)) ∷ [])
+  lower-one i e g c d h =
+      let z : i + 1 + 1 ≡ i + 2 = omega arith in
+      minimum-one i (lower (number s i) (number s (i + 1 + 1))) e g c
+      (choose-true (and (is s (i + 1) 15) (is s (i + 2) 20)) _ _ (and-both (is s (i + 1) 15) (is s (i + 2) 20) d (sym (ap (λ (j : ℕ). is s j 20) z) ∙ h))
+      ∙ ap (λ (j : ℕ). lower (number s i) (number s j)) (sym z))
 
   -- behind a comma: a maximum
   most-one : (i : ℕ) → is s i 20 ≡ true → kindBefore s i ≡ 15 → is s (i + 1) 3 ≡ true → valuesTo s (i + 1) ≡ valuesTo s i ++ (most (number s i) ∷ [])
@@ -158,12 +175,12 @@ module _ (s : List ℕ) (at : ℕ) where
       rw (e, z) (values-kind s (at + 1 + 1) 3 c refl ∙ exact-one (at + 1) b (after s at 2 a) c ∙ ap (λ (x : List Value). x ++ (exact (number s (at + 1)) ∷ [])) (brace a))
   postfix-by v n (Cases.least a b c d g e f) =
       rw (e, f)
-      (values-kind s (at + 1 + 1 + 1) 3 g refl ∙ values-kind s (at + 1 + 1) 15 d refl ∙ least-one (at + 1) b (after s at 2 a) c ∙ ap (λ (x : List Value). x ++ (least (number s (at + 1)) ∷ [])) (brace a))
+      (values-kind s (at + 1 + 1 + 1) 3 g refl ∙ values-kind s (at + 1 + 1) 15 d refl ∙ least-one (at + 1) b (after s at 2 a) c g ∙ ap (λ (x : List Value). x ++ (least (number s (at + 1)) ∷ [])) (brace a))
   postfix-by v n (both a b c d g h k e f) =
       rw (e, f)
       (values-kind s (at + 1 + 1 + 1 + 1) 3 k refl ∙ most-one (at + 1 + 1 + 1) h (after s (at + 1 + 1) 15 d) k
       ∙ ap (λ (x : List Value). x ++ (most (number s (at + 1 + 1 + 1)) ∷ []))
-      (values-kind s (at + 1 + 1) 15 d refl ∙ least-one (at + 1) b (after s at 2 a) c ∙ ap (λ (x : List Value). x ++ (least (number s (at + 1)) ∷ [])) (brace a))
+      (values-kind s (at + 1 + 1) 15 d refl ∙ lower-one (at + 1) b (after s at 2 a) c d h ∙ ap (λ (x : List Value). x ++ (lower (number s (at + 1)) (number s (at + 1 + 1 + 1)) ∷ [])) (brace a))
       ∙ append-assoc (valuesTo s at) _ _)
   postfix-by v n (greatest a b c d g e f) =
       rw (e, f)

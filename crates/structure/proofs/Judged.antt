@@ -9,7 +9,7 @@ use native.Mathlib.Omega.{arith}
 use lib.Dec.{eqb}
 use lib.ListN.{length}
 use borrow.Author.Tests.{eqb-true}
-use Rattle.text.specs.Booleans.{choose, or}
+use Rattle.text.specs.Booleans.{choose, and, or}
 use Rattle.text.specs.Digits.{decimalOf}
 use Rattle.text.specs.declared.Decimal.{Decimal}
 use Rattle.text.specs.declared.Decimal.the-variants as Decimal
@@ -21,34 +21,39 @@ use Rattle.literal.specs.Escapes.{badEscape}
 use Rattle.token.specs.Table.{toks, kind, start, is, word}
 use Rattle.token.specs.Tokens.{pushLiteral}
 use Rattle.table.specs.Tree.{Span, Rule}
+use Rattle.structure.specs.declared.Edition.{Edition}
 use Rattle.structure.specs.declared.Level.{Level}
 use Rattle.structure.specs.declared.Level.the-variants.{Tagged, Plain}
 use Rattle.structure.specs.declared.Refusal.{Refusal}
 use Rattle.structure.specs.declared.Fault.{Fault}
 use Rattle.structure.specs.declared.Fault.the-variants.{Sound, At}
-use Rattle.structure.specs.declared.Why.the-variants.{Over, Zero, NotScalar}
+use Rattle.structure.specs.declared.Why.the-variants.{Over, Zero, NotScalar, Above}
 use Rattle.structure.specs.Refusals.{because}
 use Rattle.structure.specs.Tokens.{spells}
-use Rattle.structure.specs.Values.{valueOf, number, negated, isInteger, integerOf, integer, opening, literalBytes, string, character, repeatFault, peekFault, literalFault, wordFault, numberFault, faultAt, orFault, faultsFrom, faults}
-use Rattle.structure.specs.Held.{Value, exact, least, most, peeked, single, bytes, pushes, kindBefore, repeatValue, numberValue, valueBy, valueAt, valuesTo, rulesValues, Counts, TooMany, NoTimes, NoCharacter, Right, Wrong, RightTo, FirstWrong}
+use Rattle.structure.specs.Values.{valueOf, number, negated, isInteger, integerOf, integer, opening, literalBytes, string, character, exceedsIn, aboveFault, repeatFault, peekFault, literalFault, wordFault, numberFault, faultAt, orFault, faultsFrom, faults}
+use Rattle.structure.specs.Held.{Value, exact, least, most, lower, peeked, single, bytes, pushes, kindBefore, minimumValue, repeatValue, numberValue, valueBy, valueAt, valuesTo, rulesValues, Counts, TooMany, NoTimes, NoCharacter, Right, Wrong, RightTo, FirstWrong}
 use Rattle.structure.specs.Structure.{rules, grammar}
 use Rattle.structure.proofs.Steps.{is-kind}
+use Rattle.structure.proofs.Faults.{alone, exceeds-above, exceeds-not}
 use Rattle.structure.proofs.Held.{at-most-one, before-next, values-next, grammar-values}
 use Rattle.structure.proofs.Numerals.{number-digits, integer-digits}
 
 -- what holds of both branches of two choices by one test
-choose-both : {A B : Type 0} (P : A → B → Type 0) (b : Bool) (f g : Unit {0} → A) (h k : Unit {0} → B) → (b ≡ true → P (f tt) (h tt)) → (b ≡ false → P (g tt) (k tt)) → P (choose b f g) (choose b h k)
+pub choose-both : {A B : Type 0} (P : A → B → Type 0) (b : Bool) (f g : Unit {0} → A) (h k : Unit {0} → B) → (b ≡ true → P (f tt) (h tt)) → (b ≡ false → P (g tt) (k tt)) → P (choose b f g) (choose b h k)
 choose-both P true f g h k y n = y refl
 choose-both P false f g h k y n = n refl
 
-module _ (level : Level) (s : List ℕ) (i : ℕ) where
+true-false : _≡_ {A = Bool} true false → ⊥
+true-false e = let z : _≡_ {A = ℕ} 0 1 = cc in omega arith
+
+module _ (edition : Edition) (level : Level) (s : List ℕ) (i : ℕ) where
   -- a sound token's value is right, and a faulty token has a value that is wrong
   abbrev Judged : Fault → List Value → Type 0
-  Judged Sound vs = (v : Value) → vs ≡ v ∷ [] → Right level s i v
-  Judged (At r) vs = (v : Value) × (vs ≡ v ∷ []) × Wrong level s i v r
+  Judged Sound vs = (v : Value) → vs ≡ v ∷ [] → Right edition level s i v
+  Judged (At r) vs = (v : Value) × (vs ≡ v ∷ []) × Wrong edition level s i v r
 
-  is-right : (w : Value) → Right level s i w → Judged Sound (w ∷ [])
-  is-right w h v e = let z : w ≡ v = cc in subst (λ (x : Value). Right level s i x) z h
+  is-right : (w : Value) → Right edition level s i w → Judged Sound (w ∷ [])
+  is-right w h v e = let z : w ≡ v = cc in subst (λ (x : Value). Right edition level s i x) z h
 
   has-none : Judged Sound []
   has-none v e = let z : _≡_ {A = ℕ} 0 1 = cc in absurd (omega arith)
@@ -72,30 +77,53 @@ module _ (level : Level) (s : List ℕ) (i : ℕ) where
       let z : valueOf (decimalOf 4294967295 (word s i)) ≡ n = ap valueOf e in
       (z, e ∙ ap Decimal.Is (sym z))
 
-  repeat-judged : (b : ℕ) → is s i 20 ≡ true → (d : Decimal) → decimalOf 4294967295 (word s i) ≡ d → Judged (repeatFault s i d) (repeatValue s b i ∷ [])
+  -- a comma and a number behind it
+  abbrev paired : Bool
+  paired = and (is s (i + 1) 15) (is s (i + 2) 20)
+
+  minimum-judged : (n : ℕ) → Counts s i (number s i) → number s i ≡ n → Judged (aboveFault edition s i n) (minimumValue s i ∷ [])
+  minimum-judged n c z =
+      let P : Value → Type 0 = λ v. Wrong edition level s i v (because Above (start s i)) in
+      let R : Value → Type 0 = Right edition level s i in
+      choose-by (λ (f : Fault). Judged f (minimumValue s i ∷ [])) (exceedsIn edition s i n) _ _
+      (λ x.
+      let (q, t, l, k) = exceeds-above edition s i n x in
+      (minimumValue s i, refl, choose-by P paired _ _ (λ a. inr (c, q, l, omega arith, refl)) (λ a. absurd (true-false (sym t ∙ a)))))
+      (λ x. is-right (minimumValue s i) (choose-by R paired _ _ (λ a. (c, λ q l. let k = exceeds-not edition s i n a x q l in omega arith)) (λ a. c)))
+
+  repeat-judged : (b : ℕ) → is s i 20 ≡ true → (d : Decimal) → decimalOf 4294967295 (word s i) ≡ d → Judged (repeatFault edition s i d) (repeatValue s b i ∷ [])
   repeat-judged b o Decimal.NotDigits e = absurd (number-digits s i 4294967295 o e)
   repeat-judged b o Decimal.Over e =
-      let P : Value → Type 0 = λ v. Wrong level s i v (because Over (start s i)) in
-      (repeatValue s b i, refl, choose-by P (is s (i + 1) 3) _ _ (λ c. choose-by P (eqb b 15) _ _ (λ a. inl (e, refl)) (λ a. inl (e, refl))) (λ c. (e, refl)))
+      let P : Value → Type 0 = λ v. Wrong edition level s i v (because Over (start s i)) in (
+        repeatValue s b i,
+        refl,
+        choose-by P (is s (i + 1) 3) _ _ (λ c. choose-by P (eqb b 15) _ _ (λ a. inl (e, refl)) (λ a. inl (e, refl))) (λ c. choose-by P paired _ _ (λ a. inl (e, refl)) (λ a. (e, refl))),
+      )
   repeat-judged b o (Decimal.Is zero) e =
-      let P : Value → Type 0 = λ v. Wrong level s i v (because Zero (start s i)) in
+      let P : Value → Type 0 = λ v. Wrong edition level s i v (because Zero (start s i)) in
+      let R : Value → Type 0 = Right edition level s i in
       let (z, c) = count-is 0 e in
       choose-both (λ (f : Fault) (v : Value). Judged f (v ∷ [])) (is s (i + 1) 3) _ _ _ _
       (λ a. (choose (eqb b 15) (λ u. most (number s i)) (λ u. exact (number s i)), refl, choose-by P (eqb b 15) _ _ (λ a. inr (e, refl)) (λ a. inr (e, refl))))
-      (λ a. is-right (least (number s i)) c)
+      (λ a. is-right (minimumValue s i) (choose-by R paired _ _ (λ a. (c, λ q l. omega arith)) (λ a. c)))
   repeat-judged b o (Decimal.Is (suc n)) e =
       let (z, c) = count-is (suc n) e in
-      is-right (repeatValue s b i)
-      (choose-by (Right level s i) (is s (i + 1) 3) _ _ (λ a. choose-by (Right level s i) (eqb b 15) _ _ (λ a. (c, omega arith)) (λ a. (c, omega arith))) (λ a. c))
+      let R : Value → Type 0 = Right edition level s i in
+      let w = choose (eqb b 15) (λ u. most (number s i)) (λ u. exact (number s i)) in
+      choose-by (λ (v : Value). Judged (aboveFault edition s i (suc n)) (v ∷ [])) (is s (i + 1) 3) _ _
+      (λ a.
+      subst (λ (f : Fault). Judged f (w ∷ [])) (sym (choose-false (exceedsIn edition s i (suc n)) (λ u. At (because Above (start s i))) (λ u. Sound) (alone edition s i (suc n) a)))
+      (is-right w (choose-by R (eqb b 15) _ _ (λ a. (c, omega arith)) (λ a. (c, omega arith)))))
+      (λ a. minimum-judged (suc n) c z)
 
-  number-judged : (b : ℕ) → is s i 20 ≡ true → Judged (numberFault s b i) (numberValue s b i ∷ [])
+  number-judged : (b : ℕ) → is s i 20 ≡ true → Judged (numberFault edition s b i) (numberValue s b i ∷ [])
   number-judged b o =
       choose-both (λ (f : Fault) (v : Value). Judged f (v ∷ [])) (or (eqb b 4) (eqb b 22)) _ _ _ _ (λ a. peek-judged (or-first (is s i 20) (is s i 21) o) (integerOf s i) refl)
       (λ a. repeat-judged b o (decimalOf 4294967295 (word s i)) refl)
 
   -- ---- literals and words
 
-  literal-judged : (w : Value) → (badEscape (literalBytes s i) ≡ Scan.Through → Right level s i w) → ((r : Refusal) → NoCharacter s i r → Wrong level s i w r) → (c : Scan) → badEscape (literalBytes s i) ≡ c
+  literal-judged : (w : Value) → (badEscape (literalBytes s i) ≡ Scan.Through → Right edition level s i w) → ((r : Refusal) → NoCharacter s i r → Wrong edition level s i w r) → (c : Scan) → badEscape (literalBytes s i) ≡ c
       → Judged (literalFault s i c) (w ∷ [])
   literal-judged w f g Scan.Through e = is-right w (f e)
   literal-judged w f g (Scan.StopsAt k) e = (w, refl, g (because NotScalar (start s i + opening s i + k)) (k, e, refl))
@@ -110,14 +138,14 @@ module _ (level : Level) (s : List ℕ) (i : ℕ) where
   abbrev literalPart : Fault
   literalPart = choose (or (is s i 23) (or (is s i 24) (is s i 25))) (λ u. literalFault s i (badEscape (literalBytes s i))) (λ u. Sound)
 
-  literal-here : or (is s i 23) (or (is s i 24) (is s i 25)) ≡ true → (w : Value) → (badEscape (literalBytes s i) ≡ Scan.Through → Right level s i w) → ((r : Refusal) → NoCharacter s i r → Wrong level s i w r)
+  literal-here : or (is s i 23) (or (is s i 24) (is s i 25)) ≡ true → (w : Value) → (badEscape (literalBytes s i) ≡ Scan.Through → Right edition level s i w) → ((r : Refusal) → NoCharacter s i r → Wrong edition level s i w r)
       → Judged literalPart (w ∷ [])
   literal-here o w f g = rw (choose-true (or (is s i 23) (or (is s i 24) (is s i 25))) (λ u. literalFault s i (badEscape (literalBytes s i))) (λ u. Sound) o) (literal-judged w f g (badEscape (literalBytes s i)) refl)
 
   literal-none : or (is s i 23) (or (is s i 24) (is s i 25)) ≡ false → (vs : List Value) → Judged Sound vs → Judged literalPart vs
   literal-none o vs h = rw (choose-false (or (is s i 23) (or (is s i 24) (is s i 25))) (λ u. literalFault s i (badEscape (literalBytes s i))) (λ u. Sound) o) h
 
-  judged : Judged (faultAt level s (kindBefore s i) i) (valueAt s i)
+  judged : Judged (faultAt edition level s (kindBefore s i) i) (valueAt s i)
   unfolding faultAt valueBy is
   judged =
       let k = kind s i in
@@ -141,9 +169,11 @@ module _ (level : Level) (s : List ℕ) (i : ℕ) where
   positive-not n e h (inr (f, q)) = let z : n ≡ 0 = cc in omega arith
 
   -- no value is both
-  right-not-wrong : (v : Value) (r : Refusal) → Right level s i v → Wrong level s i v r → ⊥
+  pub right-not-wrong : (v : Value) (r : Refusal) → Right edition level s i v → Wrong edition level s i v r → ⊥
   right-not-wrong (exact n) r (e, h) w = positive-not n e h w
   right-not-wrong (least n) r e (f, q) = let z : _≡_ {A = ℕ} 0 1 = cc in omega arith
+  right-not-wrong (lower n m) r (e, h) (inl (f, q)) = let z : _≡_ {A = ℕ} 0 1 = cc in omega arith
+  right-not-wrong (lower n m) r (e, h) (inr (f, g, l, k, q)) = omega (arith, h g l)
   right-not-wrong (most n) r (e, h) w = positive-not n e h w
   right-not-wrong (peeked n) r (inl (d, z)) (o, f, q) =
       let k = is-kind s i 22 d in
@@ -155,9 +185,9 @@ module _ (level : Level) (s : List ℕ) (i : ℕ) where
 
 -- ---- a text
 
-module _ (level : Level) (s : List ℕ) where
+module _ (edition : Edition) (level : Level) (s : List ℕ) where
   abbrev faultOf : ℕ → Fault
-  faultOf i = faultAt level s (kindBefore s i) i
+  faultOf i = faultAt edition level s (kindBefore s i) i
 
   -- the first fault among n tokens from an index on
   abbrev First : ℕ → ℕ → Fault → Type 0
@@ -175,33 +205,33 @@ module _ (level : Level) (s : List ℕ) where
       let (j, a, b, f, g) = h in
       (j, omega arith, omega arith, f, λ k c d. here-or i k c (λ q. ap faultOf (sym q) ∙ e) (λ l. g k l d))
 
-  first-is : (n i b : ℕ) → kindBefore s i ≡ b → First i n (faultsFrom level s b i n)
+  first-is : (n i b : ℕ) → kindBefore s i ≡ b → First i n (faultsFrom edition level s b i n)
   unfolding faultsFrom
   first-is zero i b e = λ j a c. absurd (omega arith)
   first-is (suc n) i b e =
-      first-by i n (faultAt level s b i) (ap (λ (x : ℕ). faultAt level s x i) e) (faultsFrom level s (kind s i) (i + 1) n) (first-is n (i + 1) (kind s i) (before-next s i))
+      first-by i n (faultAt edition level s b i) (ap (λ (x : ℕ). faultAt edition level s x i) e) (faultsFrom edition level s (kind s i) (i + 1) n) (first-is n (i + 1) (kind s i) (before-next s i))
 
-  first-fault : (f : Fault) → faults level s ≡ f → First 0 (length (toks s)) f
+  first-fault : (f : Fault) → faults edition level s ≡ f → First 0 (length (toks s)) f
   unfolding faults
   first-fault f e = subst (λ (x : Fault). First 0 (length (toks s)) x) e (first-is (length (toks s)) 0 0 refl)
 
-  right-at : (i : ℕ) → faultOf i ≡ Sound → (v : Value) → valueAt s i ≡ v ∷ [] → Right level s i v
-  right-at i e = subst (λ (f : Fault). Judged level s i f (valueAt s i)) e (judged level s i)
+  right-at : (i : ℕ) → faultOf i ≡ Sound → (v : Value) → valueAt s i ≡ v ∷ [] → Right edition level s i v
+  right-at i e = subst (λ (f : Fault). Judged edition level s i f (valueAt s i)) e (judged edition level s i)
 
   -- where no fault is found, every token's value is what its bytes say, and allowed
-  pub sound-right : faults level s ≡ Sound → RightTo level s (length (toks s))
+  pub sound-right : faults edition level s ≡ Sound → RightTo edition level s (length (toks s))
   sound-right e i h v q = right-at i (first-fault Sound e i (omega arith) (omega arith)) v q
 
   -- and where every value is, none is found
-  pub right-sound : RightTo level s (length (toks s)) → faults level s ≡ Sound
-  right-sound h = go (faults level s) refl
+  pub right-sound : RightTo edition level s (length (toks s)) → faults edition level s ≡ Sound
+  right-sound h = go (faults edition level s) refl
     where
-      go : (f : Fault) → faults level s ≡ f → f ≡ Sound
+      go : (f : Fault) → faults edition level s ≡ f → f ≡ Sound
       go Sound e = refl
       go (At r) e =
           let (i, a, b, f, g) = first-fault (At r) e in
-          let (v, q, w) = subst (λ (f : Fault). Judged level s i f (valueAt s i)) f (judged level s i) in
-          absurd (right-not-wrong level s i v r (h i (omega arith) v q) w)
+          let (v, q, w) = subst (λ (f : Fault). Judged edition level s i f (valueAt s i)) f (judged edition level s i) in
+          absurd (right-not-wrong edition level s i v r (h i (omega arith) v q) w)
 
   token-of : (n : ℕ) (v : Value) → List·Memᴰ v (valuesTo s n) → (i : ℕ) × (i < n) × (valueAt s i ≡ v ∷ [])
   unfolding valuesTo
@@ -212,7 +242,7 @@ module _ (level : Level) (s : List ℕ) where
       (List·Memᴰ·append-cases (valuesTo s n) m)
 
   -- so every value of the trees is what the bytes of a token say, and allowed
-  pub each-right : (us : List (Rule Span)) → grammar level s ≡ rules us → faults level s ≡ Sound → (v : Value) → List·Memᴰ v (rulesValues us) → (i : ℕ) × (valueAt s i ≡ v ∷ []) × Right level s i v
+  pub each-right : (us : List (Rule Span)) → grammar level s ≡ rules us → faults edition level s ≡ Sound → (v : Value) → List·Memᴰ v (rulesValues us) → (i : ℕ) × (valueAt s i ≡ v ∷ []) × Right edition level s i v
   each-right us g e v m =
       let (i, h, q) = token-of (length (toks s)) v (rw (grammar-values level s us g) at m) in
       (i, q, sound-right e i h v q)
@@ -229,10 +259,10 @@ module _ (level : Level) (s : List ℕ) where
       (vs ++ valueAt s n, ap (λ (x : List Value). x ++ valueAt s n) e ∙ append-assoc (valuesTo s i) vs (valueAt s n)))
 
   -- where a fault is given, it is that of the first value of the trees that is wrong
-  pub first-wrong : (us : List (Rule Span)) (r : Refusal) → grammar level s ≡ rules us → faults level s ≡ At r → FirstWrong level s us r
+  pub first-wrong : (us : List (Rule Span)) (r : Refusal) → grammar level s ≡ rules us → faults edition level s ≡ At r → FirstWrong edition level s us r
   first-wrong us r g e =
       let (i, a, b, f, h) = first-fault (At r) e in
-      let (v, q, w) = subst (λ (f : Fault). Judged level s i f (valueAt s i)) f (judged level s i) in
+      let (v, q, w) = subst (λ (f : Fault). Judged edition level s i f (valueAt s i)) f (judged edition level s i) in
       let (vs, z) = values-split (i + 1) (length (toks s)) (omega arith) in
       record {
         at = i;

@@ -24,3 +24,4 @@ pub mod Numerals
 pub mod Fine
 pub mod Judged
 pub mod Fair
+pub mod Editions

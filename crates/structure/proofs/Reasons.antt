@@ -23,16 +23,18 @@ use Rattle.token.specs.Tokens.{pushLiteral}
 use Rattle.table.specs.Tree.{Span, Tree, Rule, plain, startsAt, endsAt}
 use Rattle.table.specs.declared.Join.the-variants.{Seq}
 use Rattle.table.specs.declared.Unary.{Unary}
+use Rattle.structure.specs.declared.Edition.{Edition}
+use Rattle.structure.specs.declared.Edition.the-variants.{First, Second}
 use Rattle.structure.specs.declared.Level.{Level}
 use Rattle.structure.specs.declared.Level.the-variants.{Tagged, Plain}
 use Rattle.structure.specs.declared.Why.{Why}
-use Rattle.structure.specs.declared.Why.the-variants.{NotAllowed, TooDeep, Over, Zero, PeekRange, NotScalar, NotPlain}
+use Rattle.structure.specs.declared.Why.the-variants.{NotAllowed, TooDeep, Over, Zero, PeekRange, NotScalar, NotPlain, Above}
 use Rattle.structure.specs.declared.Refusal.{Refusal}
 use Rattle.structure.specs.declared.Fault.{Fault}
 use Rattle.structure.specs.declared.Fault.the-variants as Fault
 use Rattle.structure.specs.Refusals.{because}
 use Rattle.structure.specs.Tokens.{spells}
-use Rattle.structure.specs.Values.{isInteger, integerOf, literalBytes, repeatFault, peekFault, literalFault, wordFault, numberFault, faultAt, orFault, faultsFrom, faults}
+use Rattle.structure.specs.Values.{isInteger, integerOf, literalBytes, exceeds, aboveFault, repeatFault, peekFault, literalFault, wordFault, numberFault, faultAt, orFault, faultsFrom, faults}
 use Rattle.structure.specs.Structure.{Parsed, got, refused, next, want, opened, Postfix, post, notPost, noPost, fromNumber, fromComma, postfixAt, sliceTo, slice, pushed, ranged, slices, leafAt, postsBy, Call, expr, term, signed, node, chain, posts, body, run, Run, isName, pastMark, pastBar, Ruled, rules, unruled, withRule, Ruling, ruling, noRule, ruleOf, thenRules, ruleFrom, rulesUpTo, docs, grammar}
 
 -- ---- structure: 4 and 9
@@ -183,21 +185,25 @@ module _ (s : List ℕ) where
     pub grammar-why : (r : Refusal) → grammar level s ≡ unruled r → OfStructure (r .why)
     grammar-why r e = rw e at grammar-rules
 
--- ---- values: 5, 6, 7, 8 and 13
+-- ---- values: 5, 6, 7, 8 and 13, and 15 of the second edition
 
-abbrev pub OfValues : Why → Type 0
-OfValues w = (w ≡ Over) ⊎ (w ≡ Zero) ⊎ (w ≡ PeekRange) ⊎ (w ≡ NotScalar) ⊎ (w ≡ NotPlain)
+abbrev pub OfValues : Edition → Why → Type 0
+OfValues edition w = (w ≡ Over) ⊎ (w ≡ Zero) ⊎ (w ≡ PeekRange) ⊎ (w ≡ NotScalar) ⊎ (w ≡ NotPlain) ⊎ ((edition ≡ Second) × (w ≡ Above))
 
-abbrev Valued : Fault → Type 0
-Valued Fault.Sound = Unit {0}
-Valued (Fault.At r) = OfValues (r .why)
+module _ (edition : Edition) (level : Level) (s : List ℕ) where
+  abbrev Valued : Fault → Type 0
+  Valued Fault.Sound = Unit {0}
+  Valued (Fault.At r) = OfValues edition (r .why)
 
-module _ (level : Level) (s : List ℕ) where
-  of-repeat : (i : ℕ) (d : Decimal) → Valued (repeatFault s i d)
+  of-above : (o : Edition) → edition ≡ o → (i n : ℕ) → Valued (aboveFault o s i n)
+  of-above First e i n = tt
+  of-above Second e i n = choose-by Valued (exceeds s i n) _ _ (λ a. inr (inr (inr (inr (inr (e, refl)))))) (λ a. tt)
+
+  of-repeat : (i : ℕ) (d : Decimal) → Valued (repeatFault edition s i d)
   of-repeat i Decimal.NotDigits = tt
   of-repeat i Decimal.Over = inl refl
   of-repeat i (Decimal.Is zero) = choose-by Valued (is s (i + 1) 3) _ _ (λ e. inr (inl refl)) (λ e. tt)
-  of-repeat i (Decimal.Is (suc n)) = tt
+  of-repeat i (Decimal.Is (suc n)) = of-above edition refl i (suc n)
 
   of-peek : (i : ℕ) (d : Decimal) → Valued (peekFault s i d)
   of-peek i (Decimal.Is n) = tt
@@ -210,9 +216,9 @@ module _ (level : Level) (s : List ℕ) where
 
   of-word : (l : Level) (i : ℕ) → Valued (wordFault l s i)
   of-word Tagged i = tt
-  of-word Plain i = choose-by Valued (spells pushLiteral s i) _ _ (λ e. inr (inr (inr (inr refl)))) (λ e. tt)
+  of-word Plain i = choose-by Valued (spells pushLiteral s i) _ _ (λ e. inr (inr (inr (inr (inl refl))))) (λ e. tt)
 
-  of-token : (before i : ℕ) → Valued (faultAt level s before i)
+  of-token : (before i : ℕ) → Valued (faultAt edition level s before i)
   unfolding faultAt
   of-token before i =
       choose-by Valued (is s i 18) _ _ (λ e. of-word level i)
@@ -225,14 +231,14 @@ module _ (level : Level) (s : List ℕ) where
   of-first Fault.Sound g x y = y
   of-first (Fault.At r) g x y = x
 
-  of-tokens : (n before i : ℕ) → Valued (faultsFrom level s before i n)
+  of-tokens : (n before i : ℕ) → Valued (faultsFrom edition level s before i n)
   unfolding faultsFrom
   of-tokens zero before i = tt
-  of-tokens (suc n) before i = of-first (faultAt level s before i) _ (of-token before i) (of-tokens n (kind s i) (i + 1))
+  of-tokens (suc n) before i = of-first (faultAt edition level s before i) _ (of-token before i) (of-tokens n (kind s i) (i + 1))
 
-  of-text : Valued (faults level s)
+  of-text : Valued (faults edition level s)
   unfolding faults
   of-text = of-tokens (length (toks s)) 0 0
 
-  pub faults-why : (r : Refusal) → faults level s ≡ Fault.At r → OfValues (r .why)
+  pub faults-why : (r : Refusal) → faults edition level s ≡ Fault.At r → OfValues edition (r .why)
   faults-why r e = rw e at of-text

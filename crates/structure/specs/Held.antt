@@ -6,7 +6,7 @@ use mathlib.Core.Logic.{_⊎_}
 use mathlib.Core.List.{List, [], _∷_, _++_}
 use lib.Dec.{eqb}
 use lib.ListN.{length}
-use Rattle.text.specs.Booleans.{choose, or}
+use Rattle.text.specs.Booleans.{choose, and, or}
 use Rattle.text.specs.Digits.{decimalOf}
 use Rattle.text.specs.declared.Decimal.the-variants as Decimal
 use Rattle.text.specs.declared.Scan.the-variants as Scan
@@ -20,17 +20,21 @@ use Rattle.table.specs.declared.Sort.the-variants.{Str, Insens, Ident, PushLite
 use Rattle.table.specs.declared.End.{End}
 use Rattle.table.specs.declared.End.the-variants.{Open, At}
 use Rattle.table.specs.Tree.{Span, Atom, text, range, peekSlice, Wrap, plain, nodeTag, Tree, leaf, one, two, Rule}
+use Rattle.structure.specs.declared.Edition.{Edition}
+use Rattle.structure.specs.declared.Edition.the-variants.{Second}
 use Rattle.structure.specs.declared.Level.{Level}
 use Rattle.structure.specs.declared.Level.the-variants.{Tagged, Plain}
 use Rattle.structure.specs.declared.Refusal.{Refusal}
-use Rattle.structure.specs.declared.Why.the-variants.{Over, Zero, PeekRange, NotScalar, NotPlain}
+use Rattle.structure.specs.declared.Why.the-variants.{Over, Zero, PeekRange, NotScalar, NotPlain, Above}
 use Rattle.structure.specs.Refusals.{because}
 use Rattle.structure.specs.Tokens.{spells}
 use Rattle.structure.specs.Values.{number, negated, isInteger, integerOf, integer, opening, literalBytes, string, character}
 
--- an exact count, a minimum, a maximum, a number of a PEEK slice, a character, a string, the word PUSH_LITERAL
+-- an exact count, a minimum without a maximum, a minimum and the maximum behind it, a maximum, a number of a PEEK slice, a character, a string,
+-- the word PUSH_LITERAL
 pub data Value : Type 0 where
   exact least most peeked single : ℕ → Value
+  lower : ℕ → ℕ → Value
   bytes : List ℕ → Value
   pushes : Value
 
@@ -46,7 +50,7 @@ unaryValues RepOnce = []
 unaryValues (RepExact n) = exact n ∷ []
 unaryValues (RepMin n) = least n ∷ []
 unaryValues (RepMax n) = most n ∷ []
-unaryValues (RepMinMax n m) = least n ∷ most m ∷ []
+unaryValues (RepMinMax n m) = lower n m ∷ most m ∷ []
 unaryValues Push = []
 
 -- a tag has none
@@ -90,10 +94,14 @@ abbrev pub kindBefore : List ℕ → ℕ → ℕ
 kindBefore s zero = 0
 kindBefore s (suc i) = kind s i
 
+-- a number that isn't followed by `}`: a minimum, with a maximum if a comma and a number follow
+abbrev pub minimumValue : List ℕ → ℕ → Value
+minimumValue s i = choose (and (is s (i + 1) 15) (is s (i + 2) 20)) (λ u. lower (number s i) (number s (i + 2))) (λ u. least (number s i))
+
 -- a repeat number, by the kind before it: before `}` a maximum if a comma stands before it, else an exact count; elsewhere a minimum
 abbrev pub repeatValue : List ℕ → ℕ → ℕ → Value
 repeatValue s b i =
-    choose (is s (i + 1) 3) (λ u. choose (eqb b 15) (λ u. most (number s i)) (λ u. exact (number s i))) (λ u. least (number s i))
+    choose (is s (i + 1) 3) (λ u. choose (eqb b 15) (λ u. most (number s i)) (λ u. exact (number s i))) (λ u. minimumValue s i)
 
 -- a number after `[` or `..` stands in a PEEK slice
 abbrev pub numberValue : List ℕ → ℕ → ℕ → Value
@@ -134,14 +142,15 @@ Peeks s i n =
     ((is s i 22 ≡ true) × (n ≡ 0)) ⊎ ((m : ℕ) × (integerOf s i ≡ Decimal.Is m) × (n ≡ choose (is s i 21) (λ u. negated m) (λ u. m)))
 
 -- a token's value is what its bytes say, and allowed
-abbrev pub Right : Level → List ℕ → ℕ → Value → Type 0
-Right level s i (exact n) = Counts s i n × (1 ≤ n)
-Right level s i (least n) = Counts s i n
-Right level s i (most n) = Counts s i n × (1 ≤ n)
-Right level s i (peeked n) = Peeks s i n
-Right level s i (single c) = badEscape (literalBytes s i) ≡ Scan.Through
-Right level s i (bytes b) = badEscape (literalBytes s i) ≡ Scan.Through
-Right level s i pushes = level ≡ Tagged
+abbrev pub Right : Edition → Level → List ℕ → ℕ → Value → Type 0
+Right edition level s i (exact n) = Counts s i n × (1 ≤ n)
+Right edition level s i (least n) = Counts s i n
+Right edition level s i (lower n m) = Counts s i n × (edition ≡ Second → 1 ≤ m → n ≤ m)
+Right edition level s i (most n) = Counts s i n × (1 ≤ n)
+Right edition level s i (peeked n) = Peeks s i n
+Right edition level s i (single c) = badEscape (literalBytes s i) ≡ Scan.Through
+Right edition level s i (bytes b) = badEscape (literalBytes s i) ≡ Scan.Through
+Right edition level s i pushes = level ≡ Tagged
 
 -- 5: a token's digits are too large for a repeat number
 abbrev pub TooMany : List ℕ → ℕ → Refusal → Type 0
@@ -151,30 +160,35 @@ TooMany s i r = (decimalOf 4294967295 (word s i) ≡ Decimal.Over) × (r ≡ bec
 abbrev pub NoTimes : List ℕ → ℕ → Refusal → Type 0
 NoTimes s i r = Counts s i 0 × (r ≡ because Zero (start s i))
 
+-- 15: by the second edition, they are above the maximum behind them, which isn't 0
+abbrev pub AboveMost : Edition → List ℕ → ℕ → ℕ → ℕ → Refusal → Type 0
+AboveMost edition s i n m r = Counts s i n × (edition ≡ Second) × (1 ≤ m) × (m < n) × (r ≡ because Above (start s i))
+
 -- 8: an escape of a literal is of no character
 abbrev pub NoCharacter : List ℕ → ℕ → Refusal → Type 0
 NoCharacter s i r = (k : ℕ) × (badEscape (literalBytes s i) ≡ Scan.StopsAt k) × (r ≡ because NotScalar (start s i + opening s i + k))
 
 -- what is wrong with a token's value; 7 is for a PEEK number that doesn't fit, 13 for PUSH_LITERAL
-abbrev pub Wrong : Level → List ℕ → ℕ → Value → Refusal → Type 0
-Wrong level s i (exact n) r = TooMany s i r ⊎ NoTimes s i r
-Wrong level s i (least n) r = TooMany s i r
-Wrong level s i (most n) r = TooMany s i r ⊎ NoTimes s i r
-Wrong level s i (peeked n) r = (isInteger s i ≡ true) × (integerOf s i ≡ Decimal.Over) × (r ≡ because PeekRange (start s i))
-Wrong level s i (single c) r = NoCharacter s i r
-Wrong level s i (bytes b) r = NoCharacter s i r
-Wrong level s i pushes r = (level ≡ Plain) × (r ≡ because NotPlain (start s i))
+abbrev pub Wrong : Edition → Level → List ℕ → ℕ → Value → Refusal → Type 0
+Wrong edition level s i (exact n) r = TooMany s i r ⊎ NoTimes s i r
+Wrong edition level s i (least n) r = TooMany s i r
+Wrong edition level s i (lower n m) r = TooMany s i r ⊎ AboveMost edition s i n m r
+Wrong edition level s i (most n) r = TooMany s i r ⊎ NoTimes s i r
+Wrong edition level s i (peeked n) r = (isInteger s i ≡ true) × (integerOf s i ≡ Decimal.Over) × (r ≡ because PeekRange (start s i))
+Wrong edition level s i (single c) r = NoCharacter s i r
+Wrong edition level s i (bytes b) r = NoCharacter s i r
+Wrong edition level s i pushes r = (level ≡ Plain) × (r ≡ because NotPlain (start s i))
 
 -- the values that tokens before an index have are right
-abbrev pub RightTo : Level → List ℕ → ℕ → Type 0
-RightTo level s n = (i : ℕ) → i < n → (v : Value) → valueAt s i ≡ v ∷ [] → Right level s i v
+abbrev pub RightTo : Edition → Level → List ℕ → ℕ → Type 0
+RightTo edition level s n = (i : ℕ) → i < n → (v : Value) → valueAt s i ≡ v ∷ [] → Right edition level s i v
 
 -- of the values of rules, that of a token is wrong, and all before it are right
-pub record FirstWrong (level : Level) (s : List ℕ) (us : List (Rule Span)) (r : Refusal) : Type 0 where
+pub record FirstWrong (edition : Edition) (level : Level) (s : List ℕ) (us : List (Rule Span)) (r : Refusal) : Type 0 where
   pub at : ℕ
   pub value : Value
   pub behind : List Value
   pub held : rulesValues us ≡ valuesTo s at ++ (value ∷ behind)
   pub token : valueAt s at ≡ value ∷ []
-  pub wrong : Wrong level s at value r
-  pub sooner : RightTo level s at
+  pub wrong : Wrong edition level s at value r
+  pub sooner : RightTo edition level s at

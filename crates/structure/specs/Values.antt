@@ -1,10 +1,10 @@
--- What tokens are worth, and the refusals 5, 6, 7, 8 and 13.
+-- What tokens are worth, and the refusals 5, 6, 7, 8, 13 and 15.
 use Prim.Native.Nat.{ℕ, zero, suc, _+_, _-_}
-use mathlib.Core.Bool.{Bool}
+use mathlib.Core.Bool.{Bool, false}
 use mathlib.Core.List.{List}
-use lib.Dec.{eqb}
+use lib.Dec.{ltb, eqb}
 use lib.ListN.{length}
-use Rattle.text.specs.Booleans.{choose, or}
+use Rattle.text.specs.Booleans.{choose, and, or}
 use Rattle.text.specs.Digits.{decimalOf}
 use Rattle.text.specs.Utf8.{charOf}
 use Rattle.text.specs.declared.Decimal.{Decimal}
@@ -18,11 +18,13 @@ use Rattle.literal.specs.declared.Escape.{Escape}
 use Rattle.literal.specs.declared.Escape.the-variants as Escape
 use Rattle.token.specs.Table.{toks, kind, start, is, trimmed, word}
 use Rattle.token.specs.Tokens.{pushLiteral}
+use Rattle.structure.specs.declared.Edition.{Edition}
+use Rattle.structure.specs.declared.Edition.the-variants.{First, Second}
 use Rattle.structure.specs.declared.Level.{Level}
 use Rattle.structure.specs.declared.Level.the-variants.{Tagged, Plain}
 use Rattle.structure.specs.declared.Fault.{Fault}
 use Rattle.structure.specs.declared.Fault.the-variants.{Sound, At}
-use Rattle.structure.specs.declared.Why.the-variants.{Over, Zero, PeekRange, NotScalar, NotPlain}
+use Rattle.structure.specs.declared.Why.the-variants.{Over, Zero, PeekRange, NotScalar, NotPlain, Above}
 use Rattle.structure.specs.Refusals.{faultBy}
 use Rattle.structure.specs.Tokens.{spells}
 
@@ -74,12 +76,31 @@ charBy Escape.Plain xs = rawChar (charOf xs)
 unfoldable pub character : List ℕ → ℕ → ℕ
 character s i = charBy (escapeOf (literalBytes s i)) (literalBytes s i)
 
--- a repeat number: over 4,294,967,295, or 0 where it is an exact count or a maximum, since `}` follows
-abbrev pub repeatFault : List ℕ → ℕ → Decimal → Fault
-repeatFault s i Decimal.NotDigits = Sound
-repeatFault s i Decimal.Over = faultBy Over (start s i)
-repeatFault s i (Decimal.Is zero) = choose (is s (i + 1) 3) (λ u. faultBy Zero (start s i)) (λ u. Sound)
-repeatFault s i (Decimal.Is (suc n)) = Sound
+-- a count is above a maximum; one that is too large or 0 has a fault of its own
+abbrev pub overMost : ℕ → Decimal → Bool
+overMost n (Decimal.Is m) = and (ltb 0 m) (ltb m n)
+overMost n Decimal.Over = false
+overMost n Decimal.NotDigits = false
+
+-- a count is above the maximum that a comma and a number say behind it
+abbrev pub exceeds : List ℕ → ℕ → ℕ → Bool
+exceeds s i n = and (is s (i + 1) 15) (and (is s (i + 2) 20) (overMost n (decimalOf 4294967295 (word s (i + 2)))))
+
+-- as an edition asks it
+abbrev pub exceedsIn : Edition → List ℕ → ℕ → ℕ → Bool
+exceedsIn First s i n = false
+exceedsIn Second s i n = exceeds s i n
+
+-- a count that isn't 0, at a minimum's place
+abbrev pub aboveFault : Edition → List ℕ → ℕ → ℕ → Fault
+aboveFault edition s i n = choose (exceedsIn edition s i n) (λ u. faultBy Above (start s i)) (λ u. Sound)
+
+-- a repeat number: over 4,294,967,295, or 0 where it is an exact count or a maximum, since `}` follows, or above its maximum
+abbrev pub repeatFault : Edition → List ℕ → ℕ → Decimal → Fault
+repeatFault edition s i Decimal.NotDigits = Sound
+repeatFault edition s i Decimal.Over = faultBy Over (start s i)
+repeatFault edition s i (Decimal.Is zero) = choose (is s (i + 1) 3) (λ u. faultBy Zero (start s i)) (λ u. Sound)
+repeatFault edition s i (Decimal.Is (suc n)) = aboveFault edition s i (suc n)
 
 -- a PEEK number outside i32
 abbrev pub peekFault : List ℕ → ℕ → Decimal → Fault
@@ -98,15 +119,15 @@ wordFault Tagged s i = Sound
 wordFault Plain s i = choose (spells pushLiteral s i) (λ u. faultBy NotPlain (start s i)) (λ u. Sound)
 
 -- a number after `[` or `..` stands in a PEEK slice
-abbrev pub numberFault : List ℕ → ℕ → ℕ → Fault
-numberFault s before i =
-    choose (or (eqb before 4) (eqb before 22)) (λ u. peekFault s i (integerOf s i)) (λ u. repeatFault s i (decimalOf 4294967295 (word s i)))
+abbrev pub numberFault : Edition → List ℕ → ℕ → ℕ → Fault
+numberFault edition s before i =
+    choose (or (eqb before 4) (eqb before 22)) (λ u. peekFault s i (integerOf s i)) (λ u. repeatFault edition s i (decimalOf 4294967295 (word s i)))
 
 -- what is wrong with the value of a token, by its kind and that of the token before it
-unfoldable pub faultAt : Level → List ℕ → ℕ → ℕ → Fault
-faultAt level s before i =
+unfoldable pub faultAt : Edition → Level → List ℕ → ℕ → ℕ → Fault
+faultAt edition level s before i =
     choose (is s i 18) (λ u. wordFault level s i)
-    (λ u. choose (is s i 20) (λ u. numberFault s before i)
+    (λ u. choose (is s i 20) (λ u. numberFault edition s before i)
     (λ u. choose (is s i 21) (λ u. peekFault s i (integerOf s i))
     (λ u. choose (or (is s i 23) (or (is s i 24) (is s i 25))) (λ u. literalFault s i (badEscape (literalBytes s i))) (λ u. Sound))))
 
@@ -115,10 +136,10 @@ orFault Sound f = f tt
 orFault (At r) f = At r
 
 -- the first fault among n tokens from an index on, the one before them being of a kind
-unfoldable pub faultsFrom : Level → List ℕ → ℕ → ℕ → ℕ → Fault
-faultsFrom level s before i zero = Sound
-faultsFrom level s before i (suc n) = orFault (faultAt level s before i) (λ u. faultsFrom level s (kind s i) (i + 1) n)
+unfoldable pub faultsFrom : Edition → Level → List ℕ → ℕ → ℕ → ℕ → Fault
+faultsFrom edition level s before i zero = Sound
+faultsFrom edition level s before i (suc n) = orFault (faultAt edition level s before i) (λ u. faultsFrom edition level s (kind s i) (i + 1) n)
 
 -- the first fault of a text, from the left
-unfoldable pub faults : Level → List ℕ → Fault
-faults level s = faultsFrom level s 0 0 (length (toks s))
+unfoldable pub faults : Edition → Level → List ℕ → Fault
+faults edition level s = faultsFrom edition level s 0 0 (length (toks s))

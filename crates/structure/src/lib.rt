@@ -10,6 +10,12 @@ pub enum Level {
     Plain,
 }
 
+// First: a minimum may be above its maximum. Second: it may not.
+pub enum Edition {
+    First,
+    Second,
+}
+
 // Why a text is refused. The reader gives each reason its number.
 pub enum Why {
     TooLong,
@@ -22,6 +28,7 @@ pub enum Why {
     PeekRange,
     NotScalar,
     NotPlain,
+    Above,
     RulesRoom,
     NodesRoom,
     StoreRoom,

@@ -59,7 +59,9 @@ use Rattle.rows.proofs.whole_lines as WholeLines
 use Rattle.rows.proofs.token_lines as TokenLines
 use Rattle.show.proofs.desk as Desk
 use Rattle.show.proofs.read_layout as ReadLayout
+use Rattle.exports.proofs.read_by as ReadBy
 use Rattle.exports.proofs.flascjuvan_read as FlascjuvanRead
+use Rattle.exports.proofs.flascjuvan_read_edition as FlascjuvanReadEdition
 use Rattle.exports.proofs.print_styled as PrintStyled
 use Rattle.exports.proofs.flascjuvan_print as FlascjuvanPrint
 use Rattle.exports.proofs.flascjuvan_print_short as FlascjuvanPrintShort
@@ -236,10 +238,10 @@ printer-number-of κs a x y v w h k = (cc, λ i. v)
 
 pub read : Decides Read.ended Read.Reads.Learnt
 read κs a x y v w h k =
-    let o : v .1 .1 .0 ≡ w .1 .1 .0 = cc in
-    let p : v .1 .1 .1 .0 ≡ w .1 .1 .1 .0 = cc in
-    let q : v .1 .1 .1 .1 .0 ≡ w .1 .1 .1 .1 .0 = cc in
-    (cc, λ i. (tt, (tt, (o i, (p i, (q i, tt))))))
+    let o : v .1 .1 .1 .0 ≡ w .1 .1 .1 .0 = cc in
+    let p : v .1 .1 .1 .1 .0 ≡ w .1 .1 .1 .1 .0 = cc in
+    let q : v .1 .1 .1 .1 .1 .0 ≡ w .1 .1 .1 .1 .1 .0 = cc in
+    (cc, λ i. (tt, (tt, (tt, (o i, (p i, (q i, tt)))))))
 
 pub reader-number-of : Decides ReaderNumber.ended ReaderNumber.Reads.Learnt
 reader-number-of κs a x y v w h k = (cc, λ i. v)
@@ -248,11 +250,11 @@ reader-number-of κs a x y v w h k = (cc, λ i. v)
 
 pub pass : Decides Pass.ended Pass.Reads.Learnt
 pass κs a x y v w h k =
-    let o : v .1 .1 .1 .1 .1 .0 ≡ w .1 .1 .1 .1 .1 .0 = cc in
-    let p : v .1 .1 .1 .1 .1 .1 .0 ≡ w .1 .1 .1 .1 .1 .1 .0 = cc in
-    let q : v .1 .1 .1 .1 .1 .1 .1 .0 ≡ w .1 .1 .1 .1 .1 .1 .1 .0 = cc in
-    let r : v .1 .1 .1 .1 .1 .1 .1 .1 .0 ≡ w .1 .1 .1 .1 .1 .1 .1 .1 .0 = cc in
-    (cc, λ i. (tt, (tt, (tt, (tt, (tt, (o i, (p i, (q i, (r i, tt))))))))))
+    let o : v .1 .1 .1 .1 .1 .1 .0 ≡ w .1 .1 .1 .1 .1 .1 .0 = cc in
+    let p : v .1 .1 .1 .1 .1 .1 .1 .0 ≡ w .1 .1 .1 .1 .1 .1 .1 .0 = cc in
+    let q : v .1 .1 .1 .1 .1 .1 .1 .1 .0 ≡ w .1 .1 .1 .1 .1 .1 .1 .1 .0 = cc in
+    let r : v .1 .1 .1 .1 .1 .1 .1 .1 .1 .0 ≡ w .1 .1 .1 .1 .1 .1 .1 .1 .1 .0 = cc in
+    (cc, λ i. (tt, (tt, (tt, (tt, (tt, (tt, (o i, (p i, (q i, (r i, tt)))))))))))
 
 -- ---- rows
 
@@ -295,6 +297,14 @@ read-layout κs a x y v w h k =
 
 -- ---- exports
 
+pub read-by : Decides ReadBy.ended ReadBy.Reads.Learnt
+read-by κs a x y v w h k =
+    let o : v .1 .1 .1 .0 ≡ w .1 .1 .1 .0 = cc in
+    let p : v .1 .1 .1 .1 .0 ≡ w .1 .1 .1 .1 .0 = cc in
+    let q : v .1 .1 .1 .1 .1 .0 ≡ w .1 .1 .1 .1 .1 .0 = cc in
+    let r : v .1 .1 .1 .1 .1 .1 .0 ≡ w .1 .1 .1 .1 .1 .1 .0 = cc in
+    (λ i. tt, λ i. (tt, (tt, (tt, (o i, (p i, (q i, (r i, tt))))))))
+
 pub flascjuvan-read : Decides FlascjuvanRead.ended FlascjuvanRead.Reads.Learnt
 flascjuvan-read κs a x y v w h k =
     let o : v .1 .1 .0 ≡ w .1 .1 .0 = cc in
@@ -302,6 +312,14 @@ flascjuvan-read κs a x y v w h k =
     let q : v .1 .1 .1 .1 .0 ≡ w .1 .1 .1 .1 .0 = cc in
     let r : v .1 .1 .1 .1 .1 .0 ≡ w .1 .1 .1 .1 .1 .0 = cc in
     (λ i. tt, λ i. (tt, (tt, (o i, (p i, (q i, (r i, tt)))))))
+
+pub flascjuvan-read-edition : Decides FlascjuvanReadEdition.ended FlascjuvanReadEdition.Reads.Learnt
+flascjuvan-read-edition κs a x y v w h k =
+    let o : v .1 .1 .1 .0 ≡ w .1 .1 .1 .0 = cc in
+    let p : v .1 .1 .1 .1 .0 ≡ w .1 .1 .1 .1 .0 = cc in
+    let q : v .1 .1 .1 .1 .1 .0 ≡ w .1 .1 .1 .1 .1 .0 = cc in
+    let r : v .1 .1 .1 .1 .1 .1 .0 ≡ w .1 .1 .1 .1 .1 .1 .0 = cc in
+    (λ i. tt, λ i. (tt, (tt, (tt, (o i, (p i, (q i, (r i, tt))))))))
 
 pub print-styled : Decides PrintStyled.ended PrintStyled.Reads.Learnt
 print-styled κs a x y v w h k =

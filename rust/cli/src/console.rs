@@ -30,7 +30,7 @@ pub struct Console {
     /// for what is written to standard output
     pub paint: Paint,
     /// for what is written to standard error
-    err_paint: Paint,
+    pub err_paint: Paint,
     closed: bool,
 }
 

@@ -4,7 +4,7 @@ use std::fs::File;
 use std::io::{self, ErrorKind, Read};
 use std::path::{Path, PathBuf};
 
-use flascjuvan::{Level, Refusal, MAX_TEXT};
+use flascjuvan::{Edition, Level, Refusal, MAX_TEXT};
 
 use crate::closed::stdin_is_open;
 use crate::console::{complain, Answer, Console, Status};
@@ -33,6 +33,40 @@ impl Plain {
             Level::Plain
         } else {
             Level::Tagged
+        }
+    }
+}
+
+/// The edition to read by.
+#[derive(clap::Args)]
+pub struct By {
+    /// Read by this edition of the rules for layouts, 1 or 2; without it by 1, as the desk does
+    #[arg(long, value_name = "N", value_parser = edition_of)]
+    edition: Option<Edition>,
+}
+
+fn edition_of(word: &str) -> Result<Edition, String> {
+    match word {
+        "1" => Ok(Edition::First),
+        "2" => Ok(Edition::Second),
+        _ => Err("the editions are 1 and 2".to_owned()),
+    }
+}
+
+impl By {
+    pub fn edition(&self) -> Edition {
+        self.edition.unwrap_or_default()
+    }
+
+    pub fn is_named(&self) -> bool {
+        self.edition.is_some()
+    }
+
+    /// Says by which edition texts are read, if one was named.
+    pub fn say(&self, console: &mut Console) -> io::Result<()> {
+        match self.edition {
+            Some(edition) => console.write(&format!("read by edition {edition}\n")),
+            None => Ok(()),
         }
     }
 }

@@ -23,6 +23,16 @@ pub fn shown_at(text: &Text, place: usize, reason: Reason, said: &str, paint: Pa
     head(text, place, reason, said, paint) + &quote(&text.bytes, place, paint)
 }
 
+/// A text that the first edition reads and the second refuses: which of them read it, and what the
+/// other says.
+pub fn shown_of_second(text: &Text, refusal: Refusal, paint: Paint) -> String {
+    let at = flascjuvan::line_column(&text.bytes, refusal.place);
+    let place = paint.bold(&format!("{}:{at}:", text.name));
+    let number = number(refusal.reason, paint);
+    let said = format!("read by edition 1; by edition 2 {number} {}", refusal.meaning());
+    format!("{place} {said}\n{}", quote(&text.bytes, refusal.place, paint))
+}
+
 fn head(text: &Text, place: usize, reason: Reason, said: &str, paint: Paint) -> String {
     let at = flascjuvan::line_column(&text.bytes, place);
     let place = paint.bold(&format!("{}:{at}:", text.name));

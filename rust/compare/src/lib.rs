@@ -21,12 +21,21 @@ pub mod random_trees;
 use std::collections::BTreeMap;
 
 use oracle::Tables;
-use second::read::Used;
+use second::read::{Edition, Used};
 use second::{Refusal, NODE_RECORD, RULE_RECORD};
 
-/// What the second program reads, all the room in the world being there.
+/// What the second program reads by the first edition, all the room in the world being there.
 pub fn second_reads(text: &[u8], tagged: bool) -> Result<Tables, Refusal> {
-    let made = second::read::tables(text, tagged)?;
+    second_reads_edition(text, tagged, Edition::First)
+}
+
+/// What it reads by an edition.
+pub fn second_reads_edition(
+    text: &[u8],
+    tagged: bool,
+    edition: Edition,
+) -> Result<Tables, Refusal> {
+    let made = second::read::tables_edition(text, tagged, edition)?;
     Ok(Tables { nodes: made.nodes, rules: made.rules, store: made.store })
 }
 

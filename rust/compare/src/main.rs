@@ -7,10 +7,13 @@ use std::time::Instant;
 
 use compare::texts::Source;
 use compare::{
-    argument, characters, on_stack, printing, quiet_panics, second_reads, texts, used, Tally,
+    argument, characters, on_stack, printing, quiet_panics, second_reads, second_reads_edition,
+    texts, used, Tally,
 };
 use oracle::{Answer, Tables};
-use second::token::{Next, BAR};
+use second::read::Edition;
+use second::token::{Next, Token, BAR, COMMA, NUMBER, OPEN_BRACE};
+use second::{Refusal, NODE_RECORD};
 
 /// Where pest's own rule for comments ends the comment at `place`.
 fn pest_comment(text: &[u8], place: usize, fuel: &mut u32) -> Option<usize> {
@@ -162,7 +165,7 @@ fn place_class_of_3(text: &[u8], at: usize, place: usize) -> &'static str {
 }
 
 /// How the Rust's place of a refusal stands to ours.
-fn place_class(text: &[u8], ours: second::Refusal, place: usize) -> &'static str {
+fn place_class(text: &[u8], ours: Refusal, place: usize) -> &'static str {
     let at = ours.place as usize;
     if ours.number == 3 {
         return place_class_of_3(text, at, place);
@@ -187,6 +190,71 @@ fn place_class(text: &[u8], ours: second::Refusal, place: usize) -> &'static str
     }
 }
 
+/// The leftmost of the pairs of good numbers whose minimum is above its maximum: where that is, told
+/// from the digits.
+fn above_maximum(text: &[u8]) -> Option<usize> {
+    let (mut tokens, mut next) = (Vec::new(), 0);
+    while let Next::Token(token) = second::token::next(text, next) {
+        next = token.end as usize;
+        tokens.push(token);
+    }
+    let digits = |token: &Token| {
+        let digits = &text[token.start as usize..token.end as usize];
+        let zeros = digits.iter().take_while(|digit| **digit == b'0').count();
+        (digits.len() - zeros, digits[zeros..].to_vec())
+    };
+    let largest = (10, b"4294967295".to_vec());
+    let found = tokens.windows(4).find(|some| {
+        if !some.iter().map(|token| token.kind).eq([OPEN_BRACE, NUMBER, COMMA, NUMBER]) {
+            return false;
+        }
+        let (least, most) = (digits(&some[1]), digits(&some[3]));
+        least <= largest && most.0 > 0 && most < least
+    });
+    found.map(|some| some[1].start as usize)
+}
+
+/// Holds the second edition to the first, which is held to the Rust: 15 comes at the leftmost minimum
+/// above its maximum unless another fault of a value is further left, and nothing else is different.
+fn hold_edition(
+    text: &[u8],
+    tagged: bool,
+    first: &Result<Tables, Refusal>,
+    ways: &mut Tally,
+    faults: &mut Tally,
+) {
+    let level = if tagged { "tagged" } else { "plain" };
+    let above = above_maximum(text).map(|place| Refusal { number: 15, place: place as u64 });
+    let wanted = match (first, above) {
+        (Ok(_), Some(above)) => Err(above),
+        (Err(other), Some(above)) if is_of_value(other.number) && above.place < other.place => {
+            Err(above)
+        }
+        _ => first.clone(),
+    };
+    let second = second_reads_edition(text, tagged, Edition::Second);
+    if second != wanted {
+        faults.add(format!("{level}: THE SECOND EDITION: {second:?} for {wanted:?}"), text);
+    }
+    let in_tree = |made: &Tables| {
+        made.nodes.chunks_exact(NODE_RECORD).any(|node| node[0] == 16 && node[4] > node[5])
+    };
+    if first.as_ref().is_ok_and(in_tree) != (first.is_ok() && second.is_err()) {
+        faults.add(format!("{level}: THE SECOND EDITION AND THE TREE"), text);
+    }
+    let number =
+        |answer: &Result<Tables, Refusal>| answer.as_ref().map_or_else(|e| e.number, |_| 0);
+    if second != *first {
+        let (first, second) = (number(first), number(&second));
+        ways.add(format!("{level}: first edition {first}, second {second}"), text);
+    }
+}
+
+/// Numbers of which the leftmost is given, when tokens and structure are good.
+fn is_of_value(number: u64) -> bool {
+    matches!(number, 5 | 6 | 7 | 8 | 13)
+}
+
 /// Holds the given files of 2.9.5 against the second program, at one level.
 fn hold(text: &str, tagged: bool, ways: &mut Tally, faults: &mut Tally) -> &'static str {
     let level = if tagged { "tagged" } else { "plain" };
@@ -195,6 +263,7 @@ fn hold(text: &str, tagged: bool, ways: &mut Tally, faults: &mut Tally) -> &'sta
     let rust = oracle::read(text, tagged);
     let rust_label = label(&rust);
     let ours = second_reads(bytes, tagged);
+    hold_edition(bytes, tagged, &ours, ways, faults);
     // With all the room in the world, the limits stay.
     let number = match &ours {
         Ok(made) => {
@@ -346,10 +415,11 @@ fn compare_characters(scale: usize) -> bool {
 /// The parts that want the product's library.
 #[cfg(feature = "product")]
 mod linked {
-    use super::{characters, texts, used, Source, Tables};
+    use super::{characters, texts, used, Edition, Source, Tables};
     use compare::printing::Style;
-    use compare::{product, tables, Random};
-    use second::arrive;
+    use compare::product::By;
+    use compare::{product, second_reads_edition, shown, tables, Random};
+    use second::{arrive, pairs};
 
     pub use compare::matching::compare as matcher;
 
@@ -378,8 +448,15 @@ mod linked {
             crlf += u64::from(text.windows(2).any(|two| two == b"\r\n"));
             cr += u64::from(text.windows(2).any(|two| two[0] == b'\r' && two[1] != b'\n'));
             let few = source == Source::Exhaustive && !random.one_in(8);
-            differences.note(product::check_read(text, true, few, &mut reads));
-            differences.note(product::check_read(text, false, few, &mut reads));
+            // Where an edition matters most, every way to name one; else one way more.
+            let mut ways = vec![By::Read, random.of(&By::EACH)];
+            if matches!(source, Source::Corner | Source::Limit | Source::Pairs) {
+                ways = By::EACH.to_vec();
+            }
+            for by in ways {
+                differences.note(product::check_read(text, true, by, few, &mut reads));
+                differences.note(product::check_read(text, false, by, few, &mut reads));
+            }
             broken += u64::from(source == Source::Broken);
             if text.len() < 12 || source == Source::Broken {
                 for at in 0..text.len() + 2 {
@@ -394,6 +471,56 @@ mod linked {
         println!("\nproduct and second program: {count} texts, {broken} of them around a broken literal: {reads} readings, {listed} calls of the lister, {} different", differences.0);
         println!("line ends: {lf} texts have an LF, {crlf} a CR in front of one, {cr} a CR in front of another byte");
         differences.0 == 0
+    }
+
+    /// Both editions over texts rich in pairs: the product and the second program, and the second
+    /// program and what was known while the text was made.
+    pub fn editions(seed: u64, scale: usize) -> bool {
+        let mut random = Random(seed ^ 0xed17);
+        let mut differences = Differences::default();
+        let (mut count, mut comments, mut zeros, mut reads) = (0u64, 0u64, 0u64, 0u64);
+        let (mut orders, mut faults) = ([0u64; 3], [0u64; 16]);
+        // by level (plain, tagged) and edition
+        let mut by_number = [[[0u64; 16]; 2]; 2];
+        for _ in 0..10_000 * scale {
+            let made = pairs::text(&mut |n| random.below(n));
+            count += 1;
+            comments += u64::from(made.text.contains(&b'/'));
+            zeros += made.zeros;
+            orders.iter_mut().zip(made.pairs).for_each(|(sum, more)| *sum += more);
+            made.faults.iter().for_each(|(number, _)| faults[*number as usize] += 1);
+            for tagged in [true, false] {
+                for edition in [Edition::First, Edition::Second] {
+                    let due = made.refusal(tagged, edition);
+                    let found = second_reads_edition(&made.text, tagged, edition).err();
+                    if found != due {
+                        let what = format!("{edition:?}, tagged {tagged}: {found:?} for {due:?}");
+                        differences.note(Err(format!("{what}: {}", shown(&made.text))));
+                    }
+                    let number = due.map_or(0, |refusal| refusal.number);
+                    by_number[usize::from(tagged)][edition as usize][number as usize] += 1;
+                }
+                for by in By::EACH {
+                    differences
+                        .note(product::check_read(&made.text, tagged, by, false, &mut reads));
+                }
+            }
+        }
+        println!("\nproduct and second program, both editions: {count} texts rich in pairs, {reads} readings, {} different", differences.0);
+        println!("pairs of good numbers: {} below, {} equal, {} above; {zeros} numbers with leading zeros; {comments} texts with comments", orders[0], orders[1], orders[2]);
+        println!("faults that were built in: {}", numbered(&faults));
+        for (tagged, level) in ["plain", "tagged"].iter().enumerate() {
+            for (edition, answers) in by_number[tagged].iter().enumerate() {
+                println!("answers, {level}, edition {}: {}", edition + 1, numbered(answers));
+            }
+        }
+        differences.0 == 0
+    }
+
+    /// How often each number comes, of those that do.
+    fn numbered(counts: &[u64]) -> String {
+        let some = counts.iter().enumerate().filter(|(_, count)| **count > 0);
+        some.map(|(number, count)| format!("{number}: {count}")).collect::<Vec<_>>().join(", ")
     }
 
     /// Tokens as they arrive: short texts, texts around a broken literal, some in long packets, and long ones, cut at random.
@@ -453,6 +580,10 @@ mod linked {
         is_not("reader")
     }
 
+    pub fn editions(_: u64, _: usize) -> bool {
+        is_not("editions")
+    }
+
     pub fn stream(_: u64, _: usize) -> bool {
         is_not("stream")
     }
@@ -473,12 +604,13 @@ fn main() {
     let (seed, scale) = (argument("--seed", 1), argument("--scale", 100) as usize);
     println!("seed {seed}, scale {scale} of 100");
     quiet_panics();
-    let parts: [(&str, usize, Part); 7] = [
+    let parts: [(&str, usize, Part); 8] = [
         ("texts", 4 << 30, Box::new(move || compare_texts(seed, scale))),
         ("tables", 1 << 30, Box::new(move || printing::compare(seed, scale))),
         ("characters", 8 << 20, Box::new(move || compare_characters(scale))),
         // The product gets the stack that a program has.
         ("reader", 8 << 20, Box::new(move || linked::reader(seed, scale))),
+        ("editions", 8 << 20, Box::new(move || linked::editions(seed, scale))),
         ("stream", 8 << 20, Box::new(move || linked::stream(seed, scale))),
         ("printer", 8 << 20, Box::new(move || linked::printer(seed, scale))),
         ("matcher", 8 << 20, Box::new(move || linked::matcher(seed, scale))),

@@ -3,11 +3,12 @@
 use oracle::{Answer, Tables};
 use second::brackets::{depth, pairs, without};
 use second::print::{print, print_short};
+use second::read::Edition;
 use second::{Refusal, BYTES, OPEN};
 
 use crate::characters::is_in_domain;
 use crate::trees::{self, Rule, Tree};
-use crate::{second_reads, tables, used, Tally};
+use crate::{second_reads, second_reads_edition, tables, used, Tally};
 
 /// The printer's two texts.
 #[derive(Clone, Copy, Debug, PartialEq, Eq)]
@@ -61,7 +62,7 @@ pub fn without_pairs(text: &[u8]) -> impl Iterator<Item = Vec<u8>> + '_ {
 }
 
 /// The numbers of which a reader gives one for a printed text; where there are none, it reads it.
-fn refusals(rules: &[Rule], text: &[u8], tagged: bool) -> Vec<u64> {
+fn refusals(rules: &[Rule], text: &[u8], tagged: bool, edition: Edition) -> Vec<u64> {
     if text.len() > BYTES {
         return vec![1];
     }
@@ -78,6 +79,9 @@ fn refusals(rules: &[Rule], text: &[u8], tagged: bool) -> Vec<u64> {
     }
     if !tagged && any(trees::has_push_literal) {
         numbers.push(13);
+    }
+    if edition == Edition::Second && any(trees::has_above) {
+        numbers.push(15);
     }
     numbers
 }
@@ -132,21 +136,24 @@ impl Printing {
     /// Reads a text again: it must be these rules. There is `more` to a small tree's short text.
     fn back(&mut self, style: Style, tagged: bool, rules: &[Rule], text: &[u8], more: bool) {
         let name = format!("{style:?}, {}", if tagged { "tagged" } else { "plain" });
-        let refusals = refusals(rules, text, tagged);
         let wanted = trees::tables(rules);
-        match second_reads(text, tagged).map(Tables::without_spans) {
-            Ok(read) if refusals.is_empty() && read == wanted => {
-                self.answers.add(format!("{name}: back"), text);
+        for (edition, by) in [(Edition::First, "back"), (Edition::Second, "back by edition 2")] {
+            let refusals = refusals(rules, text, tagged, edition);
+            match second_reads_edition(text, tagged, edition).map(Tables::without_spans) {
+                Ok(read) if refusals.is_empty() && read == wanted => {
+                    self.answers.add(format!("{name}: {by}"), text);
+                }
+                Err(Refusal { number, .. }) if refusals.contains(&number) => {
+                    self.answers.add(format!("{name}: {by}: {number}"), text);
+                }
+                _ => self.faults.add(format!("{name}: NOT {by}"), text),
             }
-            Err(Refusal { number, .. }) if refusals.contains(&number) => {
-                self.answers.add(format!("{name}: back: {number}"), text);
-            }
-            _ => self.faults.add(format!("{name}: NOT BACK"), text),
         }
         if !more {
             return;
         }
-        let wanted = Some(&wanted).filter(|_| refusals.is_empty());
+        let is_read = refusals(rules, text, tagged, Edition::First).is_empty();
+        let wanted = Some(&wanted).filter(|_| is_read);
         self.rust(&name, tagged, wanted, text);
         if let (true, Some(wanted)) = (tagged, wanted) {
             self.needed(wanted, text);

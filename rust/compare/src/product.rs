@@ -2,10 +2,10 @@
 
 use crate::printing::{is_small, without_pairs, Style};
 use crate::shown;
-use flascjuvan::raw::{feed, feed_end, next_token, print_short};
+use flascjuvan::raw::{feed, feed_end, next_token, print_short, read_edition};
 use oracle::Tables;
 use second::arrive::Arrival;
-use second::read::Used;
+use second::read::{Edition, Used};
 use second::stream::Feed;
 use second::{read, Refusal, NODE_RECORD, RULE_RECORD};
 
@@ -81,9 +81,41 @@ fn rooms(used: Used) -> Vec<Room> {
     rooms
 }
 
-/// The reader, at one level, over all rooms worth trying. `few` tries one room.
-pub fn check_read(text: &[u8], tagged: bool, few: bool, calls: &mut u64) -> Result<(), Difference> {
-    let tables = read::tables(text, tagged);
+/// How a caller names the edition: by calling `flascjuvan_read`, or by a number.
+#[derive(Clone, Copy, Debug, PartialEq, Eq)]
+pub enum By {
+    Read,
+    Number(u32),
+}
+
+impl By {
+    /// Every sort of number.
+    pub const EACH: [By; 6] = [
+        By::Read,
+        By::Number(0),
+        By::Number(1),
+        By::Number(2),
+        By::Number(3),
+        By::Number(u32::MAX),
+    ];
+
+    fn edition(self) -> Edition {
+        match self {
+            By::Read | By::Number(0 | 1) => Edition::First,
+            By::Number(_) => Edition::Second,
+        }
+    }
+}
+
+/// The reader, at one level and edition, over all rooms worth trying. `few` tries one room.
+pub fn check_read(
+    text: &[u8],
+    tagged: bool,
+    by: By,
+    few: bool,
+    calls: &mut u64,
+) -> Result<(), Difference> {
+    let tables = read::tables_edition(text, tagged, by.edition());
     let used = match &tables {
         Ok(tables) => tables.used(),
         Err(_) => Used { nodes: 3, rules: 2, store: 9 },
@@ -96,7 +128,11 @@ pub fn check_read(text: &[u8], tagged: bool, few: bool, calls: &mut u64) -> Resu
         let mut nodes = Lent::new(n, NUMBER);
         let mut rules = Lent::new(r, NUMBER);
         let mut store = Lent::new(s, BYTE);
-        let answer = read_into(text, tagged, nodes.lent(), rules.lent(), store.lent());
+        let lent = (nodes.lent(), rules.lent(), store.lent());
+        let answer = match by {
+            By::Read => read_into(text, tagged, lent.0, lent.1, lent.2),
+            By::Number(edition) => read_edition(text, tagged, edition, lent.0, lent.1, lent.2),
+        };
         *calls += 1;
         let wanted = tables
             .as_ref()
@@ -119,7 +155,7 @@ pub fn check_read(text: &[u8], tagged: bool, few: bool, calls: &mut u64) -> Resu
         if !good {
             let wanted = wanted.map(|_| used);
             return Err(format!(
-                "read, tagged {tagged}, room {n} {r} {s}: {answer:?} for {wanted:?}: {}",
+                "{by:?}, tagged {tagged}, room {n} {r} {s}: {answer:?} for {wanted:?}: {}",
                 shown(text)
             ));
         }
@@ -181,13 +217,13 @@ pub fn check_print(style: Style, tables: &Tables, calls: &mut u64) -> Result<(),
 /// each pair of its brackets too.
 pub fn check_short(tables: &Tables, calls: &mut u64) -> Result<(), Difference> {
     let Ok(text) = Style::Short.print(tables) else { return Ok(()) };
-    check_read(&text, true, true, calls)?;
-    check_read(&text, false, true, calls)?;
+    check_read(&text, true, By::Read, true, calls)?;
+    check_read(&text, false, By::Read, true, calls)?;
     if !is_small(tables) {
         return Ok(());
     }
     for less in without_pairs(&text) {
-        check_read(&less, true, true, calls)?;
+        check_read(&less, true, By::Read, true, calls)?;
     }
     Ok(())
 }

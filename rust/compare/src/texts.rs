@@ -1,5 +1,5 @@
 //! Texts: all short ones over small alphabets, random good ones, damaged ones, token soup, broken
-//! literals, and those at the limits.
+//! literals, pairs of numbers, and those at the limits.
 
 use crate::Random;
 
@@ -13,6 +13,7 @@ pub enum Source {
     Soup,
     Broken,
     Long,
+    Pairs,
     Limit,
 }
 
@@ -458,7 +459,7 @@ pub fn soup(random: &mut Random) -> Vec<u8> {
 }
 
 /// Small texts that a rule, a reading or a known difference names.
-pub const CORNERS: [&str; 124] = [
+pub const CORNERS: [&str; 136] = [
     "a = { b ~ c | \"x\"* }",
     "a={b~c~d}",
     "a={b~(c~d)}",
@@ -583,6 +584,18 @@ pub const CORNERS: [&str; 124] = [
     "r={(\na~b)}",
     "r={\r\n!\n a ~ b}",
     "r={#t\n=\n\"x\ny\"~b}",
+    "r={a{2,1}}",
+    "r={a{2,2}}",
+    "r={a{03,2}}",
+    "r={a{2,02}}",
+    "r={a{5, 0}}",
+    "r={a{4294967296, 1}}",
+    "r={a{4294967295,4294967294}}",
+    "r={a{3,2}{0}}",
+    "r={a{0}{3,2}}",
+    "r={PUSH_LITERAL(\"x\"){3,2}}",
+    "r={a{2,1}~\"\\u{d800}\"}",
+    "r={PEEK[3..2]}",
 ];
 
 /// Texts on both sides of every limit.
@@ -743,6 +756,11 @@ pub fn long(random: &mut Random) -> Vec<u8> {
     text
 }
 
+/// A text rich in pairs of numbers.
+pub fn pairs(random: &mut Random) -> Vec<u8> {
+    second::pairs::text(&mut |n| random.below(n)).text
+}
+
 /// Every text of a run, in order. `scale` is in hundredths of the full run.
 pub fn all(seed: u64, scale: usize, f: &mut dyn FnMut(Source, &[u8])) {
     for text in CORNERS {
@@ -793,6 +811,14 @@ pub fn all(seed: u64, scale: usize, f: &mut dyn FnMut(Source, &[u8])) {
         f(Source::Long, &text);
         if random.one_in(4) {
             f(Source::Long, &damaged(&mut random, &text));
+        }
+    }
+    let mut random = Random(seed ^ 0x9a125);
+    for _ in 0..2_000 * scale {
+        let text = pairs(&mut random);
+        f(Source::Pairs, &text);
+        if random.one_in(4) {
+            f(Source::Damaged, &damaged(&mut random, &text));
         }
     }
 }

@@ -130,6 +130,13 @@ pub fn has_zero(tree: &Tree) -> bool {
     zero || tree.children.iter().any(has_zero)
 }
 
+/// Whether a tree has a minimum above its maximum, which prints and can't be read by the second
+/// edition. Where the maximum is 0, that is the fault.
+pub fn has_above(tree: &Tree) -> bool {
+    let [least, most, _] = tree.numbers;
+    tree.kind == 16 && 0 < most && most < least || tree.children.iter().any(has_above)
+}
+
 /// Whether a tree has a PUSH_LITERAL.
 pub fn has_push_literal(tree: &Tree) -> bool {
     tree.kind == 18 || tree.children.iter().any(has_push_literal)

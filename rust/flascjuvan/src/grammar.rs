@@ -16,7 +16,8 @@ pub(crate) const RULE_RECORD: usize = 6;
 
 /// A grammar: the tables that reading makes and printing takes.
 ///
-/// It comes from [`read`], from [`parse`](str::parse) (which reads tagged) or from rules. Looked at, it is
+/// It comes from [`read`] or [`read_edition`](crate::read_edition), from [`parse`](str::parse) (which reads tagged, by the
+/// first edition) or from rules. Looked at, it is
 ///
 /// - its text by [`Display`](fmt::Display), as [`print`](fn@print) gives it and, by `{:#}`, as [`print_short`] does.
 ///   One that can't be printed, which only rules made by hand can be, shows why in the form `<refused 21 at 0: ...>`,
@@ -29,7 +30,8 @@ pub(crate) const RULE_RECORD: usize = 6;
 /// What [`print_short`] printed is read back as the [`same`](Grammar::same) rules. So is what [`print`](fn@print)
 /// printed, but that a chain to the right comes back grouped to the left: `a ~ (b ~ c)` prints as `(a ~ b ~ c)`, which
 /// reads as `(a ~ b) ~ c`. Not read back, of both, are a text of over 65,536 bytes or with over 1,024 brackets open at
-/// once, the empty text of a grammar without rules, and counts of 0 that were put in by hand.
+/// once, the empty text of a grammar without rules, counts of 0 that were put in by hand and, by
+/// [`Edition::Second`](crate::Edition::Second), a minimum above its maximum.
 ///
 /// ```
 /// use flascjuvan::Grammar;

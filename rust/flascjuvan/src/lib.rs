@@ -89,6 +89,8 @@ pub use refusal::{Reason, Refusal};
 pub use same::{Difference, Found};
 pub use token::{Token, TokenKind};
 
+use std::fmt;
+
 use grammar::{NODE_RECORD, RULE_RECORD};
 use refusal::judged;
 use token::WINDOW;
@@ -109,7 +111,41 @@ pub enum Level {
     Plain,
 }
 
-/// Reads a text.
+/// An edition of the rules for layouts. It decides what is refused, never what a tree is.
+///
+/// As text it is its number, which the C interface takes.
+///
+/// ```
+/// use flascjuvan::Edition;
+///
+/// assert_eq!(Edition::default(), Edition::First);
+/// assert_eq!(Edition::Second.number(), 2);
+/// assert_eq!(format!("edition {}", Edition::Second), "edition 2");
+/// ```
+#[derive(Clone, Copy, Debug, Default, Eq, Hash, Ord, PartialEq, PartialOrd)]
+#[repr(u32)]
+pub enum Edition {
+    /// A repeat may have a minimum above its maximum, as in `a{3, 2}`. It is [`read`]'s edition, and the desk's.
+    #[default]
+    First = 1,
+    /// Such a repeat is refused by 15.
+    Second = 2,
+}
+
+impl Edition {
+    /// Its number, 1 or 2.
+    pub fn number(self) -> u32 {
+        self as u32
+    }
+}
+
+impl fmt::Display for Edition {
+    fn fmt(&self, f: &mut fmt::Formatter<'_>) -> fmt::Result {
+        self.number().fmt(f)
+    }
+}
+
+/// Reads a text by the first edition.
 ///
 /// The room lent is always enough: a node takes a byte of the text at least, and unescaping makes nothing longer. So 11
 /// is never given here, and 10 and 12 only over [`MAX_NODES`] and [`MAX_RULES`].
@@ -126,12 +162,27 @@ pub enum Level {
 /// # Ok::<(), flascjuvan::Refusal>(())
 /// ```
 pub fn read(text: impl AsRef<[u8]>, level: Level) -> Result<Grammar, Refusal> {
+    read_edition(text, level, Edition::First)
+}
+
+/// Reads a text as [`read`] does, by an edition that the caller names. [`Edition::Second`] refuses a minimum above its
+/// maximum by 15; what it reads is the very same grammar by both.
+///
+/// ```
+/// use flascjuvan::{read_edition, Edition, Level, Reason};
+///
+/// let text = "size = { digit{4, 2} }";
+/// assert!(read_edition(text, Level::Tagged, Edition::First).is_ok());
+/// let refusal = read_edition(text, Level::Tagged, Edition::Second).unwrap_err();
+/// assert_eq!((refusal.reason, refusal.place), (Reason::Above, 15));
+/// ```
+pub fn read_edition(text: impl AsRef<[u8]>, level: Level, edition: Edition) -> Result<Grammar, Refusal> {
     let text = text.as_ref();
     let mut nodes = vec![0; NODE_RECORD * text.len().min(MAX_NODES)];
     let mut rules = vec![0; RULE_RECORD * text.len().min(MAX_RULES)];
     let mut store = vec![0; text.len().min(MAX_TEXT)];
     let [number, place, node_count, rule_count, stored] =
-        raw::read(text, level == Level::Tagged, &mut nodes, &mut rules, &mut store);
+        raw::read_edition(text, level == Level::Tagged, edition.number(), &mut nodes, &mut rules, &mut store);
     judged(number, place)?;
     nodes.truncate(NODE_RECORD * node_count as usize);
     rules.truncate(RULE_RECORD * rule_count as usize);

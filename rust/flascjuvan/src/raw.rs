@@ -19,6 +19,19 @@ extern "C" {
         store_len: usize,
         answer: *mut u64,
     );
+    fn flascjuvan_read_edition(
+        text: *const u8,
+        text_len: usize,
+        tagged: u32,
+        edition: u32,
+        nodes: *mut u32,
+        nodes_len: usize,
+        rules: *mut u32,
+        rules_len: usize,
+        store: *mut u8,
+        store_len: usize,
+        answer: *mut u64,
+    );
     fn flascjuvan_print(
         nodes: *const u32,
         nodes_len: usize,
@@ -108,6 +121,44 @@ pub fn read(text: &[u8], tagged: bool, nodes: &mut [u32], rules: &mut [u32], sto
             text.as_ptr(),
             text.len(),
             tagged.into(),
+            nodes.as_mut_ptr(),
+            nodes.len(),
+            rules.as_mut_ptr(),
+            rules.len(),
+            store.as_mut_ptr(),
+            store.len(),
+            answer.as_mut_ptr(),
+        );
+    }
+    answer
+}
+
+/// As [`read`], by an edition: 0 and 1 are the first, every other number is the second.
+///
+/// ```
+/// let (mut nodes, mut rules, mut store) = ([0; 14], [0; 6], [0; 2]);
+/// let mut read = |edition| {
+///     flascjuvan::raw::read_edition(b"r={a{3,2}}", true, edition, &mut nodes, &mut rules, &mut store)
+/// };
+/// assert_eq!(read(1), [0, 0, 2, 1, 2]);
+/// assert_eq!(read(2), [15, 5, 0, 0, 0]);
+/// ```
+pub fn read_edition(
+    text: &[u8],
+    tagged: bool,
+    edition: u32,
+    nodes: &mut [u32],
+    rules: &mut [u32],
+    store: &mut [u8],
+) -> [u64; 5] {
+    let mut answer = [u64::MAX; 5];
+    // SAFETY: as in `read`.
+    unsafe {
+        flascjuvan_read_edition(
+            text.as_ptr(),
+            text.len(),
+            tagged.into(),
+            edition,
             nodes.as_mut_ptr(),
             nodes.len(),
             rules.as_mut_ptr(),

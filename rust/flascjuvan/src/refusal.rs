@@ -12,7 +12,7 @@ use crate::{line_column, LineColumn};
 ///
 /// assert_eq!(Reason::TooDeep.number(), 9);
 /// assert_eq!(Reason::from_number(9), Some(Reason::TooDeep));
-/// assert_eq!(Reason::from_number(15), None);
+/// assert_eq!(Reason::from_number(16), None);
 /// assert_eq!(Reason::TooDeep.to_string(), "a ( that would make 1,025 open at once");
 /// ```
 #[derive(Clone, Copy, Debug, Eq, Hash, PartialEq)]
@@ -51,6 +51,9 @@ pub enum Reason {
     /// A token of a text that arrives ends, and the lent list is full: never from [`TokenFeed`](crate::TokenFeed), which
     /// lends enough. The place is the token's first byte.
     ListRoom = 14,
+    /// A repeat whose minimum is above its maximum: by [`Edition::Second`](crate::Edition::Second) alone. The place is the
+    /// minimum. Where one of the two numbers is refused by 5 or 6, that comes first.
+    Above = 15,
     /// Tables that are too large to print: over [`MAX_NODES`](crate::MAX_NODES), [`MAX_RULES`](crate::MAX_RULES), or
     /// [`MAX_TEXT`](crate::MAX_TEXT) bytes of names and strings; through [`raw`](crate::raw) also tables that aren't
     /// whole records. The place is 0.
@@ -97,6 +100,7 @@ impl Reason {
         Reason::RulesRoom,
         Reason::NotPlain,
         Reason::ListRoom,
+        Reason::Above,
         Reason::Shape,
         Reason::Node,
         Reason::Rule,
@@ -108,8 +112,8 @@ impl Reason {
         Reason::Overrun,
     ];
 
-    /// Its number: 1 to 13 from reading (1 to 3 from listing tokens and from tokens as they arrive too), 14 from tokens as
-    /// they arrive, 20 to 23 from printing, 30 to 34 from matching.
+    /// Its number: 1 to 13 and 15 from reading (1 to 3 from listing tokens and from tokens as they arrive too), 14 from
+    /// tokens as they arrive, 20 to 23 from printing, 30 to 34 from matching.
     pub fn number(self) -> u64 {
         self as u64
     }
@@ -136,6 +140,7 @@ impl Reason {
             Reason::RulesRoom => "more than 1,024 rules",
             Reason::NotPlain => "PUSH_LITERAL, which plain reading has not",
             Reason::ListRoom => "no room for a token in the lent list",
+            Reason::Above => "a repeat whose minimum is above its maximum",
             Reason::Shape => "tables that are too large to print",
             Reason::Node => {
                 "a node that can't be printed: a name or a tag that is no word, or a name that begins with PUSH"
@@ -243,8 +248,8 @@ mod tests {
     }
 
     #[test]
-    #[should_panic(expected = "libflascjuvan answered 15, which this crate doesn't know")]
+    #[should_panic(expected = "libflascjuvan answered 16, which this crate doesn't know")]
     fn an_unknown_number_is_told() {
-        let _ = judged(15, 3);
+        let _ = judged(16, 3);
     }
 }

@@ -7,6 +7,7 @@ pub mod brackets;
 pub mod broken;
 pub mod calls;
 pub mod matching;
+pub mod pairs;
 pub mod print;
 pub mod read;
 pub mod stream;

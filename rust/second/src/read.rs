@@ -1,4 +1,4 @@
-//! The reader: 1; 2; 3; structure (4, 9); values (5, 6, 7, 8, 13); building; room (12, 10, 11).
+//! The reader: 1; 2; 3; structure (4, 9); values (5, 6, 7, 8, 13, 15); building; room (12, 10, 11).
 //! Only brackets recurse, and those are at most 1,024 deep.
 
 use crate::token::{self, *};
@@ -31,7 +31,17 @@ impl Tables {
     }
 }
 
-/// Reads into lent buffers. A refusal leaves them alone; a success changes what it used.
+/// The edition of the layout rules that a caller reads by. It decides refusals, never trees.
+#[derive(Clone, Copy, Debug, PartialEq, Eq, PartialOrd, Ord)]
+pub enum Edition {
+    /// A minimum above its maximum is read.
+    First,
+    /// It is 15.
+    Second,
+}
+
+/// Reads into lent buffers by the first edition. A refusal leaves them alone; a success changes what
+/// it used.
 pub fn read(
     text: &[u8],
     tagged: bool,
@@ -39,7 +49,19 @@ pub fn read(
     rules: &mut [u32],
     store: &mut [u8],
 ) -> Result<Used, Refusal> {
-    let tables = tables(text, tagged)?;
+    read_edition(text, tagged, Edition::First, nodes, rules, store)
+}
+
+/// As `read`, by an edition that the caller names.
+pub fn read_edition(
+    text: &[u8],
+    tagged: bool,
+    edition: Edition,
+    nodes: &mut [u32],
+    rules: &mut [u32],
+    store: &mut [u8],
+) -> Result<Used, Refusal> {
+    let tables = tables_edition(text, tagged, edition)?;
     let used = tables.used();
     room(used, nodes.len(), rules.len(), store.len())?;
     nodes[..tables.nodes.len()].copy_from_slice(&tables.nodes);
@@ -62,12 +84,17 @@ pub fn room(used: Used, nodes: usize, rules: usize, store: usize) -> Result<(), 
     Ok(())
 }
 
-/// Everything but the room.
+/// Everything but the room, by the first edition.
 pub fn tables(text: &[u8], tagged: bool) -> Result<Tables, Refusal> {
+    tables_edition(text, tagged, Edition::First)
+}
+
+/// Everything but the room.
+pub fn tables_edition(text: &[u8], tagged: bool, edition: Edition) -> Result<Tables, Refusal> {
     whole_text(text)?;
     let tokens = tokens(text)?;
     Structure { text, tokens: &tokens, next: 0, open: 0 }.grammar()?;
-    values(text, &tokens, tagged)?;
+    values(text, &tokens, tagged, edition)?;
     let mut builder = Builder { text, tokens: &tokens, next: 0, tagged, made: Tables::default() };
     builder.grammar();
     let mut made = builder.made;
@@ -287,9 +314,20 @@ fn peek_value(number: &[u8]) -> Option<i32> {
     }
 }
 
+/// Whether a repeat number is a minimum above its maximum: then a comma and another number follow it.
+/// A maximum that is 0 or too large has a fault of its own, which comes first.
+fn is_above_maximum(text: &[u8], tokens: &[Token], least: u32) -> bool {
+    match tokens {
+        [_, comma, most, ..] if comma.kind == COMMA && most.kind == NUMBER => {
+            value(part(text, *most)).is_some_and(|most| 0 < most && most < least)
+        }
+        _ => false,
+    }
+}
+
 /// The first fault of a value, in a text whose structure is good: there, the tokens on both
 /// sides of a number say what it is for.
-fn values(text: &[u8], tokens: &[Token], tagged: bool) -> Result<(), Refusal> {
+fn values(text: &[u8], tokens: &[Token], tagged: bool, edition: Edition) -> Result<(), Refusal> {
     for (i, token) in tokens.iter().enumerate() {
         let own = part(text, *token);
         match token.kind {
@@ -300,6 +338,11 @@ fn values(text: &[u8], tokens: &[Token], tagged: bool) -> Result<(), Refusal> {
                     match value(own) {
                         None => return refuse(5, token.start as usize),
                         Some(0) if most => return refuse(6, token.start as usize),
+                        Some(least) if edition == Edition::Second => {
+                            if is_above_maximum(text, &tokens[i..], least) {
+                                return refuse(15, token.start as usize);
+                            }
+                        }
                         Some(_) => (),
                     }
                 } else if peek_value(own).is_none() {

@@ -67,8 +67,8 @@ returns c =
     let known = at-print .before .before .before .before .before .before .before .before .shared-slice-known .given in
     let read = at-read .read .ensures in
     let print = at-print .print .ensures in
-    let m = passed _ _ _ _ _ _ _ _ _ (print .0) (print .1 .1) _ printed (read .0) (read .1 .1 .0) (read .1 .1 .1 .0) (read .1 .1 .1 .1) (c .before .reading .given .1) in
-    (m, demand _ _ _ _ _ _ _ _ _ (record { at = λ k l. omega (arith, known k) }) m)
+    let m = passed _ _ _ _ _ _ _ _ _ _ (print .0) (print .1 .1) _ printed (read .0) (read .1 .1 .0) (read .1 .1 .1 .0) (read .1 .1 .1 .1) (c .before .reading .given .1) in
+    (m, demand _ _ _ _ _ _ _ _ _ _ (record { at = λ k l. omega (arith, known k) }) m)
 
 same-length-5 : tie.Need-same-length-5
 same-length-5 c = search needs
@@ -90,8 +90,8 @@ returns-2 c =
     let known = at-print .before .before .before .before .before .before .before .before .shared-slice-known .given in
     let read = at-read .read .ensures in
     let print = at-print .print .ensures in
-    let m = passed _ _ _ _ _ _ _ _ _ (print .0) (print .1 .1) _ printed (read .0) (read .1 .1 .0) (read .1 .1 .1 .0) (read .1 .1 .1 .1) (c .before .reading2 .given .1) in
-    (m, demand _ _ _ _ _ _ _ _ _ (record { at = λ k l. omega (arith, known k) }) m)
+    let m = passed _ _ _ _ _ _ _ _ _ _ (print .0) (print .1 .1) _ printed (read .0) (read .1 .1 .0) (read .1 .1 .1 .0) (read .1 .1 .1 .1) (c .before .reading2 .given .1) in
+    (m, demand _ _ _ _ _ _ _ _ _ _ (record { at = λ k l. omega (arith, known k) }) m)
 
 same-length-9 : tie.Need-same-length-9
 same-length-9 c = search needs
@@ -102,8 +102,8 @@ returns-3 c =
     let at-print = c .before .before .before .before in
     let known = at-print .before .before .before .before .before .before .before .before .shared-slice-known .given in
     let print = at-print .print .ensures in
-    let m = unprinted _ _ _ _ _ _ _ _ _ (print .0) (print .1 .1) _ _ (c .enum-told .given .1) (λ r. refl) (λ x y. refl) in
-    (m, demand _ _ _ _ _ _ _ _ _ (record { at = λ k l. omega (arith, known k) }) m)
+    let m = unprinted _ _ _ _ _ _ _ _ _ _ (print .0) (print .1 .1) _ _ (c .enum-told .given .1) (λ r. refl) (λ x y. refl) in
+    (m, demand _ _ _ _ _ _ _ _ _ _ (record { at = λ k l. omega (arith, known k) }) m)
 
 same-length-10 : tie.Need-same-length-10
 same-length-10 c = search needs
@@ -114,8 +114,8 @@ returns-4 c =
     let at-print = c .before .before .before .before .before in
     let known = at-print .before .before .before .before .before .before .before .before .shared-slice-known .given in
     let print = at-print .print .ensures in
-    let m = unprinted _ _ _ _ _ _ _ _ _ (print .0) (print .1 .1) _ _ (c .before .printed2 .given .1) (λ r. refl) (λ x y. refl) in
-    (m, demand _ _ _ _ _ _ _ _ _ (record { at = λ k l. omega (arith, known k) }) m)
+    let m = unprinted _ _ _ _ _ _ _ _ _ _ (print .0) (print .1 .1) _ _ (c .before .printed2 .given .1) (λ r. refl) (λ x y. refl) in
+    (m, demand _ _ _ _ _ _ _ _ _ _ (record { at = λ k l. omega (arith, known k) }) m)
 
 same-length-11 : tie.Need-same-length-11
 same-length-11 c = search needs
@@ -126,8 +126,8 @@ returns-5 c =
     let at-print = c .before .before .before .before .before in
     let known = at-print .before .before .before .before .before .before .before .before .shared-slice-known .given in
     let print = at-print .print .ensures in
-    let m = unprinted _ _ _ _ _ _ _ _ _ (print .0) (print .1 .1) _ _ (c .before .printed3 .given .1) (λ r. refl) (λ x y. refl) in
-    (m, demand _ _ _ _ _ _ _ _ _ (record { at = λ k l. omega (arith, known k) }) m)
+    let m = unprinted _ _ _ _ _ _ _ _ _ _ (print .0) (print .1 .1) _ _ (c .before .printed3 .given .1) (λ r. refl) (λ x y. refl) in
+    (m, demand _ _ _ _ _ _ _ _ _ _ (record { at = λ k l. omega (arith, known k) }) m)
 
 same-length-12 : tie.Need-same-length-12
 same-length-12 c = search needs
@@ -138,8 +138,8 @@ returns-6 c =
     let at-print = c .before .before .before .before in
     let known = at-print .before .before .before .before .before .before .before .before .shared-slice-known .given in
     let print = at-print .print .ensures in
-    let m = unprinted _ _ _ _ _ _ _ _ _ (print .0) (print .1 .1) _ _ (c .enum-told2 .given .1) (λ r. refl) (λ x y. refl) in
-    (m, demand _ _ _ _ _ _ _ _ _ (record { at = λ k l. omega (arith, known k) }) m)
+    let m = unprinted _ _ _ _ _ _ _ _ _ _ (print .0) (print .1 .1) _ _ (c .enum-told2 .given .1) (λ r. refl) (λ x y. refl) in
+    (m, demand _ _ _ _ _ _ _ _ _ _ (record { at = λ k l. omega (arith, known k) }) m)
 
 pub pass-spec : {M : Type 1} → statement M
 pass-spec =

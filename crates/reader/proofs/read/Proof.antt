@@ -14,7 +14,7 @@ refused-requires : tie.Need-refused-requires
 refused-requires c κs = search needs
 
 returns : tie.Need-returns
-returns c = let m = read-long _ _ _ _ _ (c .before .if1 .taken) _ (c .refused .ensures) in (m .answer, (m .report, (m .left .nodes, (m .left .rules, m .left .store))))
+returns c = let m = read-long _ _ _ _ _ _ (c .before .if1 .taken) _ (c .refused .ensures) in (m .answer, (m .report, (m .left .nodes, (m .left .rules, m .left .store))))
 
 first-bad-requires : tie.Need-first-bad-requires
 first-bad-requires c κs = search needs
@@ -30,7 +30,7 @@ returns-2 c =
     let at-utf8 = c .before .before in
     let at-first-bad = at-utf8 .before .before in
     let at-if1 = at-first-bad .before in
-    let m = read-bad _ _ _ _ _ (at-if1 .if1 .left) _ (at-first-bad .first-bad .ensures) _ (at-utf8 .utf8 .given .1) _ (c .refused2 .ensures) in (m .answer, (m .report, (m .left .nodes, (m .left .rules, m .left .store))))
+    let m = read-bad _ _ _ _ _ _ (at-if1 .if1 .left) _ (at-first-bad .first-bad .ensures) _ (at-utf8 .utf8 .given .1) _ (c .refused2 .ensures) in (m .answer, (m .report, (m .left .nodes, (m .left .rules, m .left .store))))
 
 enum-told : tie.Need-enum-told
 enum-told c = search needs
@@ -56,7 +56,7 @@ returns-3 c =
     let at-enum-told = at-read-listed .before .before .before .before .before .before .before in
     let at-first-bad = at-enum-told .before .before in
     let at-if1 = at-first-bad .before in
-    let m = read-good _ _ _ _ _ (at-if1 .if1 .left) _ (at-first-bad .first-bad .ensures) (at-enum-told .enum-told .given .1) _ _ _ _ (at-read-listed .read-listed .ensures .0) (at-read-listed .read-listed .ensures .1) in (m .answer, (m .report, (m .left .nodes, (m .left .rules, m .left .store))))
+    let m = read-good _ _ _ _ _ _ (at-if1 .if1 .left) _ (at-first-bad .first-bad .ensures) (at-enum-told .enum-told .given .1) _ _ _ _ (at-read-listed .read-listed .ensures .0) (at-read-listed .read-listed .ensures .1) in (m .answer, (m .report, (m .left .nodes, (m .left .rules, m .left .store))))
 
 read-listed-requires-2 : tie.Need-read-listed-requires-2
 read-listed-requires-2 c κs = search needs
@@ -76,7 +76,7 @@ returns-4 c =
     let at-enum-told = at-read-listed2 .before .before .before .before .before .before .before in
     let at-first-bad = at-enum-told .before .before in
     let at-if1 = at-first-bad .before in
-    let m = read-good _ _ _ _ _ (at-if1 .if1 .left) _ (at-first-bad .first-bad .ensures) (at-enum-told .enum-told .given .1) _ _ _ _ (at-read-listed2 .read-listed2 .ensures .0) (at-read-listed2 .read-listed2 .ensures .1) in (m .answer, (m .report, (m .left .nodes, (m .left .rules, m .left .store))))
+    let m = read-good _ _ _ _ _ _ (at-if1 .if1 .left) _ (at-first-bad .first-bad .ensures) (at-enum-told .enum-told .given .1) _ _ _ _ (at-read-listed2 .read-listed2 .ensures .0) (at-read-listed2 .read-listed2 .ensures .1) in (m .answer, (m .report, (m .left .nodes, (m .left .rules, m .left .store))))
 
 pub read-spec : {M : Type 1} → statement M
 read-spec =

@@ -4,6 +4,7 @@ use crate::Attempt;
 use crate::Reading;
 use build::inner::rules::consume_rules_with_spans;
 use structure::Counted;
+use structure::Edition;
 use structure::Fault;
 use structure::Level;
 use structure::Refusal;
@@ -57,9 +58,17 @@ fn room_for(rules: usize, nodes: usize, bytes: usize, n: usize, r: usize, b: usi
 }
 
 // What a text of tokens gets: structure, then values, then room.
-fn judge(text: &[u8], tokens: &[u32], level: Level, n: usize, r: usize, b: usize) -> Reading
+fn judge(
+    text: &[u8],
+    tokens: &[u32],
+    edition: Edition,
+    level: Level,
+    n: usize,
+    r: usize,
+    b: usize,
+) -> Reading
     requires { ⌜ Lent (now text) (now tokens) ⌝ }
-    ensures { λ x. ⌜ x ≡ judgedOf level (now (text .entry)) n r b ⌝ }
+    ensures { λ x. ⌜ x ≡ judgedOf edition level (now (text .entry)) n r b ⌝ }
 {
     let counted = check_grammar(text, tokens, level);
     match counted {
@@ -69,7 +78,7 @@ fn judge(text: &[u8], tokens: &[u32], level: Level, n: usize, r: usize, b: usize
             nodes,
             bytes,
         } => {
-            let fault = faults(text, tokens, level);
+            let fault = faults(text, tokens, edition, level);
             match fault {
                 Fault::Sound => room_for(rules, nodes, bytes, n, r, b),
                 Fault::At(refusal) => Reading::Refused(refusal),
@@ -82,18 +91,19 @@ fn judge(text: &[u8], tokens: &[u32], level: Level, n: usize, r: usize, b: usize
 fn judge_and_build(
     text: &[u8],
     tokens: &[u32],
+    edition: Edition,
     level: Level,
     nodes: &mut [u32],
     rules: &mut [u32],
     store: &mut [u8],
 ) -> Reading
     requires { ⌜ Lent (now text) (now tokens) ⌝ }
-    ensures answer { λ r. ⌜ r ≡ judgedOf level (now (text .entry)) (roomForNodes (now (nodes .entry))) (roomForRules (now (rules .entry))) (length (now (store .entry))) ⌝ }
+    ensures answer { λ r. ⌜ r ≡ judgedOf edition level (now (text .entry)) (roomForNodes (now (nodes .entry))) (roomForRules (now (rules .entry))) (length (now (store .entry))) ⌝ }
     ensures left { λ r. ⌜ Leaves level (now (text .entry)) r (now (nodes .entry)) (now (rules .entry)) (now (store .entry)) (now (nodes .exit)) (now (rules .exit)) (now (store .exit)) ⌝ }
 {
     let n = room_of(nodes.len(), NODE_SIZE, limits::NODES);
     let r = room_of(rules.len(), RULE_SIZE, limits::RULES);
-    let answer = judge(text, tokens, level, n, r, store.len());
+    let answer = judge(text, tokens, edition, level, n, r, store.len());
     if let Reading::Read(used, _, _) = answer {
         consume_rules_with_spans(text, tokens, nodes, rules, store, level);
         number_lines(text, nodes, used);
@@ -106,6 +116,7 @@ pub fn list_and_read(
     t: &[u8; 256],
     text: &[u8],
     tokens: &mut [u32],
+    edition: Edition,
     level: Level,
     nodes: &mut [u32],
     rules: &mut [u32],
@@ -113,7 +124,7 @@ pub fn list_and_read(
 ) -> Attempt
     requires { ⌜ now t ≡ classes ⌝ }
     requires { ⌜ length (now text) ≤ maxText ⌝ }
-    ensures answer { λ r. ⌜ r ≡ attemptOf (roomOf (now (tokens .entry))) level (now (text .entry)) (roomForNodes (now (nodes .entry))) (roomForRules (now (rules .entry))) (length (now (store .entry))) ⌝ }
+    ensures answer { λ r. ⌜ r ≡ attemptOf (roomOf (now (tokens .entry))) edition level (now (text .entry)) (roomForNodes (now (nodes .entry))) (roomForRules (now (rules .entry))) (length (now (store .entry))) ⌝ }
     ensures left { λ r. ⌜ AttemptLeaves level (now (text .entry)) r (now (nodes .entry)) (now (rules .entry)) (now (store .entry)) (now (nodes .exit)) (now (rules .exit)) (now (store .exit)) ⌝ }
 {
     let filled = fill(t, text, tokens);
@@ -122,7 +133,7 @@ pub fn list_and_read(
         Filled::NoToken(place) => Attempt::Done(refused(Why::NoToken, place)),
         Filled::All(n) => {
             let m = n * TOKEN_SIZE;
-            Attempt::Done(judge_and_build(text, &tokens[..m], level, nodes, rules, store))
+            Attempt::Done(judge_and_build(text, &tokens[..m], edition, level, nodes, rules, store))
         }
     }
 }

@@ -1,5 +1,6 @@
 // Values: the first fault among a text's tokens, from the left.
 use super::tokens::refused_at;
+use crate::Edition;
 use crate::Fault;
 use crate::Level;
 use crate::Refusal;
@@ -17,7 +18,7 @@ ghost use lib.ListN.{length};
 ghost use Rattle.text.specs.Digits.{decimalOf};
 ghost use Rattle.literal.specs.Escapes.{badEscape};
 ghost use Rattle.token.specs.Table.{toks, between, word, Lent};
-ghost use Rattle.structure.specs.Values.{peekFault, repeatFault, literalFault, wordFault, numberFault, integerOf, opening, literalBytes, faultAt, faults};
+ghost use Rattle.structure.specs.Values.{peekFault, exceeds, aboveFault, repeatFault, literalFault, wordFault, numberFault, integerOf, opening, literalBytes, faultAt, faults};
 
 // PUSH_LITERAL, at the plain level.
 fn word_fault(text: &[u8], tokens: &[u32], level: Level, at: usize) -> Fault
@@ -75,11 +76,53 @@ fn peek_fault(text: &[u8], tokens: &[u32], at: usize) -> Fault
     }
 }
 
-// A repeat number.
-fn repeat_fault(text: &[u8], tokens: &[u32], at: usize) -> Fault
+// Whether a count is above the maximum behind it. One that is too large or 0 has a fault of its own.
+fn exceeds(text: &[u8], tokens: &[u32], at: usize, n: u32) -> bool
     requires { ⌜ Lent (now text) (now tokens) ⌝ }
     requires { ⌜ at < length (toks (now text)) ⌝ }
-    ensures { λ r. ⌜ r ≡ repeatFault (now (text .entry)) at (decimalOf 4294967295 (word (now (text .entry)) at)) ⌝ }
+    ensures { λ r. ⌜ r ≡ exceeds (now (text .entry)) at n ⌝ }
+{
+    if kind_at(text, tokens, at + 1) != kind::COMMA {
+        return false;
+    }
+    if kind_at(text, tokens, at + 2) != kind::NUMBER {
+        return false;
+    }
+    let most = number_of(text, tokens, at + 2);
+    match most {
+        Decimal::Is(m) => {
+            if m == 0 {
+                return false;
+            }
+            m < n
+        }
+        Decimal::Over => false,
+        Decimal::NotDigits => false,
+    }
+}
+
+// A count that isn't 0, as the edition asks it.
+fn above_fault(text: &[u8], tokens: &[u32], edition: Edition, at: usize, n: u32) -> Fault
+    requires { ⌜ Lent (now text) (now tokens) ⌝ }
+    requires { ⌜ at < length (toks (now text)) ⌝ }
+    ensures { λ r. ⌜ r ≡ aboveFault edition (now (text .entry)) at n ⌝ }
+{
+    match edition {
+        Edition::First => Fault::Sound,
+        Edition::Second => {
+            if exceeds(text, tokens, at, n) {
+                return Fault::At(refused_at(Why::Above, text, tokens, at));
+            }
+            Fault::Sound
+        }
+    }
+}
+
+// A repeat number.
+fn repeat_fault(text: &[u8], tokens: &[u32], edition: Edition, at: usize) -> Fault
+    requires { ⌜ Lent (now text) (now tokens) ⌝ }
+    requires { ⌜ at < length (toks (now text)) ⌝ }
+    ensures { λ r. ⌜ r ≡ repeatFault edition (now (text .entry)) at (decimalOf 4294967295 (word (now (text .entry)) at)) ⌝ }
 {
     let value = number_of(text, tokens, at);
     match value {
@@ -87,7 +130,7 @@ fn repeat_fault(text: &[u8], tokens: &[u32], at: usize) -> Fault
         Decimal::Over => Fault::At(refused_at(Why::Over, text, tokens, at)),
         Decimal::Is(n) => {
             if n != 0 {
-                return Fault::Sound;
+                return above_fault(text, tokens, edition, at, n);
             }
             if kind_at(text, tokens, at + 1) == kind::CLOSING_BRACE {
                 return Fault::At(refused_at(Why::Zero, text, tokens, at));
@@ -98,14 +141,14 @@ fn repeat_fault(text: &[u8], tokens: &[u32], at: usize) -> Fault
 }
 
 // A number, by the kind of the token before it.
-fn number_fault(text: &[u8], tokens: &[u32], before: u8, at: usize) -> Fault
+fn number_fault(text: &[u8], tokens: &[u32], edition: Edition, before: u8, at: usize) -> Fault
     requires { ⌜ Lent (now text) (now tokens) ⌝ }
     requires { ⌜ at < length (toks (now text)) ⌝ }
-    ensures { λ r. ⌜ r ≡ numberFault (now (text .entry)) before at ⌝ }
+    ensures { λ r. ⌜ r ≡ numberFault edition (now (text .entry)) before at ⌝ }
 {
     match before {
         kind::OPENING_BRACK | kind::DOTS => peek_fault(text, tokens, at),
-        _ => repeat_fault(text, tokens, at),
+        _ => repeat_fault(text, tokens, edition, at),
     }
 }
 
@@ -140,15 +183,22 @@ fn literal_fault(text: &[u8], tokens: &[u32], at: usize, skip: usize) -> Fault
 }
 
 // What is wrong with a token's value.
-fn fault_at(text: &[u8], tokens: &[u32], level: Level, before: u8, at: usize) -> Fault
+fn fault_at(
+    text: &[u8],
+    tokens: &[u32],
+    edition: Edition,
+    level: Level,
+    before: u8,
+    at: usize,
+) -> Fault
     requires { ⌜ Lent (now text) (now tokens) ⌝ }
     requires { ⌜ at < length (toks (now text)) ⌝ }
-    ensures { λ r. ⌜ r ≡ faultAt level (now (text .entry)) before at ⌝ }
+    ensures { λ r. ⌜ r ≡ faultAt edition level (now (text .entry)) before at ⌝ }
 {
     let k = kind_at(text, tokens, at);
     match k {
         kind::WORD => word_fault(text, tokens, level, at),
-        kind::NUMBER => number_fault(text, tokens, before, at),
+        kind::NUMBER => number_fault(text, tokens, edition, before, at),
         kind::NEGATIVE_NUMBER => peek_fault(text, tokens, at),
         kind::STRING | kind::CHARACTER => literal_fault(text, tokens, at, 1),
         kind::INSENSITIVE_STRING => literal_fault(text, tokens, at, 2),
@@ -157,15 +207,15 @@ fn fault_at(text: &[u8], tokens: &[u32], level: Level, before: u8, at: usize) ->
 }
 
 // The first fault of a text, from the left.
-pub fn faults(text: &[u8], tokens: &[u32], level: Level) -> Fault
+pub fn faults(text: &[u8], tokens: &[u32], edition: Edition, level: Level) -> Fault
     requires { ⌜ Lent (now text) (now tokens) ⌝ }
-    ensures { λ r. ⌜ r ≡ faults level (now (text .entry)) ⌝ }
+    ensures { λ r. ⌜ r ≡ faults edition level (now (text .entry)) ⌝ }
 {
     let n = token_count(text, tokens);
     let mut before: u8 = 0;
     let mut i = 0;
     while i < n {
-        let fault = fault_at(text, tokens, level, before, i);
+        let fault = fault_at(text, tokens, edition, level, before, i);
         match fault {
             Fault::Sound => {
                 before = kind_at(text, tokens, i);

@@ -2,10 +2,10 @@
 
 use std::io;
 
-use flascjuvan::{read, tokens, Level, Refusal, Token};
+use flascjuvan::{read_edition, tokens, Edition, Level, Refusal, Token};
 
 use crate::console::{Answer, Console, Status};
-use crate::input::{Files, Text};
+use crate::input::{By, Files, Text};
 use crate::paint::Paint;
 use crate::{places, visible, STATUSES};
 
@@ -20,21 +20,24 @@ const TERM: usize = 60;
 #[command(after_help = STATUSES, verbatim_doc_comment)]
 pub struct Args {
     #[command(flatten)]
+    by: By,
+    #[command(flatten)]
     files: Files,
 }
 
 pub fn run(args: &Args, console: &mut Console) -> io::Result<Status> {
+    args.by.say(console)?;
     args.files.each(console, |text, paint| {
-        let lost = losses(text, paint)?;
+        let lost = losses(text, args.by.edition(), paint)?;
         let status = if lost.is_empty() { Status::Good } else { Status::Bad };
         Ok(Answer(lost, status))
     })
 }
 
 /// A line for each tag and each PUSH_LITERAL, in the order of the text.
-fn losses(text: &Text, paint: Paint) -> Result<String, Refusal> {
+fn losses(text: &Text, edition: Edition, paint: Paint) -> Result<String, Refusal> {
     // a text that is read has its tokens where `Terms` looks for them
-    read(&text.bytes, Level::Tagged)?;
+    read_edition(&text.bytes, Level::Tagged, edition)?;
     let found = tokens(&text.bytes)?;
     let terms = Terms { text: &text.bytes, tokens: &found };
     let lines = places::starts(&text.bytes, &found).enumerate().filter_map(|(index, at)| {
@@ -120,13 +123,13 @@ impl Terms<'_> {
 
 #[cfg(test)]
 mod tests {
-    use flascjuvan::{Expr, TokenKind};
+    use flascjuvan::{read, Expr, TokenKind};
 
     use super::*;
 
     fn dropped(text: &str) -> String {
         let text = Text { name: "t".to_owned(), bytes: text.as_bytes().to_owned() };
-        losses(&text, Paint::PLAIN).expect("a text that is read")
+        losses(&text, Edition::First, Paint::PLAIN).expect("a text that is read")
     }
 
     #[test]

@@ -2,10 +2,10 @@
 
 use std::io;
 
-use flascjuvan::{print, print_short, read, Level};
+use flascjuvan::{print, print_short, read_edition, Level};
 
 use crate::console::{Answer, Console, Status};
-use crate::input::Files;
+use crate::input::{By, Files};
 use crate::STATUSES;
 
 /// Print texts back as they were understood, every bracket shown, or the fewest
@@ -23,13 +23,15 @@ pub struct Args {
     #[arg(long)]
     short: bool,
     #[command(flatten)]
+    by: By,
+    #[command(flatten)]
     files: Files,
 }
 
 pub fn run(args: &Args, console: &mut Console) -> io::Result<Status> {
     let printer = if args.short { print_short } else { print };
     args.files.each(console, |text, _| {
-        let printed = printer(&read(&text.bytes, Level::Tagged)?)?;
+        let printed = printer(&read_edition(&text.bytes, Level::Tagged, args.by.edition())?)?;
         Ok(match args.check {
             false => Answer(printed, Status::Good),
             true if printed.as_bytes() == text.bytes => Answer(String::new(), Status::Good),

@@ -3,10 +3,10 @@
 use std::io;
 use std::path::PathBuf;
 
-use flascjuvan::{line_column, read, Difference, Found, Level};
+use flascjuvan::{line_column, read_edition, Difference, Found, Level};
 
 use crate::console::{Console, Status};
-use crate::input::{Reader, Text};
+use crate::input::{By, Reader, Text};
 use crate::paint::Paint;
 use crate::quote::quote;
 use crate::STATUSES;
@@ -18,6 +18,8 @@ use crate::STATUSES;
 #[derive(clap::Args)]
 #[command(after_help = STATUSES, verbatim_doc_comment)]
 pub struct Args {
+    #[command(flatten)]
+    by: By,
     /// A file; `-` is standard input
     #[arg(value_name = "A")]
     first: PathBuf,
@@ -32,8 +34,10 @@ pub fn run(args: &Args, console: &mut Console) -> io::Result<Status> {
         [Some(first), Some(second)] => [first, second],
         _ => return Ok(Status::Failed),
     };
+    args.by.say(console)?;
     let grammar = |text: &Text| {
-        read(&text.bytes, Level::Tagged).map_err(|refused| console.refuse(text, refused))
+        read_edition(&text.bytes, Level::Tagged, args.by.edition())
+            .map_err(|refused| console.refuse(text, refused))
     };
     let difference = match [grammar(&texts[0]), grammar(&texts[1])] {
         [Ok(one), Ok(other)] => one.difference(&other),

@@ -7,7 +7,7 @@ fn all_numbers() {
     let ran = Folder::new().run("explain");
     assert_eq!((ran.status, &ran.err[..]), (0, ""));
     let numbers: Vec<&str> = ran.out.lines().map(|line| line[..2].trim()).collect();
-    assert_eq!(numbers.join(" "), "1 2 3 4 5 6 7 8 9 10 11 12 13 14 20 21 22 23 30 31 32 33 34");
+    assert_eq!(numbers.join(" "), "1 2 3 4 5 6 7 8 9 10 11 12 13 14 15 20 21 22 23 30 31 32 33 34");
     assert!(ran.out.starts_with(" 1  the text has over 65,536 bytes\n 2  the text is not UTF-8\n"));
 }
 
@@ -24,7 +24,7 @@ The number's first byte.
 
 Order
 After 1, 2, 3, 4 and 9, so in a text whose tokens are all good and well placed. 5, 6,
-7, 8 and 13 are looked for together, from the left.
+7, 8, 13 and, by edition 2, 15 are looked for together, from the left.
 
 Example
   |
@@ -69,8 +69,46 @@ refused 33 at 1
 }
 
 #[test]
+fn the_second_edition_in_words() {
+    let said = "\
+refused 15: a repeat whose minimum is above its maximum
+
+What it means
+A repeat's minimum is at most its maximum, by edition 2 of the rules for layouts.
+Leading zeros don't count, and the two may be equal. Edition 1, which the desk reads by,
+has no such rule.
+
+Place
+The minimum's first byte.
+
+Order
+After 1, 2, 3, 4 and 9, and together with 5, 6, 7, 8 and 13, from the left. But where 5
+or 6 is said of a number of the same pair, that comes first: b{5, 0} is 6 at the 0.
+
+Example
+  |
+1 | a={b{3,2}}
+  |      ^
+read by edition 2: refused 15 at 5
+
+How people get it, and what to do
+By edition 1 such a repeat is read, and then it can't be run on any line: `flascjuvan
+match` gives 31. Put the smaller number first.
+
+Minimum and maximum the wrong way round:
+    a = { b{4, 2} }    refused 15 at 8
+    a = { b{2, 4} }    is read
+
+Three, and up to two more. The second number counts all of them:
+    a = { b{3, 2} }    refused 15 at 8
+    a = { b{3, 5} }    is read
+";
+    assert_eq!(Folder::new().run("explain 15"), out(0, said));
+}
+
+#[test]
 fn every_number_has_words() {
-    for number in (1..=14).chain(20..=23).chain(30..=34) {
+    for number in (1..=15).chain(20..=23).chain(30..=34) {
         let ran = Folder::new().run(&format!("explain {number}"));
         assert_eq!((ran.status, &ran.err[..]), (0, ""));
         assert!(ran.out.starts_with(&format!("refused {number}: ")));
@@ -83,7 +121,7 @@ fn every_number_has_words() {
 
 #[test]
 fn other_numbers_are_wrong_usage() {
-    for number in ["0", "15", "19", "24", "29", "35", "18446744073709551615"] {
+    for number in ["0", "16", "19", "24", "29", "35", "18446744073709551615"] {
         let said =
             format!("flascjuvan: there is no refusal {number}; `flascjuvan explain` lists them\n");
         assert_eq!(Folder::new().run(&format!("explain {number}")), err(2, &said));

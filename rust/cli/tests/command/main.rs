@@ -2,6 +2,7 @@
 
 mod check;
 mod dropped;
+mod editions;
 mod explain;
 mod failures;
 mod match_lines;

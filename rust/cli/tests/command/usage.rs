@@ -48,6 +48,14 @@ fn wrong_usage() {
         "print --short=yes t",
         "print --short --short t",
         "tree --short t",
+        "check --edition t",
+        "check --edition 0 t",
+        "check --edition 3 t",
+        "check --edition two t",
+        "check --edition 01 t",
+        "check --edition 1 --edition 2 t",
+        "tokens --edition 2 t",
+        "explain --edition 2 15",
     ]
     .map(str::to_owned)
     .to_vec();

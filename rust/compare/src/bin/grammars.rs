@@ -24,13 +24,15 @@ fn round(style: Style, made: &Tables, tagged: bool) -> Result<(Vec<u8>, bool), S
 /// does, in all rooms worth trying; how often it was called.
 #[cfg(feature = "product")]
 fn product(text: &str, made: &Tables, tagged: bool) -> Result<u64, String> {
-    use compare::product::{check_print, check_read};
+    use compare::product::{check_print, check_read, By};
     let mut calls = 0;
-    check_read(text.as_bytes(), tagged, false, &mut calls)?;
+    for by in By::EACH {
+        check_read(text.as_bytes(), tagged, by, false, &mut calls)?;
+    }
     for style in Style::BOTH {
         check_print(style, made, &mut calls)?;
         let (printed, _) = round(style, made, tagged)?;
-        check_read(&printed, tagged, false, &mut calls)?;
+        check_read(&printed, tagged, By::Read, false, &mut calls)?;
     }
     Ok(calls)
 }

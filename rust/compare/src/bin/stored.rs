@@ -7,7 +7,8 @@
 //! - `t LEVEL HEX NODES RULES STORE`: read the text; level 1 tagged, 0 plain; rooms in numbers,
 //!   numbers, bytes. Answer: number, place, nodes, rules, store bytes; the node numbers, the rule
 //!   numbers (each followed by a comma), the store in hex.
-//! - `x LEVEL COUNT:HEX,.. NODES RULES STORE`: the same, of a long text: each part so many times.
+//! - `e LEVEL HEX NODES RULES STORE`: the same, by the second edition.
+//! - `x LEVEL COUNT:HEX,.. NODES RULES STORE`: as `t`, of a long text: each part so many times.
 //!   Answer: the five numbers, then for nodes, rules and store a sum over what is used, beginning
 //!   with 0: sum * 31 + value, in 32 bits.
 //! - `k AT HEX`: the lister. Answer: number, place, kind, start, end.
@@ -35,12 +36,13 @@ use std::io::{BufWriter, Write};
 use compare::lines::{self, Liner, Maker};
 use compare::printing::Style;
 use compare::{
-    argument, characters, hex, on_stack, quiet_panics, second_reads, tables, texts, used, Random,
+    argument, characters, hex, on_stack, quiet_panics, second_reads, second_reads_edition, tables,
+    texts, used, Random,
 };
 use oracle::{Answer, Tables};
 use second::arrive::{self, Arrival};
 use second::matching::{match_line, match_lines, record, Record};
-use second::read::Used;
+use second::read::{Edition, Used};
 use second::{calls, read, Refusal, NODE_RECORD, RULE_RECORD};
 
 fn or_dash(text: String) -> String {
@@ -93,6 +95,10 @@ fn parts(text: &[u8]) -> String {
     line
 }
 
+/// Rooms for a text's nodes, rules and store, in numbers and bytes more or less than these need.
+const ROOMS: [(isize, isize, isize); 7] =
+    [(0, 0, 0), (6, 5, 1), (-1, 0, 0), (0, -1, 0), (0, 0, -1), (-7, -6, -1), (-1, 0, -1)];
+
 const BLOCK: usize = 65_536;
 
 /// More steps than most lines need.
@@ -144,7 +150,24 @@ impl Stored {
     }
 
     fn text(&mut self, text: &[u8], tagged: bool, rooms: &[(isize, isize, isize)]) {
-        let made = second_reads(text, tagged);
+        self.reading(text, tagged, Edition::First, rooms);
+    }
+
+    fn reading(
+        &mut self,
+        text: &[u8],
+        tagged: bool,
+        edition: Edition,
+        rooms: &[(isize, isize, isize)],
+    ) {
+        let short = text.len() <= 400;
+        let form = match edition {
+            Edition::First if short => "t",
+            Edition::First => "x",
+            Edition::Second => "e",
+        };
+        assert!(short || form == "x", "a long text of the second edition");
+        let made = second_reads_edition(text, tagged, edition);
         if let (Ok(made), Ok(text)) = (&made, std::str::from_utf8(text)) {
             if let Answer::Read(rules) = oracle::read(text, tagged) {
                 assert_eq!(*made, Tables::of(&rules), "{text}");
@@ -165,12 +188,8 @@ impl Stored {
                 Ok(made)
             });
             let level = u8::from(tagged);
-            let short = text.len() <= 400;
-            let question = if short {
-                format!("t {level} {} {n} {r} {s}", bytes(text))
-            } else {
-                format!("x {level} {} {n} {r} {s}", parts(text))
-            };
+            let shown = if short { bytes(text) } else { parts(text) };
+            let question = format!("{form} {level} {shown} {n} {r} {s}");
             let (number, answer) = match answer {
                 Err(Refusal { number, place }) => (number, format!("{number} {place} 0 0 0")),
                 Ok(made) => {
@@ -191,7 +210,6 @@ impl Stored {
                     (0, format!("{counts} {rest}"))
                 }
             };
-            let form = if short { "t" } else { "x" };
             self.put(format!("{form}, {number:>2}"), &question, &answer);
         }
     }
@@ -408,6 +426,25 @@ fn broken(stored: &mut Stored, seed: u64, scale: usize) {
     }
 }
 
+/// Both editions: small texts that a rule names, and texts rich in pairs of numbers.
+fn editions(stored: &mut Stored, seed: u64, scale: usize) {
+    for text in texts::CORNERS {
+        for tagged in [true, false] {
+            stored.reading(text.as_bytes(), tagged, Edition::Second, &[(0, 0, 0)]);
+        }
+    }
+    let mut random = Random(seed ^ 9);
+    for _ in 0..4 * scale {
+        let text = texts::pairs(&mut random);
+        if text.len() > 240 {
+            continue;
+        }
+        let (tagged, room) = (random.one_in(2), random.of(&ROOMS));
+        stored.reading(&text, tagged, Edition::Second, &[(0, 0, 0), room]);
+        stored.reading(&text, tagged, Edition::First, &[(0, 0, 0)]);
+    }
+}
+
 /// Tokens as they arrive: short texts, texts around a literal that mostly has a fault, and long ones.
 fn arriving(stored: &mut Stored, seed: u64, scale: usize) {
     let mut random = Random(seed ^ 8);
@@ -433,7 +470,7 @@ fn write(folder: &str, seed: u64, scale: usize) {
         counts: BTreeMap::new(),
         also_rust: 0,
     };
-    let all = [(0, 0, 0), (6, 5, 1), (-1, 0, 0), (0, -1, 0), (0, 0, -1), (-7, -6, -1), (-1, 0, -1)];
+    let all = ROOMS;
     let mut random = Random(seed);
     for text in texts::CORNERS {
         for tagged in [true, false] {
@@ -511,6 +548,7 @@ fn write(folder: &str, seed: u64, scale: usize) {
     broken(&mut stored, seed, scale);
     arriving(&mut stored, seed, scale);
     bare(&mut stored);
+    editions(&mut stored, seed, scale);
     stored.end();
     println!("seed {seed}");
     for (class, count) in &stored.counts {

@@ -2,6 +2,7 @@
 
 mod arriving;
 mod differences;
+mod editions;
 mod limits;
 mod literals;
 mod matching;

@@ -86,7 +86,7 @@ fn too_little_room() {
 #[test]
 fn reasons_by_number() {
     let numbers: Vec<_> = Reason::ALL.iter().map(|reason| reason.number()).collect();
-    assert_eq!(numbers, (1..=14).chain(20..=23).chain(30..=34).collect::<Vec<_>>());
+    assert_eq!(numbers, (1..=15).chain(20..=23).chain(30..=34).collect::<Vec<_>>());
     for number in (0..100).chain([u64::MAX, 1 << 32 | 1]) {
         let reason = Reason::ALL.iter().copied().find(|reason| reason.number() == number);
         assert_eq!(Reason::from_number(number), reason);

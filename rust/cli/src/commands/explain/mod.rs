@@ -4,7 +4,7 @@ mod words;
 
 use std::io;
 
-use flascjuvan::{raw, read, Level, Reason, Refusal};
+use flascjuvan::{raw, read, read_edition, Edition, Level, Reason, Refusal};
 
 use crate::console::{complain, Console, Status};
 use crate::paint::Paint;
@@ -40,6 +40,8 @@ struct Explanation {
 enum Example {
     /// a text, read at this level
     Text(&'static [u8], Level),
+    /// a text, read by the second edition
+    Second(&'static [u8]),
     /// a text that is too long to show: how it is told, and how it is made
     Made(&'static str, fn() -> Vec<u8>),
     /// a text that is read with room for one node, one rule and one byte of names and strings
@@ -111,6 +113,10 @@ fn reading(text: &[u8], level: Level) -> Answer {
     read(text, level).into()
 }
 
+fn reading_by_second(text: &[u8]) -> Answer {
+    read_edition(text, Level::Tagged, Edition::Second).into()
+}
+
 /// What the first rule of a layout answers to a line.
 fn running(layout: &[u8], line: &[u8], steps: u64) -> Answer {
     let grammar = match read(layout, Level::Tagged) {
@@ -137,10 +143,11 @@ impl Explanation {
         format!("{number} {}\n{}", self.reason, parts.concat())
     }
 
-    /// What is done with the texts of slips: they are read, and the matcher's run as well, over an
-    /// empty line.
+    /// What is done with the texts of slips: they are read, those of 15 by the second edition, and
+    /// the matcher's run as well, over an empty line.
     fn tried(&self, text: &[u8]) -> Answer {
         match self.reason.number() {
+            15 => reading_by_second(text),
             30.. => running(text, b"", STEPS),
             _ => reading(text, Level::Tagged),
         }
@@ -167,6 +174,7 @@ impl Example {
     fn answer(&self) -> Answer {
         match self {
             Example::Text(text, level) => reading(text, *level),
+            Example::Second(text) => reading_by_second(text),
             Example::Made(_, make) => reading(&make(), Level::Tagged),
             Example::Lent(text) => {
                 let answer = raw::read(text.as_bytes(), true, &mut [0; 7], &mut [0; 6], &mut [0]);
@@ -194,6 +202,9 @@ impl Example {
             Example::Text(text, level) => {
                 let plain = if *level == Level::Plain { "read plain: " } else { "" };
                 format!("{}{plain}{answer}", quote(text, answer.1 as usize, paint))
+            }
+            Example::Second(text) => {
+                format!("{}read by edition 2: {answer}", quote(text, answer.1 as usize, paint))
             }
             Example::Made(told, _) => format!("{told}: {answer}"),
             Example::Lent(text) => {
@@ -240,6 +251,7 @@ mod tests {
         (12, 0, &[]),
         (13, 3, &[]),
         (14, 0, &[]),
+        (15, 5, &[8, 8]),
         (20, 0, &[]),
         (21, 0, &[]),
         (22, 0, &[]),

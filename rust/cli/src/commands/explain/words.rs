@@ -10,7 +10,7 @@ the last line is told before a wrong } on the first. 4 and 9 are looked for toge
 from the left; at one token 4 comes first.";
 const VALUES: &str = "\
 After 1, 2, 3, 4 and 9, so in a text whose tokens are all good and well placed. 5, 6,
-7, 8 and 13 are looked for together, from the left.";
+7, 8, 13 and, by edition 2, 15 are looked for together, from the left.";
 const PROGRAMS: &str = "\
 No text gets it: what was read always prints. It is for programs that make tables of
 their own and print them; README.md says what a table's numbers mean.";
@@ -336,6 +336,33 @@ Neither this command nor `./arrive` gives it: they have room for every text. It 
 programs that lend the library a list of their own. Lend three numbers for each byte of
 the text.",
         slips: &[],
+    },
+    Explanation {
+        reason: Reason::Above,
+        what: "\
+A repeat's minimum is at most its maximum, by edition 2 of the rules for layouts.
+Leading zeros don't count, and the two may be equal. Edition 1, which the desk reads by,
+has no such rule.",
+        place: "The minimum's first byte.",
+        order: "\
+After 1, 2, 3, 4 and 9, and together with 5, 6, 7, 8 and 13, from the left. But where 5
+or 6 is said of a number of the same pair, that comes first: b{5, 0} is 6 at the 0.",
+        example: Example::Second(b"a={b{3,2}}"),
+        usual: "\
+By edition 1 such a repeat is read, and then it can't be run on any line: `flascjuvan
+match` gives 31. Put the smaller number first.",
+        slips: &[
+            Slip {
+                why: "Minimum and maximum the wrong way round:",
+                text: b"a = { b{4, 2} }",
+                instead: "a = { b{2, 4} }",
+            },
+            Slip {
+                why: "Three, and up to two more. The second number counts all of them:",
+                text: b"a = { b{3, 2} }",
+                instead: "a = { b{3, 5} }",
+            },
+        ],
     },
     Explanation {
         reason: Reason::Shape,

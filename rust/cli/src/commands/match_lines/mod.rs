@@ -7,10 +7,10 @@ use std::fmt;
 use std::io;
 use std::path::PathBuf;
 
-use flascjuvan::{read, Matcher, Reason, Refusal, Run};
+use flascjuvan::{read_edition, Matcher, Reason, Refusal, Run};
 
 use crate::console::{Console, Status};
-use crate::input::{unreadable, Plain, Reader};
+use crate::input::{unreadable, By, Plain, Reader};
 use crate::paint::Paint;
 use crate::quote::window;
 use crate::visible::{characters, visible};
@@ -33,6 +33,8 @@ use blocks::Blocks;
 pub struct Args {
     #[command(flatten)]
     plain: Plain,
+    #[command(flatten)]
+    by: By,
     /// The most steps that a line may take
     #[arg(long, value_name = "N", default_value_t = 1_000_000)]
     steps: u64,
@@ -53,7 +55,8 @@ pub fn run(args: &Args, console: &mut Console) -> io::Result<Status> {
         (Some(layout), Some(lines)) => (layout, lines),
         _ => return Ok(Status::Failed),
     };
-    let grammar = match read(&layout.bytes, args.plain.level()) {
+    args.by.say(console)?;
+    let grammar = match read_edition(&layout.bytes, args.plain.level(), args.by.edition()) {
         Ok(grammar) => grammar,
         Err(refused) => {
             console.refuse(&layout, refused);

@@ -19,7 +19,7 @@ use Rattle.reader.proofs.inner.listings.+read_listed.{statement}
 use Rattle.reader.proofs.inner.listings.+read_listed.Tie.{close}
 
 abbrev μ-read-listed : Measures 5 read-listed-kinds.ps ℕ
-μ-read-listed κs a = maxText - a .1 .1 .1 .1 .1 .1 .0
+μ-read-listed κs a = maxText - a .1 .1 .1 .1 .1 .1 .1 .0
 
 abbrev read-listed-at : ℕ → In 5 read-listed-kinds.ps
 read-listed-at t =
@@ -54,7 +54,7 @@ read-listed-returns : (t : ℕ) → of-read-listed read-listed-lts.Need-returns 
 read-listed-returns t c =
     let at-small = c .before in
     let at-try-small = at-small .before .before .before .before .before .before .before .before in
-    listed-done 1536 _ _ _ _ _ _ _ _ (at-try-small .try-small .ensures .0) (at-try-small .try-small .ensures .1) (at-small .small .given .1)
+    listed-done 1536 _ _ _ _ _ _ _ _ _ (at-try-small .try-small .ensures .0) (at-try-small .try-small .ensures .1) (at-small .small .given .1)
 
 read-listed-enum-told : (t : ℕ) → of-read-listed read-listed-lts.Need-enum-told t
 read-listed-enum-told t c = search needs
@@ -79,7 +79,7 @@ read-listed-returns-2 t c =
     let at-read-listed = c .before .before .before .before .before .before in
     let at-enum-told = at-read-listed .before .before .before .before in
     let at-try-small = at-enum-told .before .before .before .before .before .before .before .before in
-    listed-again _ _ _ _ _ _ _ _ _ _ _ (at-try-small .try-small .ensures .1) (at-enum-told .enum-told .given .1) (at-read-listed .read-listed .ensures .0) (at-read-listed .read-listed .ensures .1)
+    listed-again _ _ _ _ _ _ _ _ _ _ _ _ (at-try-small .try-small .ensures .1) (at-enum-told .enum-told .given .1) (at-read-listed .read-listed .ensures .0) (at-read-listed .read-listed .ensures .1)
 
 read-listed-try-middle-requires : (t : ℕ) → of-read-listed read-listed-lts.Need-try-middle-requires t
 read-listed-try-middle-requires t c κs =
@@ -102,7 +102,7 @@ read-listed-returns-3 : (t : ℕ) → of-read-listed read-listed-lts.Need-return
 read-listed-returns-3 t c =
     let at-middle = c .before in
     let at-try-middle = at-middle .before .before .before .before .before .before .before .before in
-    listed-done 12288 _ _ _ _ _ _ _ _ (at-try-middle .try-middle .ensures .0) (at-try-middle .try-middle .ensures .1) (at-middle .middle .given .1)
+    listed-done 12288 _ _ _ _ _ _ _ _ _ (at-try-middle .try-middle .ensures .0) (at-try-middle .try-middle .ensures .1) (at-middle .middle .given .1)
 
 read-listed-enum-told-2 : (t : ℕ) → of-read-listed read-listed-lts.Need-enum-told-2 t
 read-listed-enum-told-2 t c = search needs
@@ -127,7 +127,7 @@ read-listed-returns-4 t c =
     let at-read-listed2 = c .before .before .before .before .before .before in
     let at-enum-told2 = at-read-listed2 .before .before .before .before in
     let at-try-middle = at-enum-told2 .before .before .before .before .before .before .before .before in
-    listed-again _ _ _ _ _ _ _ _ _ _ _ (at-try-middle .try-middle .ensures .1) (at-enum-told2 .enum-told2 .given .1) (at-read-listed2 .read-listed2 .ensures .0) (at-read-listed2 .read-listed2 .ensures .1)
+    listed-again _ _ _ _ _ _ _ _ _ _ _ _ (at-try-middle .try-middle .ensures .1) (at-enum-told2 .enum-told2 .given .1) (at-read-listed2 .read-listed2 .ensures .0) (at-read-listed2 .read-listed2 .ensures .1)
 
 read-listed-try-large-requires : (t : ℕ) → of-read-listed read-listed-lts.Need-try-large-requires t
 read-listed-try-large-requires t c κs =
@@ -156,7 +156,7 @@ read-listed-returns-5 : (t : ℕ) → of-read-listed read-listed-lts.Need-return
 read-listed-returns-5 t c =
     let at-large = c .before in
     let at-try-large = at-large .before .before .before .before .before .before .before .before in
-    listed-done maxText _ _ _ _ _ _ _ _ (at-try-large .try-large .ensures .0) (at-try-large .try-large .ensures .1) (at-large .large .given .1)
+    listed-done maxText _ _ _ _ _ _ _ _ _ (at-try-large .try-large .ensures .0) (at-try-large .try-large .ensures .1) (at-large .large .given .1)
 
 read-listed-same-length-16 : (t : ℕ) → of-read-listed read-listed-lts.Need-same-length-16 t
 read-listed-same-length-16 t c = search needs
@@ -171,7 +171,7 @@ read-listed-returns-6 : (t : ℕ) → of-read-listed read-listed-lts.Need-return
 read-listed-returns-6 t c =
     let at-try-large = c .before .before .before .before .before .before .before .before .before in
     let start = at-try-large .before .before .before .before .before .before .before .before .before .before in
-    absurd (tried-all maxText _ _ _ _ _ (start .pre .1 .1) (at-try-large .try-large .ensures .0) (c .before .enum-told3 .given .1))
+    absurd (tried-all maxText _ _ _ _ _ _ (start .pre .1 .1) (at-try-large .try-large .ensures .0) (c .before .enum-told3 .given .1))
 
 pub +read-listed-spec : {M : Type 1} → statement M
 +read-listed-spec = close μ-read-listed λ t. read-listed-lts.spec (

@@ -30,7 +30,7 @@ returns : tie.Need-returns
 returns c =
     let at-counted = c .before in
     let at-check-grammar = at-counted .before .before in
-    judge-refused _ _ _ _ _ _ (at-check-grammar .check-grammar .ensures) _ (at-counted .counted .given .1)
+    judge-refused _ _ _ _ _ _ _ (at-check-grammar .check-grammar .ensures) _ (at-counted .counted .given .1)
 
 returns-2 : tie.Need-returns-2
 returns-2 c =
@@ -38,7 +38,7 @@ returns-2 c =
     let at-faults = at-enum-told .before .before in
     let at-counted2 = at-faults .before .before in
     let at-check-grammar = at-counted2 .before .before in
-    judge-room _ _ _ _ _ _ (at-check-grammar .check-grammar .ensures) _ _ _ (at-counted2 .counted2 .given .1) _ (at-faults .faults .ensures) (at-enum-told .enum-told .given .1) _ (c .room-for .ensures)
+    judge-room _ _ _ _ _ _ _ (at-check-grammar .check-grammar .ensures) _ _ _ (at-counted2 .counted2 .given .1) _ (at-faults .faults .ensures) (at-enum-told .enum-told .given .1) _ (c .room-for .ensures)
 
 returns-3 : tie.Need-returns-3
 returns-3 c =
@@ -46,7 +46,7 @@ returns-3 c =
     let at-faults = at-fault .before .before in
     let at-counted2 = at-faults .before .before in
     let at-check-grammar = at-counted2 .before .before in
-    judge-by _ _ _ _ _ _ (at-check-grammar .check-grammar .ensures) _ _ _ (at-counted2 .counted2 .given .1) _ (at-faults .faults .ensures) _ (at-fault .fault .given .1)
+    judge-by _ _ _ _ _ _ _ (at-check-grammar .check-grammar .ensures) _ _ _ (at-counted2 .counted2 .given .1) _ (at-faults .faults .ensures) _ (at-fault .fault .given .1)
 
 pub judge-spec : {M : Type 1} → statement M
 judge-spec =

@@ -25,7 +25,7 @@ consume-rules-with-spans-requires c κs =
     let at-room-of2 = at-judge .before in
     let at-room-of = at-room-of2 .before in
     let start = at-room-of .before .before .before .before .before .before in
-    let g = build-room _ _ _ _ _ _ _ _ (at-judge .judge .ensures) (at-room-of .room-of .ensures) (at-room-of2 .room-of2 .ensures) (at-answer .answer .given .1) (start .pre .short) in
+    let g = build-room _ _ _ _ _ _ _ _ _ (at-judge .judge .ensures) (at-room-of .room-of .ensures) (at-room-of2 .room-of2 .ensures) (at-answer .answer .given .1) (start .pre .short) in
     (start .pre, (g .0, g .1))
 
 number-lines-requires : tie.Need-number-lines-requires
@@ -37,7 +37,7 @@ number-lines-requires c κs =
     let at-room-of = at-room-of2 .before in
     let start = at-room-of .before .before .before .before .before .before in (
       start .pre .short,
-      build-nodes _ _ _ _ _ _ _ _ (at-judge .judge .ensures) (at-room-of .room-of .ensures) (at-room-of2 .room-of2 .ensures) (at-answer .answer .given .1) _ _ _ (at-consume-rules-with-spans .consume-rules-with-spans .ensures),
+      build-nodes _ _ _ _ _ _ _ _ _ (at-judge .judge .ensures) (at-room-of .room-of .ensures) (at-room-of2 .room-of2 .ensures) (at-answer .answer .given .1) _ _ _ (at-consume-rules-with-spans .consume-rules-with-spans .ensures),
     )
 
 enum-told : tie.Need-enum-told
@@ -60,13 +60,13 @@ returns c =
     let at-judge = at-answer .before .before in
     let at-room-of2 = at-judge .before in
     let at-room-of = at-room-of2 .before in
-    build-read _ _ _ _ _ _ _ _ (at-judge .judge .ensures) (at-room-of .room-of .ensures) (at-room-of2 .room-of2 .ensures) (at-answer .answer .given .1) _ _ _ _ (at-consume-rules-with-spans .consume-rules-with-spans .ensures) (at-number-lines .number-lines .ensures)
+    build-read _ _ _ _ _ _ _ _ _ (at-judge .judge .ensures) (at-room-of .room-of .ensures) (at-room-of2 .room-of2 .ensures) (at-answer .answer .given .1) _ _ _ _ (at-consume-rules-with-spans .consume-rules-with-spans .ensures) (at-number-lines .number-lines .ensures)
 
 returns-2 : tie.Need-returns-2
 returns-2 c =
     let at-judge = c .before .before in
     let at-room-of2 = at-judge .before in
-    build-kept _ _ _ _ _ _ _ _ (at-judge .judge .ensures) (at-room-of2 .before .room-of .ensures) (at-room-of2 .room-of2 .ensures) _ (c .enum-told .given .1)
+    build-kept _ _ _ _ _ _ _ _ _ (at-judge .judge .ensures) (at-room-of2 .before .room-of .ensures) (at-room-of2 .room-of2 .ensures) _ (c .enum-told .given .1)
 
 pub judge-and-build-spec : {M : Type 1} → statement M
 judge-and-build-spec =

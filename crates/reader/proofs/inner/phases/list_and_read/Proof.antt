@@ -62,7 +62,7 @@ returns : tie.Need-returns
 returns c =
     let at-fill = c .before .before .before .before in
     let start = at-fill .before .before .before .before .before .before .before in
-    list-and-read-full (now (start .args .text)) (now (start .args .tokens)) _ (at-fill .fill .ensures .0) _ _ _ _ _ _ _ (c .enum-told .given .1)
+    list-and-read-full (now (start .args .text)) (now (start .args .tokens)) _ (at-fill .fill .ensures .0) _ _ _ _ _ _ _ _ (c .enum-told .given .1)
 
 same-length-2 : tie.Need-same-length-2
 same-length-2 c = search needs
@@ -72,7 +72,7 @@ returns-2 c =
     let at-filled = c .before .before in
     let at-fill = at-filled .before .before .before .before in
     let start = at-fill .before .before .before .before .before .before .before in
-    list-and-read-stopped (now (start .args .text)) (now (start .args .tokens)) _ (at-fill .fill .ensures .0) _ _ _ _ _ _ _ _ (at-filled .filled .given .1) _ (c .refused .ensures)
+    list-and-read-stopped (now (start .args .text)) (now (start .args .tokens)) _ (at-fill .fill .ensures .0) _ _ _ _ _ _ _ _ _ (at-filled .filled .given .1) _ (c .refused .ensures)
 
 same-length-3 : tie.Need-same-length-3
 same-length-3 c = search needs
@@ -92,7 +92,7 @@ returns-3 c =
     let at-filled2 = at-judge-and-build .before .before .before .before .before .before in
     let at-fill = at-filled2 .before .before .before .before in
     let start = at-fill .before .before .before .before .before .before .before in
-    (list-and-read-filled (now (start .args .text)) (now (start .args .tokens)) _ (at-fill .fill .ensures .0) _ (at-filled2 .filled2 .given .1) _ _ _ _ _ (at-judge-and-build .judge-and-build .ensures .0), at-judge-and-build .judge-and-build .ensures .1)
+    (list-and-read-filled (now (start .args .text)) (now (start .args .tokens)) _ (at-fill .fill .ensures .0) _ (at-filled2 .filled2 .given .1) _ _ _ _ _ _ (at-judge-and-build .judge-and-build .ensures .0), at-judge-and-build .judge-and-build .ensures .1)
 
 pub list-and-read-spec : {M : Type 1} → statement M
 list-and-read-spec =

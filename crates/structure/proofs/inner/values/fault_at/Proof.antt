@@ -32,22 +32,22 @@ literal-fault-requires-2 c κs =
     (start .pre .0, (start .pre .1, opens-two _ _ _ (c .before .kind-at .ensures) (c .match .keys5)))
 
 returns : tie.Need-returns
-returns c = value-word _ _ _ _ _ (c .before .before .kind-at .ensures) _ (c .before .match .keys1) (c .word-fault .ensures)
+returns c = value-word _ _ _ _ _ _ (c .before .before .kind-at .ensures) _ (c .before .match .keys1) (c .word-fault .ensures)
 
 returns-2 : tie.Need-returns-2
-returns-2 c = value-number _ _ _ _ _ (c .before .before .kind-at .ensures) _ (c .before .match .keys2) (c .number-fault .ensures)
+returns-2 c = value-number _ _ _ _ _ _ (c .before .before .kind-at .ensures) _ (c .before .match .keys2) (c .number-fault .ensures)
 
 returns-3 : tie.Need-returns-3
-returns-3 c = value-minus _ _ _ _ _ (c .before .before .kind-at .ensures) _ (c .before .match .keys3) (c .peek-fault .ensures)
+returns-3 c = value-minus _ _ _ _ _ _ (c .before .before .kind-at .ensures) _ (c .before .match .keys3) (c .peek-fault .ensures)
 
 returns-4 : tie.Need-returns-4
-returns-4 c = value-quoted _ _ _ _ _ (c .before .before .kind-at .ensures) _ (c .before .match .keys4) (c .literal-fault .ensures)
+returns-4 c = value-quoted _ _ _ _ _ _ (c .before .before .kind-at .ensures) _ (c .before .match .keys4) (c .literal-fault .ensures)
 
 returns-5 : tie.Need-returns-5
-returns-5 c = value-insens _ _ _ _ _ (c .before .before .kind-at .ensures) _ (c .before .match .keys5) (c .literal-fault2 .ensures)
+returns-5 c = value-insens _ _ _ _ _ _ (c .before .before .kind-at .ensures) _ (c .before .match .keys5) (c .literal-fault2 .ensures)
 
 returns-6 : tie.Need-returns-6
-returns-6 c = let r = c .match .rest in value-none _ _ _ _ _ (c .before .kind-at .ensures) Sound (r .0 .0 .0 .0 .1) (r .0 .0 .0 .1) (r .0 .0 .1) (λ q. r .0 .1 (inl q)) (r .1) (λ q. r .0 .1 (inr q))
+returns-6 c = let r = c .match .rest in value-none _ _ _ _ _ _ (c .before .kind-at .ensures) Sound (r .0 .0 .0 .0 .1) (r .0 .0 .0 .1) (r .0 .0 .1) (λ q. r .0 .1 (inl q)) (r .1) (λ q. r .0 .1 (inr q))
 
 pub fault-at-spec : {M : Type 1} → statement M
 fault-at-spec =

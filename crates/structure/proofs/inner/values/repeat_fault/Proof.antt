@@ -22,7 +22,10 @@ enum-known-value : tie.Need-enum-known-value
 enum-known-value c = search needs
 
 returns : tie.Need-returns
-returns c = repeat-some _ _ _ _ (c .before .before .before .before .number-of .ensures) _ (c .before .before .value .given .1) (c .if1 .taken)
+returns c = repeat-some _ _ _ _ _ (c .before .before .before .before .before .number-of .ensures) _ (c .before .before .before .value .given .1) (c .before .if1 .taken) _ (c .above-fault .ensures)
+
+above-fault-requires : tie.Need-above-fault-requires
+above-fault-requires c κs = search needs
 
 add-kind-at : tie.Need-add-kind-at
 add-kind-at c = let z = sizes _ _ (c .before .before .before .before .before .before .before .pre .0) in let h = c .before .before .before .before .before .before .before .pre .1 in omega arith
@@ -39,20 +42,20 @@ returns-2 c =
     let at-if1 = at-kind-at .before in
     let at-value = at-if1 .before .before in
     let at-number-of = at-value .before .before in
-    repeat-zero _ _ _ _ (at-number-of .number-of .ensures) _ (at-value .value .given .1) (at-if1 .if1 .left) _ (at-kind-at .kind-at .ensures) (c .before .if2 .taken) _ (c .refused-at2 .ensures)
+    repeat-zero _ _ _ _ _ (at-number-of .number-of .ensures) _ (at-value .value .given .1) (at-if1 .if1 .left) _ (at-kind-at .kind-at .ensures) (c .before .if2 .taken) _ (c .refused-at2 .ensures)
 
 returns-3 : tie.Need-returns-3
-returns-3 c = repeat-other _ _ _ _ (c .before .before .number-of .ensures) (c .enum-told .given .1)
+returns-3 c = repeat-other _ _ _ _ _ (c .before .before .number-of .ensures) (c .enum-told .given .1)
 
 returns-4 : tie.Need-returns-4
-returns-4 c = repeat-over _ _ _ _ (c .before .before .before .number-of .ensures) (c .before .enum-told2 .given .1) _ (c .refused-at .ensures)
+returns-4 c = repeat-over _ _ _ _ _ (c .before .before .before .number-of .ensures) (c .before .enum-told2 .given .1) _ (c .refused-at .ensures)
 
 returns-5 : tie.Need-returns-5
 returns-5 c =
     let at-if1 = c .before .before in
     let at-value = at-if1 .before .before in
     let at-number-of = at-value .before .before in
-    repeat-least _ _ _ _ (at-number-of .number-of .ensures) _ (at-value .value .given .1) (at-if1 .if1 .left) _ (c .before .kind-at .ensures) (c .if2 .left)
+    repeat-least _ _ _ _ _ (at-number-of .number-of .ensures) _ (at-value .value .given .1) (at-if1 .if1 .left) _ (c .before .kind-at .ensures) (c .if2 .left)
 
 pub repeat-fault-spec : {M : Type 1} → statement M
 repeat-fault-spec =
@@ -63,6 +66,7 @@ repeat-fault-spec =
     enum-told-2
     refused-at-requires
     enum-known-value
+    above-fault-requires
     returns
     add-kind-at
     kind-at-requires

@@ -3,8 +3,8 @@
 use Rattle.exports.proofs.Levels.{numbers-at, left-at}
 use mathlib.Core.Path.{_∙_}
 use borrow.Author.Needs.{needs}
-use Rattle.exports.proofs.flascjuvan_read.Statement.{statement}
-use Rattle.exports.proofs.flascjuvan_read.Tie as tie
+use Rattle.exports.proofs.read_by.Statement.{statement}
+use Rattle.exports.proofs.read_by.Tie as tie
 
 level-of-requires : tie.Need-level-of-requires
 level-of-requires c κs = search needs
@@ -28,10 +28,10 @@ returns : tie.Need-returns
 returns c =
     let read = c .before .before .before .before .before .before .before .read in
     let level = c .before .before .before .before .before .before .before .before .before .before .before .level-of .ensures in
-    (c .read-numbers .ensures ∙ numbers-at _ _ level _ _ _ _ _ (read .ensures .1 .0), left-at _ _ level _ _ _ _ _ (read .ensures .0) (record { nodes = read .ensures .1 .1 .0; rules = read .ensures .1 .1 .1 .0; store = read .ensures .1 .1 .1 .1 }))
+    (c .read-numbers .ensures ∙ numbers-at _ _ _ level _ _ _ _ _ (read .ensures .1 .0), left-at _ _ _ level _ _ _ _ _ (read .ensures .0) (record { nodes = read .ensures .1 .1 .0; rules = read .ensures .1 .1 .1 .0; store = read .ensures .1 .1 .1 .1 }))
 
-pub flascjuvan-read-spec : {M : Type 1} → statement M
-flascjuvan-read-spec =
+pub read-by-spec : {M : Type 1} → statement M
+read-by-spec =
     tie.close
     (tie.spec
     level-of-requires
