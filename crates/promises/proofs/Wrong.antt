@@ -79,10 +79,8 @@ record Readings (edition : Edition) (level : Level) : Type 0 where
 
 readings : (edition : Edition) (level : Level) → Readings edition level
 unfolding opened
-readings First Tagged = record { short-read = refl; long-read = refl; both-read = refl; short-trees = refl; long-trees = refl; both-trees = refl; both-repeated = refl }
-readings Second Tagged = record { short-read = refl; long-read = refl; both-read = refl; short-trees = refl; long-trees = refl; both-trees = refl; both-repeated = refl }
-readings First Plain = record { short-read = refl; long-read = refl; both-read = refl; short-trees = refl; long-trees = refl; both-trees = refl; both-repeated = refl }
-readings Second Plain = record { short-read = refl; long-read = refl; both-read = refl; short-trees = refl; long-trees = refl; both-trees = refl; both-repeated = refl }
+readings edition Tagged = record { short-read = refl; long-read = refl; both-read = refl; short-trees = refl; long-trees = refl; both-trees = refl; both-repeated = refl }
+readings edition Plain = record { short-read = refl; long-read = refl; both-read = refl; short-trees = refl; long-trees = refl; both-trees = refl; both-repeated = refl }
 
 -- number and place of an answer
 abbrev told : Readout → ℕ

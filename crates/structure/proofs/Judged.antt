@@ -2,7 +2,7 @@
 -- a faulty one's is wrong (`judged`); the values of trees are those of tokens (Held).
 use Prim.Native.Nat.{ℕ, zero, suc, _+_, _≤_, _<_}
 use mathlib.Core.Path.{_≡_, refl, sym, ap, _∙_, subst}
-use mathlib.Core.Bool.{Bool, true, false}
+use mathlib.Core.Bool.{Bool, true, false, true≢false}
 use mathlib.Core.Logic.{_⊎_, inl, inr, ⊎-elim}
 use mathlib.Core.List.{List, [], _∷_, _++_, append-assoc, append-nil, List·Memᴰ, List·Memᴰ·not-nil, List·Memᴰ·append-cases, List·Memᴰ·eq-of-singleton}
 use native.Mathlib.Omega.{arith}
@@ -42,9 +42,6 @@ use Rattle.structure.proofs.Numerals.{number-digits, integer-digits}
 pub choose-both : {A B : Type 0} (P : A → B → Type 0) (b : Bool) (f g : Unit {0} → A) (h k : Unit {0} → B) → (b ≡ true → P (f tt) (h tt)) → (b ≡ false → P (g tt) (k tt)) → P (choose b f g) (choose b h k)
 choose-both P true f g h k y n = y refl
 choose-both P false f g h k y n = n refl
-
-true-false : _≡_ {A = Bool} true false → ⊥
-true-false e = let z : _≡_ {A = ℕ} 0 1 = cc in omega arith
 
 module _ (edition : Edition) (level : Level) (s : List ℕ) (i : ℕ) where
   -- a sound token's value is right, and a faulty token has a value that is wrong
@@ -88,7 +85,7 @@ module _ (edition : Edition) (level : Level) (s : List ℕ) (i : ℕ) where
       choose-by (λ (f : Fault). Judged f (minimumValue s i ∷ [])) (exceedsIn edition s i n) _ _
       (λ x.
       let (q, t, l, k) = exceeds-above edition s i n x in
-      (minimumValue s i, refl, choose-by P paired _ _ (λ a. inr (c, q, l, omega arith, refl)) (λ a. absurd (true-false (sym t ∙ a)))))
+      (minimumValue s i, refl, choose-by P paired _ _ (λ a. inr (c, q, l, omega arith, refl)) (λ a. absurd (true≢false (sym t ∙ a)))))
       (λ x. is-right (minimumValue s i) (choose-by R paired _ _ (λ a. (c, λ q l. let k = exceeds-not edition s i n a x q l in omega arith)) (λ a. c)))
 
   repeat-judged : (b : ℕ) → is s i 20 ≡ true → (d : Decimal) → decimalOf 4294967295 (word s i) ≡ d → Judged (repeatFault edition s i d) (repeatValue s b i ∷ [])

@@ -64,10 +64,16 @@ impl By {
 
     /// Says by which edition texts are read, if one was named.
     pub fn say(&self, console: &mut Console) -> io::Result<()> {
-        match self.edition {
-            Some(edition) => console.write(&format!("read by edition {edition}\n")),
-            None => Ok(()),
-        }
+        console.write(&self.said())
+    }
+
+    /// The same to standard error, where what is written is a text itself.
+    pub fn say_aside(&self, console: &Console) {
+        console.say(|_| self.said());
+    }
+
+    fn said(&self) -> String {
+        self.edition.map_or(String::new(), |edition| format!("read by edition {edition}\n"))
     }
 }
 

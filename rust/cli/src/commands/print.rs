@@ -12,7 +12,8 @@ use crate::STATUSES;
 ///
 /// This is what the desk prints and, with --short, what the program short prints, also where
 /// they have no room: over 2,048 nodes, or over 65,536 bytes of output. It is no formatter:
-/// comments and docs are gone. Several texts are printed one after the other.
+/// comments and docs are gone. Several texts are printed one after the other. With --edition
+/// standard error says which edition they are read by.
 #[derive(clap::Args)]
 #[command(after_help = STATUSES, verbatim_doc_comment)]
 pub struct Args {
@@ -30,6 +31,7 @@ pub struct Args {
 
 pub fn run(args: &Args, console: &mut Console) -> io::Result<Status> {
     let printer = if args.short { print_short } else { print };
+    args.by.say_aside(console);
     args.files.each(console, |text, _| {
         let printed = printer(&read_edition(&text.bytes, Level::Tagged, args.by.edition())?)?;
         Ok(match args.check {

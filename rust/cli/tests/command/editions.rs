@@ -76,15 +76,18 @@ fn a_picture_by_each() {
     assert_eq!(folder.run("tree --edition 2 t"), refused);
 }
 
-/// What is printed is the text, and nothing beside it.
+/// What is printed is the text alone; the edition is said beside it.
 #[test]
 fn printing_by_each() {
     let folder = above();
-    for args in ["print", "print --edition 1", "print --short --edition 1"] {
-        assert_eq!(folder.run(&format!("{args} t")), out(0, ABOVE));
+    assert_eq!(folder.run("print t"), out(0, ABOVE));
+    let printed = Ran { err: "read by edition 1\n".to_owned(), ..out(0, ABOVE) };
+    for args in ["print --edition 1", "print --short --edition 1"] {
+        assert_eq!(folder.run(&format!("{args} t")), printed);
     }
-    assert_eq!(folder.run("print --edition 2 t"), err(1, REFUSED));
-    assert_eq!(folder.run("print --edition 2 --check u"), out(0, ""));
+    let refused = format!("read by edition 2\n{REFUSED}");
+    assert_eq!(folder.run("print --edition 2 t"), err(1, &refused));
+    assert_eq!(folder.run("print --edition 2 --check u"), err(0, "read by edition 2\n"));
 }
 
 #[test]
