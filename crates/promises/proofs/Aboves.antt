@@ -5,7 +5,7 @@ use mathlib.Core.Path.{◌≡◌, refl, sym, ap, ◌∙◌}
 use mathlib.Core.Bool.{Bool, true, false, not}
 use mathlib.Core.List.{List, [], ◌∷◌, ◌++◌, append_assoc, append-nil}
 use lib.Dec.{leb, ltb, eqb}
-use borrow.Author.Tests.{leb-true, leb-false, lt-ltb, le-ltb, eqb-false, not_true}
+use borrow.Author.Tests.{leb-true, leb-false, lt-ltb, le-ltb, eqb-false, not-true}
 use Rattle.text.specs.Booleans.{and, or}
 use Rattle.text.specs.Digits.{decimal, decimal_of}
 use Rattle.text.proofs.Decimals.{decimal_back}
@@ -67,7 +67,7 @@ over_not n m s p =
     let g = and_true (small m) (not (eqb m 0)) p in
     let d = decimal_back 4294967295 n (small_le n s) in
     let e = decimal_back 4294967295 m (small_le m g.0) in
-    rw (d, e) (sym (most_some n m (λ q. eqb-false m 0 (not_true (eqb m 0) g.1) q)) ∙ go (leb n m) refl)
+    rw (d, e) (sym (most_some n m (λ q. eqb-false m 0 (not-true (eqb m 0) g.1) q)) ∙ go (leb n m) refl)
   where
     go : (b : Bool) → leb n m ≡ b → ltb m n ≡ not b
     go true h = le-ltb m n (leb-true n m h)

@@ -8,7 +8,7 @@ use native.Mathlib.Omega.{arith}
 use lib.Dec.{ltb, eqb}
 use lib.ListN.{length, drop, get_or, drop_of_length-le}
 use lib.Seq.{drop-cons}
-use borrow.Author.Tests.{eqb-true, eqb-false, ne_eqb, eq-eqb, ltb-true, ltb-false, lt-ltb, not_true}
+use borrow.Author.Tests.{eqb-true, eqb-false, ne_eqb, eq-eqb, ltb-true, ltb-false, lt-ltb, not-true}
 use Rattle.text.specs.Booleans.{and, or, all}
 use Rattle.text.specs.Classes.{class_of}
 use Rattle.text.specs.Words.{in_word, begins, push}
@@ -127,7 +127,7 @@ push_row_lem a n x rest =
     ap (ended a n (x ∷ rest)) (push_word n x rest h q) ∙ word_row_lem a n x rest)
     (λ f. choose_by P (and (or (eqb n 4) (eqb n 12)) (not (in_word x))) _ _
     (λ g.
-    let w : in_word x ≡ false = not_true (in_word x) (and_right (or (eqb n 4) (eqb n 12)) (not (in_word x)) g) in
+    let w : in_word x ≡ false = not-true (in_word x) (and_right (or (eqb n 4) (eqb n 12)) (not (in_word x)) g) in
     ap (ended a n (x ∷ rest)) (whole_by n (x ∷ rest) (eqb n 4) (eqb n 12) refl refl (and_left (or (eqb n 4) (eqb n 12)) (not (in_word x)) g) (run_none (first in_word) x rest w))
     ∙ run_stop (first in_word) 18 a n x rest w ∙ again_law 18 a (a + n) x rest)
     (λ g. ap (ended a n (x ∷ rest)) (none_by n x rest (in_word x) (ltb-false n 4 f) e g refl) ∙ none a n (x ∷ rest))))

@@ -6,7 +6,7 @@ use Prim.Native.Nat.{ℕ, suc, ◌+◌, ◌≤◌}
 use native.Mathlib.Omega.{arith}
 use lib.Dec.{leb}
 use lib.ListN.{length, length-append}
-use borrow.Author.Tests.{not_true}
+use borrow.Author.Tests.{not-true}
 use Rattle.text.specs.Booleans.{choose, and}
 use Rattle.text.proofs.Booleans.{and_assoc, and_both, and_one, and_true, choose_false}
 use Rattle.table.specs.declared.Join.{Join}
@@ -183,7 +183,7 @@ regroup_same (one s o t) g = regroup_one s o t ∙ ap (one s o) (regroup_same t 
 regroup_same (two s j a b) g =
     let h = and_true (not (is_join j b)) _ g in
     let w = and_true (grouped a) (grouped b) h.1 in
-    regroup_two s j a b ∙ ap (joined j (regroup a)) (links_last j b (not_true (is_join j b) h.0))
+    regroup_two s j a b ∙ ap (joined j (regroup a)) (links_last j b (not-true (is_join j b) h.0))
     ∙ ap (λ z. two tt j z (regroup b)) (regroup_same a w.0) ∙ ap (two tt j a) (regroup_same b w.1)
 
 -- ---- removing tags

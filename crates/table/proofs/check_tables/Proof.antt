@@ -1,7 +1,7 @@
 -- Bad shapes are told first. Tables of good shape have no more nodes than the larger room.
 use mathlib.Core.Path.{sym, ◌∙◌}
 use native.Mathlib.Omega.{arith}
-use borrow.Author.Tests.{not_true, not_false}
+use borrow.Author.Tests.{not-true, not-false}
 use Rattle.table.proofs.Tables.{shaped_few, tables_shape}
 use borrow.Author.Rules.{rules}
 use Rattle.table.proofs.check_tables.Statement.{statement}
@@ -13,10 +13,10 @@ is-shaped-requires c κs = search rules
 returns : tie.Need-returns
 returns c =
     let start = c.before.before.before.before.before in
-    sym (tables_shape start.args.nodes.now start.args.rules.now start.args.store.now (sym c.before.is-shaped.ensures ∙ not_true _ c.if1.true))
+    sym (tables_shape start.args.nodes.now start.args.rules.now start.args.store.now (sym c.before.is-shaped.ensures ∙ not-true _ c.if1.true))
 
 check-small-requires : tie.Need-check-small-requires
-check-small-requires c κs = (sym c.before.before.is-shaped.ensures ∙ not_false _ c.before.if1.false, omega (arith, c.if2.true))
+check-small-requires c κs = (sym c.before.before.is-shaped.ensures ∙ not-false _ c.before.if1.false, omega (arith, c.if2.true))
 
 returns-2 : tie.Need-returns-2
 returns-2 c = c.check-small.ensures
@@ -24,7 +24,7 @@ returns-2 c = c.check-small.ensures
 check-large-requires : tie.Need-check-large-requires
 check-large-requires c κs =
     let start = c.before.before.before.before.before.before in
-    let good = sym c.before.before.is-shaped.ensures ∙ not_false _ c.before.if1.false in
+    let good = sym c.before.before.is-shaped.ensures ∙ not-false _ c.before.if1.false in
     (good, shaped_few start.args.nodes.now start.args.rules.now start.args.store.now good)
 
 returns-3 : tie.Need-returns-3

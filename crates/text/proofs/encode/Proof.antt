@@ -2,7 +2,7 @@
 -- (`spent_over`, `spent_fits`). Where they do, they are put at the front (`wrote_front`).
 use mathlib.Core.Path.{refl, sym, ◌∙◌}
 use native.Mathlib.Omega.{arith}
-use borrow.Author.Tests.{not_true, not_false, le-leb, lt-leb}
+use borrow.Author.Tests.{not-true, not-false, le-leb, lt-leb}
 use borrow.Author.Rules.{rules}
 use Rattle.text.specs.Utf8.{encode_of, encode_in}
 use Rattle.text.proofs.Encodes.{scalar_below}
@@ -15,7 +15,7 @@ is-scalar-requires c κs = search rules
 
 returns : tie.Need-returns
 unfolding encode_of encode_in
-returns c = (rw (sym c.before.is-scalar.ensures ∙ not_true _ c.if1.true), refl)
+returns c = (rw (sym c.before.is-scalar.ensures ∙ not-true _ c.if1.true), refl)
 
 add-spend-char : tie.Need-overflow-add-spend-char
 add-spend-char c = search rules
@@ -27,12 +27,12 @@ returns-2 : tie.Need-returns-2
 unfolding encode_of encode_in
 returns-2 c =
     let o = spent_over _ _ (sym c.before.spend-char.ensures ∙ c.if2.true) in
-    (rw (sym c.before.before.before.is-scalar.ensures ∙ not_false _ c.before.before.if1.false, lt-leb _ _ o), refl)
+    (rw (sym c.before.before.before.is-scalar.ensures ∙ not-false _ c.before.before.if1.false, lt-leb _ _ o), refl)
 
 put-char-requires : tie.Need-put-char-requires
 put-char-requires c κs =
     let f = spent_fits _ _ (λ z. c.before.if2.false (c.before.before.spend-char.ensures ∙ z)) in
-    (scalar_below _ (sym c.before.before.before.before.is-scalar.ensures ∙ not_false _ c.before.before.before.if1.false), record { fits = omega (arith, f) })
+    (scalar_below _ (sym c.before.before.before.before.is-scalar.ensures ∙ not-false _ c.before.before.before.if1.false), record { fits = omega (arith, f) })
 
 same_length : tie.Need-same-length
 same_length c = search rules
@@ -47,7 +47,7 @@ returns-3 c =
     let at-is-scalar = at-if1.before in
     let f = spent_fits _ _ (λ z. at-if2.if2.false (at-spend-char.spend-char.ensures ∙ z)) in
     let w = wrote_front at-put-char.put-char.ensures f in
-    (rw (sym at-is-scalar.is-scalar.ensures ∙ not_false _ at-if1.if1.false, le-leb _ _ f, w.1), w.0)
+    (rw (sym at-is-scalar.is-scalar.ensures ∙ not-false _ at-if1.if1.false, le-leb _ _ f, w.1), w.0)
 
 pub encode-spec : {M : Type 1} → statement M
 encode-spec =

@@ -1,6 +1,6 @@
 -- The invariant: from i on there is nothing but word bytes if there is from p on. A word byte moves i on, any other ends it, and so does a place
 -- whose stop is known (`part_runs`); what is left of the part falls.
-use borrow.Author.Tests.{not_true, not_false}
+use borrow.Author.Tests.{not-true, not-false}
 use borrow.Author.Rules.{rules}
 use lib.ListN.{take, drop}
 use lib.Dec.{leb}
@@ -42,7 +42,7 @@ in-word-requires : tie.Need-in-word-requires invariant-loop decreases-loop
 in-word-requires c κs = search rules
 
 returns-2 : tie.Need-returns-2 invariant-loop decreases-loop
-returns-2 c = sym (part_stop _ _ c.before.before.before.before.before.before.before.requires.1.1.1.1 _ c.before.before.before.before.loop-test.true (sym c.before.in-word.ensures ∙ not_true _ c.if2.true)) ∙ c.before.before.before.before.before.loop.invariant.1
+returns-2 c = sym (part_stop _ _ c.before.before.before.before.before.before.before.requires.1.1.1.1 _ c.before.before.before.before.loop-test.true (sym c.before.in-word.ensures ∙ not-true _ c.if2.true)) ∙ c.before.before.before.before.before.loop.invariant.1
 
 add-i : tie.Need-overflow-add-i invariant-loop decreases-loop
 add-i c = omega arith
@@ -51,7 +51,7 @@ loop-less : tie.Need-loop-smaller invariant-loop decreases-loop
 loop-less c = omega arith
 
 loop-again : tie.Need-loop-preserved invariant-loop decreases-loop
-loop-again c = (omega arith, sym (part_step _ _ c.before.before.before.before.before.before.before.requires.1.1.1.1 _ c.before.before.before.before.loop-test.true (sym c.before.in-word.ensures ∙ not_false _ c.if2.false)) ∙ c.before.before.before.before.before.loop.invariant.1)
+loop-again c = (omega arith, sym (part_step _ _ c.before.before.before.before.before.before.before.requires.1.1.1.1 _ c.before.before.before.before.loop-test.true (sym c.before.in-word.ensures ∙ not-false _ c.if2.false)) ∙ c.before.before.before.before.before.loop.invariant.1)
 
 returns-3 : tie.Need-returns-3 invariant-loop decreases-loop
 returns-3 c = sym (part_end _ _ c.before.before.before.requires.1.1.1.1 _ c.loop-test.false) ∙ c.before.loop.invariant.1

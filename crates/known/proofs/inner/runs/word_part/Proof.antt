@@ -1,5 +1,5 @@
 -- A law of `word_of` for each return: nothing, a first byte, the others, and PUSH at the front.
-use borrow.Author.Tests.{not_true, not_false}
+use borrow.Author.Tests.{not-true, not-false}
 use native.Mathlib.Omega.{arith}
 use mathlib.Core.Bool.{true, false}
 use mathlib.Core.Path.{sym, ◌∙◌}
@@ -18,7 +18,7 @@ starts-word-requires : tie.Need-starts-word-requires
 starts-word-requires c κs = search rules
 
 returns-2 : tie.Need-returns-2
-returns-2 c = sym (word_start _ c.before.before.before.before.before.args.p c.before.before.before.before.before.args.e c.before.before.before.before.before.requires.1.1.1.1 (omega (arith, c.before.before.before.if1.false, c.before.before.before.before.before.requires.1.1.1.0)) (sym c.before.starts-word.ensures ∙ not_true _ c.if2.true))
+returns-2 c = sym (word_start _ c.before.before.before.before.before.args.p c.before.before.before.before.before.args.e c.before.before.before.before.before.requires.1.1.1.1 (omega (arith, c.before.before.before.if1.false, c.before.before.before.before.before.requires.1.1.1.0)) (sym c.before.starts-word.ensures ∙ not-true _ c.if2.true))
 
 add-all-in-word : tie.Need-overflow-add-all-in-word
 add-all-in-word c = search rules
@@ -29,7 +29,7 @@ all-in-word-requires c κs =
     (v.0, (v.1.0, (v.1.1.0, (omega (arith, c.before.before.before.if1.false, v.1.1.1.0), v.1.1.1.1))))
 
 returns-3 : tie.Need-returns-3
-returns-3 c = sym (word_rest _ c.before.before.before.before.before.before.before.args.p c.before.before.before.before.before.before.before.args.e c.before.before.before.before.before.before.before.requires.1.1.1.1 (omega (arith, c.before.before.before.before.before.if1.false, c.before.before.before.before.before.before.before.requires.1.1.1.0)) (sym c.before.before.before.starts-word.ensures ∙ not_false _ c.before.before.if2.false) (sym c.before.all-in-word.ensures ∙ not_true _ c.if3.true))
+returns-3 c = sym (word_rest _ c.before.before.before.before.before.before.before.args.p c.before.before.before.before.before.before.before.args.e c.before.before.before.before.before.before.before.requires.1.1.1.1 (omega (arith, c.before.before.before.before.before.if1.false, c.before.before.before.before.before.before.before.requires.1.1.1.0)) (sym c.before.before.before.starts-word.ensures ∙ not-false _ c.before.before.if2.false) (sym c.before.all-in-word.ensures ∙ not-true _ c.if3.true))
 
 slice-aggregate-begins-at : tie.Need-slice-aggregate-begins-at
 slice-aggregate-begins-at c = search rules
@@ -47,10 +47,10 @@ begins-at-requires : tie.Need-begins-at-requires
 begins-at-requires c κs = search rules
 
 returns-4 : tie.Need-returns-4
-returns-4 c = sym (word_front _ _ _ c.before.before.before.before.before.before.before.before.before.before.before.requires.1.1.1.1 (omega (arith, c.before.before.before.before.before.before.before.before.before.if1.false, c.before.before.before.before.before.before.before.before.before.before.before.requires.1.1.1.0)) (sym c.before.before.before.before.before.before.before.starts-word.ensures ∙ not_false _ c.before.before.before.before.before.before.if2.false) (sym c.before.before.before.before.before.all-in-word.ensures ∙ not_false _ c.before.before.before.before.if3.false) true (sym c.before.begins-at.ensures ∙ c.if4.true))
+returns-4 c = sym (word_front _ _ _ c.before.before.before.before.before.before.before.before.before.before.before.requires.1.1.1.1 (omega (arith, c.before.before.before.before.before.before.before.before.before.if1.false, c.before.before.before.before.before.before.before.before.before.before.before.requires.1.1.1.0)) (sym c.before.before.before.before.before.before.before.starts-word.ensures ∙ not-false _ c.before.before.before.before.before.before.if2.false) (sym c.before.before.before.before.before.all-in-word.ensures ∙ not-false _ c.before.before.before.before.if3.false) true (sym c.before.begins-at.ensures ∙ c.if4.true))
 
 returns-5 : tie.Need-returns-5
-returns-5 c = sym (word_front _ _ _ c.before.before.before.before.before.before.before.before.before.before.before.requires.1.1.1.1 (omega (arith, c.before.before.before.before.before.before.before.before.before.if1.false, c.before.before.before.before.before.before.before.before.before.before.before.requires.1.1.1.0)) (sym c.before.before.before.before.before.before.before.starts-word.ensures ∙ not_false _ c.before.before.before.before.before.before.if2.false) (sym c.before.before.before.before.before.all-in-word.ensures ∙ not_false _ c.before.before.before.before.if3.false) false (sym c.before.begins-at.ensures ∙ c.if4.false))
+returns-5 c = sym (word_front _ _ _ c.before.before.before.before.before.before.before.before.before.before.before.requires.1.1.1.1 (omega (arith, c.before.before.before.before.before.before.before.before.before.if1.false, c.before.before.before.before.before.before.before.before.before.before.before.requires.1.1.1.0)) (sym c.before.before.before.before.before.before.before.starts-word.ensures ∙ not-false _ c.before.before.before.before.before.before.if2.false) (sym c.before.before.before.before.before.all-in-word.ensures ∙ not-false _ c.before.before.before.before.if3.false) false (sym c.before.begins-at.ensures ∙ c.if4.false))
 
 pub word-part-spec : {M : Type 1} → statement M
 word-part-spec =

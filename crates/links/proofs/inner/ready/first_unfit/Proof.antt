@@ -5,7 +5,7 @@ use Rattle.table.proofs.Lowest.{lowest_none, lowest_more}
 use Rattle.table.specs.Check.{lowest}
 use Rattle.table.specs.Record.{nodes_in}
 use Rattle.table.specs.Characters.{Through}
-use borrow.Author.Tests.{not_true, not_false}
+use borrow.Author.Tests.{not-true, not-false}
 use borrow.Author.Rules.{rules}
 use native.Mathlib.Omega.{arith}
 use mathlib.Core.Path.{◌≡◌, refl, sym, ◌∙◌}
@@ -31,7 +31,7 @@ is-fit-requires c κs = search rules
 returns : tie.Need-returns invariant-loop decreases-loop
 returns c =
     let at = c.before.before.before.before in
-    fault_stop (fit_at at.before.before.args.nodes.now) _ _ (omega arith) at.loop.invariant.2 (sym (fit_is _ _ c.before.before.Node-at.ensures c.before.is-fit.ensures) ∙ not_true _ c.if1.true)
+    fault_stop (fit_at at.before.before.args.nodes.now) _ _ (omega arith) at.loop.invariant.2 (sym (fit_is _ _ c.before.before.Node-at.ensures c.before.is-fit.ensures) ∙ not-true _ c.if1.true)
 
 add-i : tie.Need-overflow-add-i invariant-loop decreases-loop
 add-i c = omega arith
@@ -42,7 +42,7 @@ loop-less c = omega arith
 loop-again : tie.Need-loop-preserved invariant-loop decreases-loop
 loop-again c =
     let at = c.before.before.before.before in
-    (at.loop.invariant.0, omega arith, lowest_more (fit_at at.before.before.args.nodes.now) _ at.loop.invariant.2 (sym (fit_is _ _ c.before.before.Node-at.ensures c.before.is-fit.ensures) ∙ not_false _ c.if1.false))
+    (at.loop.invariant.0, omega arith, lowest_more (fit_at at.before.before.args.nodes.now) _ at.loop.invariant.2 (sym (fit_is _ _ c.before.before.Node-at.ensures c.before.is-fit.ensures) ∙ not-false _ c.if1.false))
 
 returns-2 : tie.Need-returns-2 invariant-loop decreases-loop
 returns-2 c = fault_end (fit_at c.before.before.before.args.nodes.now) _ _ (omega arith) (omega arith) c.before.loop.invariant.2

@@ -5,7 +5,7 @@ use Rattle.table.proofs.Lowest.{lowest_none, lowest_more}
 use Rattle.table.specs.Check.{lowest}
 use Rattle.table.specs.Record.{rules_in}
 use Rattle.table.specs.Characters.{Through}
-use borrow.Author.Tests.{not_true, not_false}
+use borrow.Author.Tests.{not-true, not-false}
 use native.Mathlib.Omega.{arith}
 use mathlib.Core.Path.{◌≡◌, refl, sym, ◌∙◌}
 use Prim.Native.Nat.{◌≤◌, ◌-◌}
@@ -25,7 +25,7 @@ own-name-requires : tie.Need-own-name-requires invariant-loop decreases-loop
 own-name-requires c κs = (c.before.before.before.before.requires, omega arith)
 
 returns : tie.Need-returns invariant-loop decreases-loop
-returns c = every_stop (own_at c.before.before.before.before.before.before.args.rules.now c.before.before.before.before.before.before.args.store.now) _ _ (omega arith) c.before.before.before.loop.invariant.2 (sym c.before.own_name.ensures ∙ not_true _ c.if1.true)
+returns c = every_stop (own_at c.before.before.before.before.before.before.args.rules.now c.before.before.before.before.before.before.args.store.now) _ _ (omega arith) c.before.before.before.loop.invariant.2 (sym c.before.own_name.ensures ∙ not-true _ c.if1.true)
 
 add-k : tie.Need-overflow-add-k invariant-loop decreases-loop
 add-k c = omega arith
@@ -34,7 +34,7 @@ loop-less : tie.Need-loop-smaller invariant-loop decreases-loop
 loop-less c = omega arith
 
 loop-again : tie.Need-loop-preserved invariant-loop decreases-loop
-loop-again c = (c.before.before.before.loop.invariant.0, omega arith, lowest_more (own_at c.before.before.before.before.before.before.args.rules.now c.before.before.before.before.before.before.args.store.now) _ c.before.before.before.loop.invariant.2 (sym c.before.own_name.ensures ∙ not_false _ c.if1.false))
+loop-again c = (c.before.before.before.loop.invariant.0, omega arith, lowest_more (own_at c.before.before.before.before.before.before.args.rules.now c.before.before.before.before.before.before.args.store.now) _ c.before.before.before.loop.invariant.2 (sym c.before.own_name.ensures ∙ not-false _ c.if1.false))
 
 returns-2 : tie.Need-returns-2 invariant-loop decreases-loop
 returns-2 c = every_end (own_at c.before.before.before.before.args.rules.now c.before.before.before.before.args.store.now) _ _ (omega arith) (omega arith) c.before.loop.invariant.2

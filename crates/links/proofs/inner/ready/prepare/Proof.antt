@@ -2,7 +2,7 @@
 use mathlib.Core.Path.{◌≡◌}
 use Rattle.links.proofs.Asked.{ready_shape, ready_node, ready_rule, ready_unfit, ready_start, ready_own, ready_known, ready_yes, ready_valid}
 use Rattle.table.proofs.Names.{valid_inside}
-use borrow.Author.Tests.{not_true, not_false}
+use borrow.Author.Tests.{not-true, not-false}
 use native.Mathlib.Omega.{arith}
 use Prim.Native.Nat.{ℕ}
 use borrow.Author.Rules.{rules}
@@ -52,16 +52,16 @@ own-names-requires : tie.Need-own-names-requires
 own-names-requires c κs = valid_inside (ready_valid _ _ _ 0 c.before.before.before.before.before.before.check-tables.ensures c.before.before.before.before.enum_told.given.1)
 
 returns-6 : tie.Need-returns-6
-returns-6 c = (ready_own _ _ _ _ c.before.before.before.before.before.before.before.before.check-tables.ensures c.before.before.before.before.before.before.enum_told.given.1 c.before.before.before.before.before.first-unfit.ensures c.before.before.before.enum-told5.given.1 c.before.own-names.ensures (not_true _ c.if2.true), λ e. let z : ◌≡◌ {A = ℕ} 0 1 = cc in absurd (omega arith))
+returns-6 c = (ready_own _ _ _ _ c.before.before.before.before.before.before.before.before.check-tables.ensures c.before.before.before.before.before.before.enum_told.given.1 c.before.before.before.before.before.first-unfit.ensures c.before.before.before.enum-told5.given.1 c.before.own-names.ensures (not-true _ c.if2.true), λ e. let z : ◌≡◌ {A = ℕ} 0 1 = cc in absurd (omega arith))
 
 link-names-requires : tie.Need-link-names-requires
 link-names-requires c κs = (ready_valid _ _ _ 0 c.before.before.before.before.before.before.before.before.before.check-tables.ensures c.before.before.before.before.before.before.before.enum_told.given.1, c.before.before.before.before.before.before.before.before.before.before.before.before.before.requires)
 
 returns-7 : tie.Need-returns-7
-returns-7 c = (ready_known _ _ _ _ c.before.before.before.before.before.before.before.before.before.before.before.check-tables.ensures c.before.before.before.before.before.before.before.before.before.enum_told.given.1 c.before.before.before.before.before.before.before.before.first-unfit.ensures c.before.before.before.before.before.before.enum-told5.given.1 c.before.link-names.ensures.0 (not_true _ c.if3.true), λ e. let z : ◌≡◌ {A = ℕ} 0 1 = cc in absurd (omega arith))
+returns-7 c = (ready_known _ _ _ _ c.before.before.before.before.before.before.before.before.before.before.before.check-tables.ensures c.before.before.before.before.before.before.before.before.before.enum_told.given.1 c.before.before.before.before.before.before.before.before.first-unfit.ensures c.before.before.before.before.before.before.enum-told5.given.1 c.before.link-names.ensures.0 (not-true _ c.if3.true), λ e. let z : ◌≡◌ {A = ℕ} 0 1 = cc in absurd (omega arith))
 
 returns-8 : tie.Need-returns-8
-returns-8 c = (ready_yes _ _ _ _ c.before.before.before.before.before.before.before.before.before.before.before.check-tables.ensures c.before.before.before.before.before.before.before.before.before.enum_told.given.1 c.before.before.before.before.before.before.before.before.first-unfit.ensures c.before.before.before.before.before.before.enum-told5.given.1 c.before.before.before.before.before.if1.false c.before.before.before.before.own-names.ensures (not_false _ c.before.before.before.if2.false) c.before.link-names.ensures.0 (not_false _ c.if3.false), λ e. c.before.link-names.ensures.1 (not_false _ c.if3.false))
+returns-8 c = (ready_yes _ _ _ _ c.before.before.before.before.before.before.before.before.before.before.before.check-tables.ensures c.before.before.before.before.before.before.before.before.before.enum_told.given.1 c.before.before.before.before.before.before.before.before.first-unfit.ensures c.before.before.before.before.before.before.enum-told5.given.1 c.before.before.before.before.before.if1.false c.before.before.before.before.own-names.ensures (not-false _ c.before.before.before.if2.false) c.before.link-names.ensures.0 (not-false _ c.if3.false), λ e. c.before.link-names.ensures.1 (not-false _ c.if3.false))
 
 pub prepare-spec : {M : Type 1} → statement M
 prepare-spec =

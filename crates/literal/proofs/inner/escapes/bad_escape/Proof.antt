@@ -5,7 +5,7 @@ use lib.ListN.{length, drop}
 use mathlib.Core.Path.{◌≡◌, sym, ◌∙◌}
 use native.Mathlib.Omega.{arith}
 use borrow.Author.Rules.{rules}
-use borrow.Author.Tests.{not_true, not_false}
+use borrow.Author.Tests.{not-true, not-false}
 use Rattle.text.specs.Scans.{sought, later}
 use Rattle.text.proofs.Walks.{later_zero, sought_end}
 use Rattle.literal.specs.Escapes.{escape_look, bad_escape}
@@ -58,7 +58,7 @@ returns c =
     let escape-in = at-escape-in.escape-in in
     let escape = at-escape.escape in
     let loop = at-loop.loop in
-    sym (bad_look _ _ loop-test.true _ _ (sym escape-in.ensures ∙ escape.given.1) (sym c.before.is-scalar.ensures ∙ not_true _ c.if1.true)) ∙ loop.invariant
+    sym (bad_look _ _ loop-test.true _ _ (sym escape-in.ensures ∙ escape.given.1) (sym c.before.is-scalar.ensures ∙ not-true _ c.if1.true)) ∙ loop.invariant
 
 add-i-2 : tie.Need-overflow-add-i-2 invariant-loop decreases-loop
 add-i-2 c =
@@ -82,7 +82,7 @@ loop-again-2 c =
     let escape-in = at-escape-in.escape-in in
     let escape = at-escape.escape in
     let loop = at-loop.loop in
-    sym (means_look _ _ loop-test.true _ _ (sym escape-in.ensures ∙ escape.given.1) (sym c.before.is-scalar.ensures ∙ not_false _ c.if1.false)) ∙ loop.invariant
+    sym (means_look _ _ loop-test.true _ _ (sym escape-in.ensures ∙ escape.given.1) (sym c.before.is-scalar.ensures ∙ not-false _ c.if1.false)) ∙ loop.invariant
 
 returns-2 : tie.Need-returns-2 invariant-loop decreases-loop
 returns-2 c = sym (sought_end escape_look _ _ c.loop-test.false) ∙ c.before.loop.invariant

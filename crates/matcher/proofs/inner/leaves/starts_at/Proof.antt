@@ -1,6 +1,6 @@
 -- After j bytes that are alike, the test is that of what is left of the text and of the line.
 use Rattle.matcher.proofs.Leaves.{Same, text_past, text_short, same_none, same_more, same_not, same_all}
-use borrow.Author.Tests.{not_true, not_false}
+use borrow.Author.Tests.{not-true, not-false}
 use borrow.Author.Rules.{rules}
 use native.Mathlib.Omega.{arith}
 use Prim.Native.Nat.{◌-◌}
@@ -42,7 +42,7 @@ alike-requires : tie.Need-alike-requires invariant-loop decreases-loop
 alike-requires c κs = search rules
 
 returns-3 : tie.Need-returns-3 invariant-loop decreases-loop
-returns-3 c = same_not _ _ _ _ _ _ _ c.before.before.before.before.before.before.before.before.before.before.requires c.before.before.before.before.before.loop.invariant c.before.before.before.before.loop-test.true c.before.alike.ensures (not_true _ c.if3.true)
+returns-3 c = same_not _ _ _ _ _ _ _ c.before.before.before.before.before.before.before.before.before.before.requires c.before.before.before.before.before.loop.invariant c.before.before.before.before.loop-test.true c.before.alike.ensures (not-true _ c.if3.true)
 
 add-j : tie.Need-overflow-add-j invariant-loop decreases-loop
 add-j c = omega arith
@@ -51,7 +51,7 @@ loop-less : tie.Need-loop-smaller invariant-loop decreases-loop
 loop-less c = omega arith
 
 loop-again : tie.Need-loop-preserved invariant-loop decreases-loop
-loop-again c = same_more _ _ _ _ _ _ _ c.before.before.before.before.before.before.before.before.before.before.requires c.before.before.before.before.before.loop.invariant c.before.before.before.before.loop-test.true c.before.alike.ensures (not_false _ c.if3.false)
+loop-again c = same_more _ _ _ _ _ _ _ c.before.before.before.before.before.before.before.before.before.before.requires c.before.before.before.before.before.loop.invariant c.before.before.before.before.loop-test.true c.before.alike.ensures (not-false _ c.if3.false)
 
 returns-4 : tie.Need-returns-4 invariant-loop decreases-loop
 returns-4 c = same_all _ _ _ _ _ _ _ c.before.loop.invariant c.loop-test.false

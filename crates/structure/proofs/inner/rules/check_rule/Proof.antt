@@ -3,7 +3,7 @@
 use Rattle.structure.proofs.Rules.{name_in, rule_unnamed, rule_untied, rule_unbraced, rule_refused, rule_unclosed, rule_read}
 use Rattle.structure.proofs.Cycle.{expr_ends}
 use Rattle.structure.proofs.Sizes.{word_short}
-use borrow.Author.Tests.{not_true, not_false}
+use borrow.Author.Tests.{not-true, not-false}
 use native.Mathlib.Omega.{arith}
 use borrow.Author.Rules.{rules}
 use Rattle.token.proofs.Table.{sizes}
@@ -17,10 +17,10 @@ not-allowed-requires : tie.Need-not-allowed-requires
 not-allowed-requires c κs = c.before.before.before.before.requires
 
 returns : tie.Need-returns
-returns c = rule_unnamed _ _ _ _ c.before.before.is_name.ensures (not_true _ c.before.if1.true) _ c.not-allowed.ensures
+returns c = rule_unnamed _ _ _ _ c.before.before.is_name.ensures (not-true _ c.before.if1.true) _ c.not-allowed.ensures
 
 add-expect : tie.Need-overflow-add-expect
-add-expect c = let i = name_in _ _ _ c.before.is_name.ensures (not_false _ c.if1.false) in let z = sizes _ _ c.before.before.before.before.requires in omega arith
+add-expect c = let i = name_in _ _ _ c.before.is_name.ensures (not-false _ c.if1.false) in let z = sizes _ _ c.before.before.before.before.requires in omega arith
 
 expect-requires : tie.Need-expect-requires
 expect-requires c κs = (c.before.before.before.before.requires, omega arith)
@@ -32,7 +32,7 @@ enum_told : tie.Need-enum-told
 enum_told c = search rules
 
 add-not-allowed : tie.Need-overflow-add-not-allowed
-add-not-allowed c = let i = name_in _ _ _ c.before.before.before.before.is_name.ensures (not_false _ c.before.before.before.if1.false) in let z = sizes _ _ c.before.before.before.before.before.before.before.requires in omega arith
+add-not-allowed c = let i = name_in _ _ _ c.before.before.before.before.is_name.ensures (not-false _ c.before.before.before.if1.false) in let z = sizes _ _ c.before.before.before.before.before.before.before.requires in omega arith
 
 not-allowed-requires-2 : tie.Need-not-allowed-requires-2
 not-allowed-requires-2 c κs = c.before.before.before.before.before.before.before.requires
@@ -42,7 +42,7 @@ returns-2 c =
     let at-expect = c.before.before.before in
     let at-if1 = at-expect.before in
     let at-is-name = at-if1.before in
-    rule_untied _ _ _ _ at-is-name.is_name.ensures (not_false _ at-if1.if1.false) _ at-expect.expect.ensures c.before.enum_told.given.1 _ c.not-allowed2.ensures
+    rule_untied _ _ _ _ at-is-name.is_name.ensures (not-false _ at-if1.if1.false) _ at-expect.expect.ensures c.before.enum_told.given.1 _ c.not-allowed2.ensures
 
 past-mark-requires : tie.Need-past-mark-requires
 past-mark-requires c κs = c.before.before.before.before.before.before.before.before.requires
@@ -67,7 +67,7 @@ returns-3 c =
     let at-expect = at-tie.before.before in
     let at-if1 = at-expect.before in
     let at-is-name = at-if1.before in
-    rule_unbraced _ _ _ _ at-is-name.is_name.ensures (not_false _ at-if1.if1.false) _ at-expect.expect.ensures _ at-tie.tie.given.1 _ at-past-mark.past-mark.ensures _ at-expect2.expect2.ensures c.before.enum-told2.given.1 _ c.not-allowed3.ensures
+    rule_unbraced _ _ _ _ at-is-name.is_name.ensures (not-false _ at-if1.if1.false) _ at-expect.expect.ensures _ at-tie.tie.given.1 _ at-past-mark.past-mark.ensures _ at-expect2.expect2.ensures c.before.enum-told2.given.1 _ c.not-allowed3.ensures
 
 past-bar-requires : tie.Need-past-bar-requires
 past-bar-requires c κs = c.before.before.before.before.before.before.before.before.before.before.before.before.before.requires
@@ -108,7 +108,7 @@ returns-4 c =
     let at-expect = at-tie.before.before in
     let at-if1 = at-expect.before in
     let at-is-name = at-if1.before in
-    rule_unclosed _ _ _ _ at-is-name.is_name.ensures (not_false _ at-if1.if1.false) _ at-expect.expect.ensures _ at-tie.tie.given.1 _ at-past-mark.past-mark.ensures _ at-expect2.expect2.ensures _ at-brace.brace.given.1 _ at-past-bar.past-bar.ensures _ at-check-expr.check-expr.ensures _ _ _ at-inside2.inside2.given.1 _ at-expect3.expect3.ensures c.before.enum-told3.given.1 _ c.not-allowed4.ensures
+    rule_unclosed _ _ _ _ at-is-name.is_name.ensures (not-false _ at-if1.if1.false) _ at-expect.expect.ensures _ at-tie.tie.given.1 _ at-past-mark.past-mark.ensures _ at-expect2.expect2.ensures _ at-brace.brace.given.1 _ at-past-bar.past-bar.ensures _ at-check-expr.check-expr.ensures _ _ _ at-inside2.inside2.given.1 _ at-expect3.expect3.ensures c.before.enum-told3.given.1 _ c.not-allowed4.ensures
 
 word-bytes-requires : tie.Need-word-bytes-requires
 word-bytes-requires c κs =
@@ -138,7 +138,7 @@ returns-5 c =
     let at-expect = at-tie.before.before in
     let at-if1 = at-expect.before in
     let at-is-name = at-if1.before in
-    rule_refused _ _ _ _ at-is-name.is_name.ensures (not_false _ at-if1.if1.false) _ at-expect.expect.ensures _ at-tie.tie.given.1 _ at-past-mark.past-mark.ensures _ at-expect2.expect2.ensures _ at-brace.brace.given.1 _ at-past-bar.past-bar.ensures _ at-check-expr.check-expr.ensures _ c.before.inside.given.1
+    rule_refused _ _ _ _ at-is-name.is_name.ensures (not-false _ at-if1.if1.false) _ at-expect.expect.ensures _ at-tie.tie.given.1 _ at-past-mark.past-mark.ensures _ at-expect2.expect2.ensures _ at-brace.brace.given.1 _ at-past-bar.past-bar.ensures _ at-check-expr.check-expr.ensures _ c.before.inside.given.1
 
 returns-6 : tie.Need-returns-6
 returns-6 c =
@@ -154,7 +154,7 @@ returns-6 c =
     let at-expect = at-tie.before.before in
     let at-if1 = at-expect.before in
     let at-is-name = at-if1.before in
-    rule_read _ _ _ _ at-is-name.is_name.ensures (not_false _ at-if1.if1.false) _ at-expect.expect.ensures _ at-tie.tie.given.1 _ at-past-mark.past-mark.ensures _ at-expect2.expect2.ensures _ at-brace.brace.given.1 _ at-past-bar.past-bar.ensures _ at-check-expr.check-expr.ensures _ _ _ at-inside2.inside2.given.1 _ at-expect3.expect3.ensures _ at-close.close.given.1 _ c.word_bytes.ensures
+    rule_read _ _ _ _ at-is-name.is_name.ensures (not-false _ at-if1.if1.false) _ at-expect.expect.ensures _ at-tie.tie.given.1 _ at-past-mark.past-mark.ensures _ at-expect2.expect2.ensures _ at-brace.brace.given.1 _ at-past-bar.past-bar.ensures _ at-check-expr.check-expr.ensures _ _ _ at-inside2.inside2.given.1 _ at-expect3.expect3.ensures _ at-close.close.given.1 _ c.word_bytes.ensures
 
 pub check-rule-spec : {M : Type 1} → statement M
 check-rule-spec =

@@ -3,7 +3,7 @@
 use Rattle.table.proofs.Lowest.{lowest_none, lowest_more, lowest_bad}
 use Rattle.table.specs.Check.{good_rule, lowest}
 use Rattle.text.specs.declared.Scan.TheVariants.{Through}
-use borrow.Author.Tests.{not_true, not_false}
+use borrow.Author.Tests.{not-true, not-false}
 use native.Mathlib.Omega.{arith}
 use mathlib.Core.Path.{◌≡◌, sym, ap, ◌∙◌}
 use Prim.Native.Nat.{◌-◌, ◌≤◌}
@@ -42,7 +42,7 @@ good-rule-requires c κs =
 returns-2 : tie.Need-returns-2 invariant-loop decreases-loop
 returns-2 c =
     let start = c.before.before.before.before.before.before.before.before.before.before in
-    sym (lowest_bad (good_rule start.args.nodes.now start.args.rules.now start.args.store.now) _ _ c.before.before.before.before.loop-test.true c.before.before.before.before.before.loop.invariant.1 (sym c.before.good-rule.ensures ∙ not_true _ c.if2.true))
+    sym (lowest_bad (good_rule start.args.nodes.now start.args.rules.now start.args.store.now) _ _ c.before.before.before.before.loop-test.true c.before.before.before.before.before.loop.invariant.1 (sym c.before.good-rule.ensures ∙ not-true _ c.if2.true))
 
 add-k : tie.Need-overflow-add-k invariant-loop decreases-loop
 add-k c = search rules
@@ -53,7 +53,7 @@ loop-less c = search rules
 loop-again : tie.Need-loop-preserved invariant-loop decreases-loop
 loop-again c =
     let start = c.before.before.before.before.before.before.before.before.before.before in
-    (omega arith, lowest_more (good_rule start.args.nodes.now start.args.rules.now start.args.store.now) _ c.before.before.before.before.before.loop.invariant.1 (sym c.before.good-rule.ensures ∙ not_false _ c.if2.false))
+    (omega arith, lowest_more (good_rule start.args.nodes.now start.args.rules.now start.args.store.now) _ c.before.before.before.before.before.loop.invariant.1 (sym c.before.good-rule.ensures ∙ not-false _ c.if2.false))
 
 returns-3 : tie.Need-returns-3 invariant-loop decreases-loop
 returns-3 c =

@@ -1,7 +1,7 @@
 -- Name, mark and root are asked in this order, as in `checks::good_rule`; the name by what is known of the store.
 use Rattle.table.proofs.Heads.{rule_name_out, rule_mark_out, rule_root}
 use native.Mathlib.Omega.{arith}
-use borrow.Author.Tests.{not_true, not_false}
+use borrow.Author.Tests.{not-true, not-false}
 use mathlib.Core.Path.{sym, ◌∙◌}
 use borrow.Author.Rules.{rules}
 use Rattle.table.proofs.inner.heavy.good_rule.Statement.{statement}
@@ -16,7 +16,7 @@ good-text-requires c κs = search rules
 returns : tie.Need-returns
 returns c =
     let start = c.before.before.before.before.before.before.before in
-    sym (rule_name_out start.args.nodes.now start.args.rules.now start.args.store.now start.args.k _ c.before.before.head_at.ensures (sym c.before.good-text.ensures ∙ not_true _ c.if1.true))
+    sym (rule_name_out start.args.nodes.now start.args.rules.now start.args.store.now start.args.k _ c.before.before.head_at.ensures (sym c.before.good-text.ensures ∙ not-true _ c.if1.true))
 
 returns-2 : tie.Need-returns-2
 returns-2 c =
@@ -31,7 +31,7 @@ good-root-requires c κs =
 returns-3 : tie.Need-returns-3
 returns-3 c =
     let start = c.before.before.before.before.before.before.before.before.before.before in
-    c.good-root.ensures ∙ sym (rule_root start.args.nodes.now start.args.rules.now start.args.store.now start.args.k _ c.before.before.before.before.before.head_at.ensures (sym c.before.before.before.before.good-text.ensures ∙ not_false _ c.before.before.before.if1.false) c.before.if2.false)
+    c.good-root.ensures ∙ sym (rule_root start.args.nodes.now start.args.rules.now start.args.store.now start.args.k _ c.before.before.before.before.before.head_at.ensures (sym c.before.before.before.before.good-text.ensures ∙ not-false _ c.before.before.before.if1.false) c.before.if2.false)
 
 pub good-rule-spec : {M : Type 1} → statement M
 good-rule-spec =

@@ -4,7 +4,7 @@ use Prim.Native.Nat.{◌-◌}
 use mathlib.Core.Path.{◌≡◌, refl, sym, ◌∙◌}
 use native.Mathlib.Omega.{arith}
 use lib.ListN.{length, drop}
-use borrow.Author.Tests.{not_true, not_false}
+use borrow.Author.Tests.{not-true, not-false}
 use borrow.Author.Rules.{rules}
 use Rattle.text.specs.Words.{in_word}
 use Rattle.text.specs.Booleans.{all}
@@ -28,7 +28,7 @@ in-word-requires : tie.Need-in-word-requires invariant-loop decreases-loop
 in-word-requires c κs = search rules
 
 returns : tie.Need-returns invariant-loop decreases-loop
-returns c = sym (all_stop in_word _ _ c.before.before.before.loop-test.true (sym c.before.in-word.ensures ∙ not_true _ c.if1.true)) ∙ c.before.before.before.before.loop.invariant
+returns c = sym (all_stop in_word _ _ c.before.before.before.loop-test.true (sym c.before.in-word.ensures ∙ not-true _ c.if1.true)) ∙ c.before.before.before.before.loop.invariant
 
 add-i : tie.Need-overflow-add-i invariant-loop decreases-loop
 add-i c = omega arith
@@ -37,7 +37,7 @@ loop-less : tie.Need-loop-smaller invariant-loop decreases-loop
 loop-less c = omega arith
 
 loop-again : tie.Need-loop-preserved invariant-loop decreases-loop
-loop-again c = sym (all_step in_word _ _ c.before.before.before.loop-test.true (sym c.before.in-word.ensures ∙ not_false _ c.if1.false)) ∙ c.before.before.before.before.loop.invariant
+loop-again c = sym (all_step in_word _ _ c.before.before.before.loop-test.true (sym c.before.in-word.ensures ∙ not-false _ c.if1.false)) ∙ c.before.before.before.before.loop.invariant
 
 returns-2 : tie.Need-returns-2 invariant-loop decreases-loop
 returns-2 c = sym (all_end in_word _ _ c.loop-test.false) ∙ c.before.loop.invariant

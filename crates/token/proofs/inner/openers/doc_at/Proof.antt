@@ -2,7 +2,7 @@
 -- `drop_next` counts the byte behind the second slash from the text's start.
 use mathlib.Core.Path.{sym, ◌∙◌}
 use native.Mathlib.Omega.{arith}
-use borrow.Author.Tests.{not_true, not_false}
+use borrow.Author.Tests.{not-true, not-false}
 use borrow.Author.Rules.{rules}
 use Rattle.token.specs.Tokens.{doc_token}
 use Rattle.token.proofs.Places.{found, none}
@@ -21,7 +21,7 @@ next-is-requires c κs = search rules
 
 returns : tie.Need-returns
 unfolding doc_token
-returns c = rw (sym c.before.next_is_lem.ensures ∙ not_true _ c.if1.true) (none _)
+returns c = rw (sym c.before.next_is_lem.ensures ∙ not-true _ c.if1.true) (none _)
 
 next-is-requires-2 : tie.Need-next-is-requires-2
 next-is-requires-2 c κs = search rules
@@ -36,7 +36,7 @@ returns-2 c =
     let if1 = c.before.before.before.if1 in
     let next-is2 = c.before.before.next-is2 in
     let if2 = c.before.if2 in
-    rw (sym next_is_lem.ensures ∙ not_false _ if1.false, drop_next, sym next-is2.ensures ∙ if2.true) (found 26 _ _ _ (omega arith))
+    rw (sym next_is_lem.ensures ∙ not-false _ if1.false, drop_next, sym next-is2.ensures ∙ if2.true) (found 26 _ _ _ (omega arith))
 
 next-is-requires-3 : tie.Need-next-is-requires-3
 next-is-requires-3 c κs = search rules
@@ -53,7 +53,7 @@ returns-3 c =
     let if2 = c.before.before.before.if2 in
     let next-is3 = c.before.before.next-is3 in
     let if3 = c.before.if3 in
-    rw (sym next_is_lem.ensures ∙ not_false _ if1.false, drop_next, sym next-is2.ensures ∙ if2.false, sym next-is3.ensures ∙ if3.true) (found 27 _ _ _ (omega arith))
+    rw (sym next_is_lem.ensures ∙ not-false _ if1.false, drop_next, sym next-is2.ensures ∙ if2.false, sym next-is3.ensures ∙ if3.true) (found 27 _ _ _ (omega arith))
 
 returns-4 : tie.Need-returns-4
 unfolding doc_token
@@ -67,7 +67,7 @@ returns-4 c =
     let next-is2 = at-next-is2.next-is2 in
     let if2 = at-if2.if2 in
     let next-is3 = c.before.next-is3 in
-    rw (sym next_is_lem.ensures ∙ not_false _ if1.false, drop_next, sym next-is2.ensures ∙ if2.false, sym next-is3.ensures ∙ c.if3.false) (none _)
+    rw (sym next_is_lem.ensures ∙ not-false _ if1.false, drop_next, sym next-is2.ensures ∙ if2.false, sym next-is3.ensures ∙ c.if3.false) (none _)
 
 pub doc-at-spec : {M : Type 1} → statement M
 doc-at-spec =

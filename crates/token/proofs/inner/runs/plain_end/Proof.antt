@@ -4,7 +4,7 @@ use Prim.Native.Nat.{◌+◌, ◌-◌}
 use mathlib.Core.Path.{◌≡◌, refl, sym, ◌∙◌}
 use native.Mathlib.Omega.{arith}
 use lib.ListN.{length, drop}
-use borrow.Author.Tests.{not_false}
+use borrow.Author.Tests.{not-false}
 use Rattle.token.specs.Blanks.{line}
 use Rattle.token.proofs.Runs.{line_plain}
 use Rattle.token.proofs.inner.runs.plain_end.Statement.{statement}
@@ -38,7 +38,7 @@ loop-less : tie.Need-loop-smaller invariant-loop decreases-loop
 loop-less c = omega arith
 
 loop-again : tie.Need-loop-preserved invariant-loop decreases-loop
-loop-again c = sym (line_plain 16 _ _ (omega arith) (c.before.is_plain.ensures.0 (not_false _ c.if2.false))) ∙ c.before.before.before.before.loop.invariant
+loop-again c = sym (line_plain 16 _ _ (omega arith) (c.before.is_plain.ensures.0 (not-false _ c.if2.false))) ∙ c.before.before.before.before.loop.invariant
 
 returns-3 : tie.Need-returns-3 invariant-loop decreases-loop
 returns-3 c = c.before.loop.invariant

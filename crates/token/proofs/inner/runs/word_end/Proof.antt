@@ -4,7 +4,7 @@ use Prim.Native.Nat.{◌+◌, ◌-◌}
 use mathlib.Core.Path.{◌≡◌, refl, sym, ◌∙◌}
 use native.Mathlib.Omega.{arith}
 use lib.ListN.{length, drop}
-use borrow.Author.Tests.{not_true, not_false}
+use borrow.Author.Tests.{not-true, not-false}
 use borrow.Author.Rules.{rules}
 use Rattle.text.specs.Words.{in_word}
 use Rattle.token.specs.Blanks.{first, words}
@@ -32,7 +32,7 @@ returns c =
     let loop = c.before.before.before.before.loop in
     let loop-test = c.before.before.before.loop-test in
     let in-word = c.before.in-word in
-    sym (byte_stop in_word _ _ loop-test.true (sym in-word.ensures ∙ not_true _ c.if1.true)) ∙ loop.invariant
+    sym (byte_stop in_word _ _ loop-test.true (sym in-word.ensures ∙ not-true _ c.if1.true)) ∙ loop.invariant
 
 add-i : tie.Need-overflow-add-i invariant-loop decreases-loop
 add-i c = omega arith
@@ -45,7 +45,7 @@ loop-again c =
     let loop = c.before.before.before.before.loop in
     let loop-test = c.before.before.before.loop-test in
     let in-word = c.before.in-word in
-    sym (byte_step in_word _ _ loop-test.true (sym in-word.ensures ∙ not_false _ c.if1.false)) ∙ loop.invariant
+    sym (byte_step in_word _ _ loop-test.true (sym in-word.ensures ∙ not-false _ c.if1.false)) ∙ loop.invariant
 
 returns-2 : tie.Need-returns-2 invariant-loop decreases-loop
 returns-2 c = sym (run_over (first in_word) _ _ c.loop-test.false) ∙ c.before.loop.invariant

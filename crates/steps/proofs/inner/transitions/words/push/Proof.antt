@@ -1,6 +1,6 @@
 -- The next letter of PUSH_LITERAL; with fewer than 4 letters, a word; the token, where PUSH or PUSH_LITERAL is whole and no word goes on; or a refusal.
 -- That is five returns for four cases of the definition: the code asks its last question in two tests, and refuses at either.
-use borrow.Author.Tests.{lt-ltb, le-ltb, not_true, not_false}
+use borrow.Author.Tests.{lt-ltb, le-ltb, not-true, not-false}
 use borrow.Author.Rules.{rules}
 use Rattle.states.specs.Machine.{push_row}
 use Rattle.steps.proofs.inner.transitions.words.push.Statement.{statement}
@@ -41,7 +41,7 @@ returns-3 c =
     let at-if2 = at-whole.before in
     let at-if1 = at-if2.before in
     let at-spells = at-if1.before in
-    rw (← at-spells.spells.ensures, at-if1.if1.false, le-ltb _ 4 at-if2.if2.false, ← at-whole.whole.ensures, not_true at-whole.whole.result at-if3.if3.true, c.refuse.ensures)
+    rw (← at-spells.spells.ensures, at-if1.if1.false, le-ltb _ 4 at-if2.if2.false, ← at-whole.whole.ensures, not-true at-whole.whole.result at-if3.if3.true, c.refuse.ensures)
 
 in-word-requires : tie.Need-in-word-requires
 in-word-requires c κs = search rules
@@ -59,7 +59,7 @@ returns-4 c =
     let at-if2 = at-whole.before in
     let at-if1 = at-if2.before in
     let at-spells = at-if1.before in
-    rw (← at-spells.spells.ensures, at-if1.if1.false, le-ltb _ 4 at-if2.if2.false, ← at-whole.whole.ensures, not_false at-whole.whole.result at-if3.if3.false, ← at-in-word.in-word.ensures, at-if4.if4.true, c.refuse2.ensures)
+    rw (← at-spells.spells.ensures, at-if1.if1.false, le-ltb _ 4 at-if2.if2.false, ← at-whole.whole.ensures, not-false at-whole.whole.result at-if3.if3.false, ← at-in-word.in-word.ensures, at-if4.if4.true, c.refuse2.ensures)
 
 again-requires : tie.Need-again-requires
 again-requires c κs = search rules
@@ -74,7 +74,7 @@ returns-5 c =
     let at-if2 = at-whole.before in
     let at-if1 = at-if2.before in
     let at-spells = at-if1.before in
-    rw (← at-spells.spells.ensures, at-if1.if1.false, le-ltb _ 4 at-if2.if2.false, ← at-whole.whole.ensures, not_false at-whole.whole.result at-if3.if3.false, ← at-in-word.in-word.ensures, at-if4.if4.false) c.again.ensures
+    rw (← at-spells.spells.ensures, at-if1.if1.false, le-ltb _ 4 at-if2.if2.false, ← at-whole.whole.ensures, not-false at-whole.whole.result at-if3.if3.false, ← at-in-word.in-word.ensures, at-if4.if4.false) c.again.ensures
 
 pub push_spec : {M : Type 1} → statement M
 push_spec =
