@@ -8,7 +8,6 @@ use native.Mathlib.Omega.{arith}
 use lib.Dec.{leb}
 use lib.ListN.{length, get_or, drop, length-append}
 use borrow.Author.Tests.{lt-ltb, le-ltb, le-leb, lt-leb}
-use Rattle.text.specs.declared.Decimal.TheVariants as Decimal
 use Rattle.text.specs.Booleans.{choose}
 use Rattle.text.specs.Classes.{digit}
 use Rattle.text.specs.Digits.{digits, decimal, decimal_from, decimal_of}

@@ -1,7 +1,5 @@
 -- Decimal and hex digits: what a run of them is worth, and how a number is written.
 use Rattle.std.specs.Prelude.{ℕ, zero, suc, ◌+◌, ◌-◌, ◌*◌, ◌/◌, ◌%◌, List, [], ◌∷◌, ◌++◌, leb, ltb, length}
-use Rattle.text.specs.declared.Decimal.TheVariants as Decimal
-use Rattle.text.specs.declared.Put.TheVariants as Put
 use Rattle.text.specs.Booleans.{choose, within}
 use Rattle.text.specs.Classes.{digit}
 use Rattle.text.specs.Splice.{fronted}

@@ -2,6 +2,8 @@
 //
 // The entry points stand here and ask nothing of their callers. `inner` has what this crate and the
 // crates above it build on.
+#![tactic(auto)]
+
 pub mod inner;
 pub mod limits;
 
