@@ -1,14 +1,14 @@
 -- A character in a store and in the store cut short at e: it is the same, or it was cut.
-use Prim.Native.Nat.{ℕ, zero, suc, ◌+◌, ◌-◌, ◌≤◌, ◌<◌}
-use mathlib.Core.Path.{◌≡◌, refl, sym, ap, ◌∙◌}
-use mathlib.Core.Bool.{Bool, true, false}
+use Prim.Native.Nat.{ℕ, zero, suc, ◌-◌, ◌≤◌, ◌<◌}
+use mathlib.Core.Path.{◌≡◌, sym, ◌∙◌}
+use mathlib.Core.Bool.{false}
 use mathlib.Core.List.{List, [], ◌∷◌, ◌++◌}
 use native.Mathlib.Omega.{arith}
-use lib.ListN.{length, get_or, take, drop, take-append-drop}
+use lib.ListN.{get_or, take, drop, take-append-drop}
 use lib.Seq.{take-nil}
 use Rattle.text.specs.Booleans.{within}
 use Rattle.text.specs.Utf8.{char_of, Tail}
-use Rattle.text.specs.declared.Sequence.TheVariants.{Is, Broken}
+use Rattle.text.specs.declared.Sequence.TheVariants.{Is}
 use Rattle.text.proofs.Tests.{within_low, within_high}
 use Rattle.text.proofs.Decodes.{Found, one, two, three, four, found}
 use Rattle.text.proofs.Encodes.{found_read}

@@ -3,23 +3,23 @@
 use Prim.Native.Nat.{ℕ, zero, suc, ◌+◌, ◌-◌, ◌*◌, ◌/◌, ◌%◌, ◌≤◌, ◌<◌}
 use mathlib.Core.Path.{◌≡◌, refl, sym, ap, ◌∙◌}
 use mathlib.Core.Bool.{Bool, true, false, not}
-use mathlib.Core.List.{List, [], ◌∷◌}
+use mathlib.Core.List.{List}
 use mathlib.Core.Logic.{⊎_elim}
 use native.Mathlib.Omega.{arith}
-use lib.Dec.{ltb, eqb}
-use lib.ListN.{length, get_or, take, drop, set, length-take, length-drop, length-set}
+use lib.Dec.{ltb}
+use lib.ListN.{length, get_or, take, drop, length-drop, length-set}
 use lib.Seq.{length-take-le, get_or-drop, get_or-set_same, get_or-set_other}
 use borrow.Author.Tests.{lt-ltb, le-ltb, eq-eqb, ne_eqb}
 use Rattle.text.specs.Booleans.{within}
 use Rattle.text.specs.Scans.{sought, later}
-use Rattle.text.specs.Utf8.{char_of, seq_look, look_by, first_bad, Tail}
+use Rattle.text.specs.Utf8.{char_of, seq_look, look_by, first_bad}
 use Rattle.text.specs.declared.Scan.{Scan}
 use Rattle.text.specs.declared.Scan.TheVariants.{Through, StopsAt}
 use Rattle.text.specs.declared.Sequence.{Sequence}
 use Rattle.text.specs.declared.Sequence.TheVariants.{Is, Broken}
 use Rattle.text.proofs.Tests.{lt_or_ge, within_high, within_yes}
 use Rattle.text.proofs.Walks.{sought_stop, sought_end}
-use Rattle.text.proofs.Decodes.{Found, found, decoded}
+use Rattle.text.proofs.Decodes.{found, decoded}
 use Rattle.text.proofs.Encodes.{look_step, look_ascii}
 use Rattle.known.specs.Stops.{stop_of, is_through, stop_from, is_part, noted, Stops, ends_at}
 use Rattle.known.proofs.Cuts.{cut_char, uncut_char, head_byte, tail_byte}

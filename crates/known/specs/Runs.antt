@@ -1,5 +1,5 @@
 -- Where the letters, `_` and digits of a store stop.
-use Rattle.std.specs.Prelude.{ℕ, zero, suc, ◌+◌, ◌/◌, ◌%◌, ◌<◌, ◌≡◌, List, [], ◌∷◌, eqb, length, get_or, drop, set}
+use Rattle.std.specs.Prelude.{ℕ, suc, ◌+◌, ◌/◌, ◌%◌, ◌<◌, ◌≡◌, List, [], ◌∷◌, eqb, length, get_or, drop, set}
 use Rattle.text.specs.Booleans.{choose}
 use Rattle.text.specs.Words.{in_word}
 

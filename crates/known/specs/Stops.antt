@@ -1,5 +1,5 @@
 -- Where the characters of a store stop, and what that says of its parts.
-use Rattle.std.specs.Prelude.{ℕ, zero, suc, ◌+◌, ◌*◌, ◌/◌, ◌%◌, ◌<◌, ◌≡◌, Bool, true, false, not, List, ltb, eqb, length, get_or, take, drop, set}
+use Rattle.std.specs.Prelude.{ℕ, ◌+◌, ◌*◌, ◌/◌, ◌%◌, ◌<◌, ◌≡◌, Bool, true, false, not, List, ltb, eqb, length, get_or, take, drop, set}
 use Rattle.text.specs.Booleans.{choose, within}
 use Rattle.text.specs.Scans.{later}
 use Rattle.text.specs.Utf8.{first_bad}

@@ -2,4 +2,6 @@
 // judged without going over it, however many parts there are.
 //
 // All of it asks something of its callers, so all of it stands in `inner`.
+#![tactic(auto)]
+
 pub mod inner;
