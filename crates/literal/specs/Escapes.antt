@@ -1,5 +1,5 @@
 -- Escapes, and the string that the inside of a literal means.
-use Rattle.std.specs.Prelude.{ℕ, zero, suc, ◌+◌, ◌-◌, ◌*◌, Bool, true, false, List, [], ◌∷◌, leb, ltb, eqb, length, take, drop}
+use Rattle.std.specs.Prelude.{ℕ, ◌+◌, ◌-◌, ◌*◌, List, [], ◌∷◌, leb, ltb, eqb, length, take, drop}
 use Rattle.text.specs.Booleans.{choose, next_is}
 use Rattle.text.specs.Scans.{Piece, spelled, sought}
 use Rattle.text.specs.Splice.{fronted}

@@ -1,5 +1,5 @@
 -- Literals as they are printed.
-use Rattle.std.specs.Prelude.{ℕ, zero, suc, ◌+◌, ◌-◌, ◌/◌, ◌%◌, Bool, true, false, not, List, [], ◌∷◌, ◌++◌, leb, ltb, eqb, length}
+use Rattle.std.specs.Prelude.{ℕ, ◌-◌, Bool, not, List, [], ◌∷◌, ◌++◌, leb, ltb, eqb, length}
 use Rattle.text.specs.Booleans.{choose, and, or, within}
 use Rattle.text.specs.Scans.{Piece, spelled}
 use Rattle.text.specs.Splice.{fronted}

@@ -3,6 +3,8 @@
 //
 // The entry points stand here and ask nothing of their callers. `inner` has what the crates above
 // build on. `unescape` carries over pest_meta's parser.rs, `fmt_literal` its ast.rs.
+#![tactic(auto)]
+
 pub mod inner;
 
 ghost use Rattle.std.specs.Prelude.{◌≡◌, length, drop};
