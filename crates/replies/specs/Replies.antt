@@ -1,12 +1,9 @@
 -- The numbers of what the matcher answers: 30 to 34 are its refusals.
 use Rattle.replies.specs.declared.Answer.{Answer}
-use Rattle.replies.specs.declared.Answer.TheVariants as Answer
 use Rattle.replies.specs.declared.Row.{Row}
 use Rattle.replies.specs.declared.Lines.{Lines}
-use Rattle.replies.specs.declared.Lines.TheVariants as Lines
 use Rattle.replies.specs.declared.Tally.{Tally}
 use Rattle.replies.specs.declared.Found.{Found}
-use Rattle.replies.specs.declared.Found.TheVariants as Found
 use Rattle.replies.specs.declared.Finding.{Finding}
 
 -- an answer's numbers: the number and place of a refusal, 1 if the line matched, the length and the steps

@@ -1,4 +1,6 @@
 // Replies: what the matcher answers, in cases and in numbers.
+#![tactic(auto)]
+
 ghost use Rattle.std.specs.Prelude.{◌≡◌};
 ghost use Rattle.replies.specs.Replies.{numbered, refused_as, tallied, missed_as, finding};
 
