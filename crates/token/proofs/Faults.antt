@@ -9,7 +9,7 @@ use lib.Dec.{ltb, eqb}
 use lib.ListN.{length, get_or, drop, length-drop}
 use lib.Seq.{drop-drop}
 use borrow.Author.Tests.{eqb-true}
-use Rattle.text.specs.Booleans.{choose, next_is}
+use Rattle.text.specs.Booleans.{next_is}
 use Rattle.text.specs.Classes.{class_of}
 use Rattle.text.specs.Words.{starts_word}
 use Rattle.text.specs.Scans.{later, sought}
@@ -26,13 +26,12 @@ use Rattle.literal.specs.Escapes.{escape_of}
 use Rattle.literal.specs.declared.Escape.{Escape}
 use Rattle.literal.specs.declared.Escape.TheVariants.{Means, Plain}
 use Rattle.literal.proofs.Escaped.{meant, means_opens}
-use Rattle.token.specs.Blanks.{first, words, digit_run, zeros, line, blank_of}
-use Rattle.token.specs.Tokens.{moved, allowed, word_token, tag_token, number_token, minus_token, dots_token, inside_look, string_by, string_of, insens_token, quoted, escaped_by, raw_by, char_token, doc_token, opener_token, one_kind, token_by, first_token, token_at}
+use Rattle.token.specs.Blanks.{first, words, digit_run, zeros, blank_of}
+use Rattle.token.specs.Tokens.{moved, allowed, word_token, tag_token, number_token, minus_token, dots_token, inside_look, string_by, string_of, insens_token, quoted, escaped_by, raw_by, char_token, doc_token, opener_token, token_by, first_token, token_at}
 use Rattle.token.specs.Lists.{tokens_of, past_last}
 use Rattle.token.specs.Lister.{listed_by, checked_by, next_of}
 use Rattle.token.specs.Faults.{Stray, Meets, here, past_byte, past_escape, BadEscape, in_string, in_insens, in_character, FaultAt, FaultFrom}
 use Rattle.token.specs.declared.Token.{Token}
-use Rattle.token.specs.declared.Token.TheVariants as Token
 use Rattle.token.specs.declared.Listed.{Listed}
 use Rattle.token.specs.declared.Listed.TheVariants.{TooLong, NoToken}
 use Rattle.token.proofs.Runs.{next_at, drop_next}

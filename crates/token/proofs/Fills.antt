@@ -18,7 +18,6 @@ use Rattle.token.specs.Table.{token_size, row_of, flat, room_of, toks}
 use Rattle.token.specs.declared.Token.{Token}
 use Rattle.token.specs.declared.Token.TheVariants.{Found, End, NoToken}
 use Rattle.token.specs.declared.Filled.{Filled}
-use Rattle.token.specs.declared.Filled.TheVariants as Filled
 use Rattle.token.proofs.Bounds.{token_in}
 use Rattle.token.proofs.Lists.{tokens_law}
 use Rattle.token.proofs.Table.{flat_length, behind, front_is, row_fits}

@@ -1,6 +1,6 @@
 -- Laws of the lister.
 use Prim.Native.Nat.{ℕ, ◌≤◌, ◌<◌}
-use mathlib.Core.Path.{◌≡◌, sym, ap, ◌∙◌}
+use mathlib.Core.Path.{◌≡◌, ap}
 use mathlib.Core.List.{List}
 use native.Mathlib.Omega.{arith}
 use lib.Dec.{ltb}
@@ -14,7 +14,6 @@ use Rattle.text.specs.Limits.{max_text}
 use Rattle.token.specs.Tokens.{token_at}
 use Rattle.token.specs.Lister.{listed_by, checked_by, next_of, numbers_of, lister}
 use Rattle.token.specs.declared.Token.{Token}
-use Rattle.token.specs.declared.Token.TheVariants as Token
 use Rattle.token.specs.declared.Listed.{Listed}
 use Rattle.token.specs.declared.Listed.TheVariants.{TooLong, NotUtf8, Next}
 use Rattle.token.proofs.Bounds.{Inside, token_in}

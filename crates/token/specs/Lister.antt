@@ -7,7 +7,6 @@ use Rattle.text.specs.declared.Scan.TheVariants.{Through, StopsAt}
 use Rattle.text.specs.Limits.{max_text}
 use Rattle.token.specs.Tokens.{token_at}
 use Rattle.token.specs.declared.Token.{Token}
-use Rattle.token.specs.declared.Token.TheVariants as Token
 use Rattle.token.specs.declared.Listed.{Listed}
 use Rattle.token.specs.declared.Listed.TheVariants.{TooLong, NotUtf8, Next, End, NoToken}
 

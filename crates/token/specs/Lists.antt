@@ -7,7 +7,6 @@ use Rattle.token.specs.Tokens.{token_at}
 use Rattle.token.specs.declared.Token.{Token}
 use Rattle.token.specs.declared.Token.TheVariants.{Found, End, NoToken}
 use Rattle.token.specs.declared.Filled.{Filled}
-use Rattle.token.specs.declared.Filled.TheVariants as Filled
 
 -- a token: kind, start, end
 pub data Tok : Type 0 where

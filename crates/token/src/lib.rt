@@ -2,6 +2,8 @@
 //
 // The entry point stands here and asks nothing of its callers. `inner` has what the crates above
 // build on.
+#![tactic(auto)]
+
 pub mod inner;
 pub mod kind;
 
