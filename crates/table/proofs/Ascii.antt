@@ -16,7 +16,7 @@ use Rattle.table.specs.declared.Node.TheVariants.{Tip}
 use Rattle.table.specs.declared.First.TheVariants.{At}
 use Rattle.table.specs.Record.{node_size, part, node_of, node_at}
 use Rattle.table.specs.Check.{is_through, is_utf8, fine_text, in_store, good_leaf, verdict}
-use Rattle.table.proofs.Texts.{text_in_lem}
+use Rattle.table.proofs.Texts.{text_in}
 use Rattle.table.proofs.Verdicts.{verdict_tip}
 
 take_low : (n : ℕ) (xs : List ℕ) → Low xs → Low (take n xs)
@@ -87,4 +87,4 @@ module _ (ns st : List ℕ) (i : ℕ) where
     pub string_good : Low st → in_store st p q ≡ true → verdict ns st i ≡ At i
     string_good h g =
         let s = string_of_lem in
-        verdict_tip ns st i string_at (text_in_lem st s.sort p q g ∙ s.fine (part st p q) ∙ low_utf8 _ (take_low q _ (drop_low p st h)))
+        verdict_tip ns st i string_at (text_in st s.sort p q g ∙ s.fine (part st p q) ∙ low_utf8 _ (take_low q _ (drop_low p st h)))

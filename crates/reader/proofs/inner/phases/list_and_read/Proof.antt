@@ -1,6 +1,6 @@
 -- By what `fill` answers: a full table (`list_and_read_full`), a place with no token (`list_and_read_stopped`), or all n tokens.
 -- In that case the first n rows of the table are the text's tokens and nothing else (`lent`), as `build` asks, whose answer is handed on.
-use Rattle.reader.proofs.Answers.{list_and_read_full, list_and_read_stopped, list_and_read_filled, few_numbers, room_in_lem, takes, lent}
+use Rattle.reader.proofs.Answers.{list_and_read_full, list_and_read_stopped, list_and_read_filled, few_numbers, room_in, takes, lent}
 use native.Mathlib.Omega.{arith}
 use borrow.Author.Rules.{rules}
 use Rattle.reader.proofs.inner.phases.list_and_read.Statement.{statement}
@@ -38,7 +38,7 @@ slice-reshare-prefix-judge-and-build c =
     let at-filled2 = c.before in
     let at_fill_lem = at-filled2.before.before.before.before in
     let start = at_fill_lem.before.before.before.before.before.before.before in
-    room_in_lem start.args.text.now start.args.tokens.now _ at_fill_lem.fill.ensures.0 _ at-filled2.filled2.given.1 _ at_fill_lem.fill.ensures.1
+    room_in start.args.text.now start.args.tokens.now _ at_fill_lem.fill.ensures.0 _ at-filled2.filled2.given.1 _ at_fill_lem.fill.ensures.1
 
 slice-aggregate-judge-and-build : tie.Need-slice-aggregate-judge-and-build
 slice-aggregate-judge-and-build c =

@@ -1,7 +1,7 @@
 -- `one` and `two` are 0 or 1 (`told_low`), so a product is 0 or the number itself. Each return is a law of Kids: `last_out`, `left_out`,
--- `told_first`. Children that passed the tests so far have entries among the first nodes (`right_in`, `left_in_lem`).
+-- `told_first`. Children that passed the tests so far have entries among the first nodes (`right_in`, `left_in`).
 use Rattle.table.specs.Record.{node_size}
-use Rattle.table.proofs.Children.{last_out, right_in, left_out, left_in_lem, told_first, told_low, small, choose_below, one_of}
+use Rattle.table.proofs.Children.{last_out, right_in, left_out, left_in, told_first, told_low, small, choose_below, one_of}
 use lib.ListN.{get_or}
 use lib.Dec.{eqb}
 use native.Mathlib.Omega.{arith}
@@ -112,12 +112,12 @@ mul-wide-3 c =
 mul-wide-4 : tie.Need-overflow-mul-wide-4
 mul-wide-4 c =
     let s = c.before.before.before.before.before.before.before.before.before.before in
-    omega (arith, left_in_lem s.args.nodes.now s.args.store.now s.args.i s.requires.1.1.0 s.args.one s.args.two s.requires.1.1.1 c.before.before.before.before.pick.ensures c.before.before.before.if1.false c.before.wide.ensures c.if2.false s.requires.1.0)
+    omega (arith, left_in s.args.nodes.now s.args.store.now s.args.i s.requires.1.1.0 s.args.one s.args.two s.requires.1.1.1 c.before.before.before.before.pick.ensures c.before.before.before.if1.false c.before.wide.ensures c.if2.false s.requires.1.0)
 
 shared-slice-read-wide-2 : tie.Need-shared-slice-read-wide-2
 shared-slice-read-wide-2 c =
     let s = c.before.before.before.before.before.before.before.before.before.before.before in
-    omega (arith, left_in_lem s.args.nodes.now s.args.store.now s.args.i s.requires.1.1.0 s.args.one s.args.two s.requires.1.1.1 c.before.before.before.before.before.pick.ensures c.before.before.before.before.if1.false c.before.before.wide.ensures c.before.if2.false s.requires.1.0)
+    omega (arith, left_in s.args.nodes.now s.args.store.now s.args.i s.requires.1.1.0 s.args.one s.args.two s.requires.1.1.1 c.before.before.before.before.before.pick.ensures c.before.before.before.before.if1.false c.before.before.wide.ensures c.before.if2.false s.requires.1.0)
 
 wide-requires-2 : tie.Need-wide-requires-2
 wide-requires-2 c κs = search rules

@@ -1,6 +1,6 @@
 -- A text that isn't inside the store is false (`text_out`). Of one that is, offset and length can be added, and its bytes decide,
--- by its sort (`text_in_lem`).
-use Rattle.table.proofs.Texts.{text_in_lem, text_out, part_between}
+-- by its sort (`text_in`).
+use Rattle.table.proofs.Texts.{text_in, text_out, part_between}
 use Rattle.table.specs.Check.{fine_text}
 use mathlib.Core.Path.{sym, ap, ◌∙◌}
 use native.Mathlib.Omega.{arith}
@@ -41,7 +41,7 @@ returns c =
     let store = start.args.store.now in
     let is-inside = at-is-inside.is-inside in
     let if1 = at-if1.if1 in
-    c.fine-text.ensures ∙ ap (fine_text start.args.sort) (part_between store start.args.p start.args.n) ∙ sym (text_in_lem store start.args.sort start.args.p start.args.n (sym is-inside.ensures ∙ if1.true))
+    c.fine-text.ensures ∙ ap (fine_text start.args.sort) (part_between store start.args.p start.args.n) ∙ sym (text_in store start.args.sort start.args.p start.args.n (sym is-inside.ensures ∙ if1.true))
 
 returns-2 : tie.Need-returns-2
 returns-2 c =

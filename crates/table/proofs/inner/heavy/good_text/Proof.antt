@@ -1,6 +1,6 @@
--- A text that isn't inside the store is false (`text_out`). Of one that is, what is known of its part decides (`part_is`, `text_in_lem`).
+-- A text that isn't inside the store is false (`text_out`). Of one that is, what is known of its part decides (`part_is`, `text_in`).
 use Rattle.table.specs.Check.{fine_text}
-use Rattle.table.proofs.Texts.{text_in_lem, text_out}
+use Rattle.table.proofs.Texts.{text_in, text_out}
 use Rattle.table.proofs.Heavy.{part_is}
 use Prim.Native.Nat.{◌+◌}
 use native.Mathlib.Omega.{arith}
@@ -23,7 +23,7 @@ fine-part-requires c κs = (c.before.before.before.requires.0, (c.before.before.
 returns : tie.Need-returns
 returns c =
     let store = c.before.before.before.before.args.store.now in
-    c.fine-part.ensures ∙ ap (fine_text c.before.before.before.before.args.sort) (part_is store c.before.before.before.before.args.p c.before.before.before.before.args.n) ∙ sym (text_in_lem store c.before.before.before.before.args.sort c.before.before.before.before.args.p c.before.before.before.before.args.n (sym c.before.before.is-inside.ensures ∙ c.before.if1.true))
+    c.fine-part.ensures ∙ ap (fine_text c.before.before.before.before.args.sort) (part_is store c.before.before.before.before.args.p c.before.before.before.before.args.n) ∙ sym (text_in store c.before.before.before.before.args.sort c.before.before.before.before.args.p c.before.before.before.before.args.n (sym c.before.before.is-inside.ensures ∙ c.before.if1.true))
 
 returns-2 : tie.Need-returns-2
 returns-2 c = sym (text_out c.before.before.before.args.store.now c.before.before.before.args.sort c.before.before.before.args.p c.before.before.before.args.n (sym c.before.is-inside.ensures ∙ c.if1.false))
