@@ -9,7 +9,7 @@ use text::{Put, limits};
 use token::inner::listing::TOKEN_SIZE;
 
 // What to keep for the next packet; or the program is to end, and has told why.
-#[derive(Drop)]
+#[derive(Clone, Copy)]
 enum Turn {
     Goes(Feed),
     Ended,

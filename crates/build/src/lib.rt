@@ -7,7 +7,7 @@ use table::Unary;
 
 // Where the building goes on: the token, the record and the store byte after what was built; and its
 // span.
-#[derive(Drop)]
+#[derive(Clone, Copy)]
 pub struct Placed {
     pub next: usize,
     pub used: usize,
@@ -17,14 +17,14 @@ pub struct Placed {
 }
 
 // A postfix and the token after it, or none.
-#[derive(Drop)]
+#[derive(Clone, Copy)]
 pub enum FoundPostfix {
     Post(Unary, usize),
     Nothing,
 }
 
 // Where postfixes end: the token and the record after them, and the end of the node that they make.
-#[derive(Drop)]
+#[derive(Clone, Copy)]
 pub struct PutPostfixes {
     pub next: usize,
     pub used: usize,
@@ -32,14 +32,14 @@ pub struct PutPostfixes {
 }
 
 // Past a term's tag: the token and the store byte after it.
-#[derive(Drop)]
+#[derive(Clone, Copy)]
 pub struct Tag {
     pub next: usize,
     pub free: usize,
 }
 
 // Past a rule: the token, the node record and the store byte after it.
-#[derive(Drop)]
+#[derive(Clone, Copy)]
 pub struct RuleEnd {
     pub next: usize,
     pub used: usize,

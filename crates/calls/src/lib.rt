@@ -11,7 +11,7 @@
 use states::{Call, Feed};
 
 // Between calls: the state, the list's room, the text's records so far, and the most that a call reported.
-#[derive(Drop)]
+#[derive(Clone, Copy)]
 struct Case {
     state: Feed,
     room: usize,

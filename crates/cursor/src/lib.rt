@@ -9,21 +9,21 @@ ghost use Rattle.cursor.specs.Cursors.{step_of, two_of, moved};
 
 use token::Listed;
 
-#[derive(Drop)]
+#[derive(Clone, Copy)]
 pub struct Cursor<'a> {
     pub text: &'a [u8],
     pub place: usize,
 }
 
 // What a call gives, and the lister's place after it.
-#[derive(Drop)]
+#[derive(Clone, Copy)]
 pub struct Step {
     pub listed: Listed,
     pub place: usize,
 }
 
 // What two calls give, one after the other, and the lister's place after them.
-#[derive(Drop)]
+#[derive(Clone, Copy)]
 pub struct Two {
     pub first: Listed,
     pub second: Listed,

@@ -7,7 +7,7 @@ pub mod inner;
 use table::{Join, Unary};
 
 // The two texts of a tree: with the brackets of the Rust's `Display`, or with the fewest that keep it.
-#[derive(Drop)]
+#[derive(Clone, Copy)]
 pub enum Style {
     Full,
     Short,
@@ -15,7 +15,7 @@ pub enum Style {
 
 // Where an expression stands: as a rule's body or in PUSH( ), behind a predicate or a tag, under a
 // postfix, or on a side of a join.
-#[derive(Drop)]
+#[derive(Clone, Copy)]
 pub enum Place {
     Alone,
     Prefixed,
@@ -25,7 +25,7 @@ pub enum Place {
 }
 
 // What decides, beside its place, whether an expression stands in brackets.
-#[derive(Drop)]
+#[derive(Clone, Copy)]
 pub enum Form {
     Plain,
     Range,
@@ -37,7 +37,7 @@ pub enum Form {
 
 // How what stands over one child is written: before it, with the child's place and whether brackets open
 // in front and close behind; or behind it.
-#[derive(Drop)]
+#[derive(Clone, Copy)]
 pub enum Over {
     Before(Place, bool, bool),
     Behind(Unary),

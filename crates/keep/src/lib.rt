@@ -4,7 +4,7 @@
 pub mod inner;
 
 // A state in numbers.
-#[derive(Drop)]
+#[derive(Clone, Copy)]
 pub struct Packed {
     pub code: usize,
     pub kind: usize,

@@ -19,14 +19,14 @@ use text::limits;
 const STEPS: u64 = 1000000;
 
 // Whether a refusal stands among the answers that were written; or the program is to end, and has told why.
-#[derive(Drop)]
+#[derive(Clone, Copy)]
 enum Wrote {
     All(bool),
     Ended,
 }
 
 // A place in a text, and whether there was a refusal so far; or the program is to end, and has told why.
-#[derive(Drop)]
+#[derive(Clone, Copy)]
 enum Turn {
     At(usize, bool),
     Ended,

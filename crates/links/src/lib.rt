@@ -4,7 +4,7 @@
 pub mod inner;
 
 // How often a repetition goes on at most.
-#[derive(Drop)]
+#[derive(Clone, Copy)]
 pub enum Most {
     UpTo(u32),
     NoEnd,
@@ -12,7 +12,7 @@ pub enum Most {
 
 // What a node asks of a line: a text by offset and length, with or without ASCII case; children by their
 // indexes; a name by its rule's root.
-#[derive(Drop)]
+#[derive(Clone, Copy)]
 pub enum Act {
     Text(bool, usize, usize),
     Range(u32, u32),
@@ -27,21 +27,21 @@ pub enum Act {
 }
 
 // The name that a node mentions, by offset and length.
-#[derive(Drop)]
+#[derive(Clone, Copy)]
 pub enum Mention {
     Name(usize, usize),
     NoName,
 }
 
 // One more than the root of a name's rule, and 0 for ANY.
-#[derive(Drop)]
+#[derive(Clone, Copy)]
 pub enum Link {
     To(u16),
     Nowhere,
 }
 
 // Tables, nodes and names that can be run, or what is refused of them.
-#[derive(Drop)]
+#[derive(Clone, Copy)]
 pub enum Ready {
     Yes,
     FalseTables,

@@ -14,21 +14,21 @@ ghost use Rattle.literal.specs.Literals.{format_of, format_in};
 use text::Scan;
 
 // An escape's number and its length, or no escape.
-#[derive(Drop)]
+#[derive(Clone, Copy)]
 pub enum Escape {
     Means(u32, usize),
     Plain,
 }
 
 // Hex digits that were read: their number, and how many they are.
-#[derive(Drop)]
+#[derive(Clone, Copy)]
 pub struct Digits {
     pub value: u32,
     pub count: usize,
 }
 
 // How a character is printed: a backslash and a letter, bare, or by its number.
-#[derive(Drop)]
+#[derive(Clone, Copy)]
 pub enum Show {
     Pair(u8),
     Bare,
@@ -36,7 +36,7 @@ pub enum Show {
 }
 
 // The quote in use.
-#[derive(Drop)]
+#[derive(Clone, Copy)]
 pub enum Quote {
     Double,
     Single,
@@ -44,7 +44,7 @@ pub enum Quote {
 
 // The string that was written, or the first fault: a byte that is no UTF-8, a backslash that begins
 // no escape, an escape of no character; or no room.
-#[derive(Drop)]
+#[derive(Clone, Copy)]
 pub enum Unescaped {
     Wrote(usize),
     NotUtf8(usize),
@@ -54,7 +54,7 @@ pub enum Unescaped {
 }
 
 // The literal that was written, or why none was.
-#[derive(Drop)]
+#[derive(Clone, Copy)]
 pub enum Formatted {
     Wrote(usize),
     NotUtf8(usize),

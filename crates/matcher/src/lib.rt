@@ -16,7 +16,7 @@ use table::{Named, TableCheck, limits};
 
 // What a visit gives: the place after the match and the steps left, or the steps left where nothing
 // matched.
-#[derive(Drop)]
+#[derive(Clone, Copy)]
 pub enum Outcome {
     Matched(usize, u64),
     Missed(u64),
@@ -24,7 +24,7 @@ pub enum Outcome {
 }
 
 // Where a line ends without its LF or CRLF, and where the next one begins.
-#[derive(Drop)]
+#[derive(Clone, Copy)]
 pub struct Line {
     pub end: usize,
     pub next: usize,

@@ -12,7 +12,7 @@ use structure::{Edition, Level, Refusal};
 
 // The bytes of the text, and the nodes, rules and store bytes that were read from it; or the bytes of a text that was printed, and why
 // it was not read, and where; or why nothing was printed, as the printer says it.
-#[derive(Drop)]
+#[derive(Clone, Copy)]
 pub enum Passed {
     Read(usize, usize, usize, usize),
     Unread(usize, Refusal),

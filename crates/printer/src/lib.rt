@@ -13,7 +13,7 @@ use table::TableCheck;
 
 // The bytes that the printed text uses; or no whole records, too many, or too long a store; or the
 // lowest false node; or the lowest false rule; or an output that is too short.
-#[derive(Drop)]
+#[derive(Clone, Copy)]
 pub enum Printed {
     Used(usize),
     Shape,

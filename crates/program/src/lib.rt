@@ -13,7 +13,7 @@ use forms::Style;
 use text::limits;
 
 // The bytes that were read, up to the input's end or the buffer's; or reading failed.
-#[derive(Drop)]
+#[derive(Clone, Copy)]
 pub enum Input {
     Bytes(usize),
     Failed,

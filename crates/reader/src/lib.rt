@@ -15,21 +15,21 @@ use structure::{Edition, Level, Refusal, Why};
 use text::{Scan, limits};
 
 // The nodes, rules and store bytes used, or why nothing was read, and where.
-#[derive(Drop)]
+#[derive(Clone, Copy)]
 pub enum Reading {
     Read(usize, usize, usize),
     Refused(Refusal),
 }
 
 // What a text got whose tokens were listed in a table; or there are more tokens than it holds.
-#[derive(Drop)]
+#[derive(Clone, Copy)]
 pub enum Attempt {
     Done(Reading),
     Full,
 }
 
 // A place in a text and its line.
-#[derive(Drop)]
+#[derive(Clone, Copy)]
 pub struct Mark {
     pub at: usize,
     pub line: usize,

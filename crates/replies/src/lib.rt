@@ -6,7 +6,7 @@ ghost use Rattle.replies.specs.Replies.{numbered, refused_as, tallied, missed_as
 
 // A length with the steps it took, none with the steps, or a refusal: 30, 31 at a node, 32, 33 at a bad
 // sequence, 34.
-#[derive(Drop)]
+#[derive(Clone, Copy)]
 pub enum Answer {
     Matched(usize, u64),
     NoMatch(u64),
@@ -18,7 +18,7 @@ pub enum Answer {
 }
 
 // An answer in numbers: a refusal's number and place, 1 for a match, its length, the steps.
-#[derive(Drop)]
+#[derive(Clone, Copy)]
 pub struct Row {
     pub number: u64,
     pub place: u64,
@@ -29,7 +29,7 @@ pub struct Row {
 
 // Lines that were run and the place where the first of the others begins, or a refusal: 30, 31 at a node,
 // 32.
-#[derive(Drop)]
+#[derive(Clone, Copy)]
 pub enum Lines {
     Ran(usize, usize),
     FalseTables,
@@ -38,7 +38,7 @@ pub enum Lines {
 }
 
 // The same in numbers: a refusal's number and place, the lines, the place of the next one.
-#[derive(Drop)]
+#[derive(Clone, Copy)]
 pub struct Tally {
     pub number: u64,
     pub place: u64,
@@ -47,7 +47,7 @@ pub struct Tally {
 }
 
 // The lowest rule of a name, by its index, or a refusal: 30, 32.
-#[derive(Drop)]
+#[derive(Clone, Copy)]
 pub enum Found {
     Rule(usize),
     FalseTables,
@@ -55,7 +55,7 @@ pub enum Found {
 }
 
 // The same in numbers: a refusal's number and place, the index.
-#[derive(Drop)]
+#[derive(Clone, Copy)]
 pub struct Finding {
     pub number: u64,
     pub place: u64,

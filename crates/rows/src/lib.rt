@@ -16,7 +16,7 @@ use replies::{Lines, Row};
 use text::Put;
 
 // The bytes of records' lines, and how many of the records are refusals.
-#[derive(Drop)]
+#[derive(Clone, Copy)]
 pub struct Rows {
     pub size: usize,
     pub refused: usize,
@@ -24,7 +24,7 @@ pub struct Rows {
 
 // The bytes of the answers to a block of camera lines, the place where the first line that wasn't run begins
 // and how many lines were refused; or a refusal of the tables or of the rule; or too little room.
-#[derive(Drop)]
+#[derive(Clone, Copy)]
 pub enum Block {
     Lines {
         size: usize,

@@ -19,7 +19,7 @@ use table::inner::layout::{NODE_SIZE, RULE_SIZE};
 use text::{Put, limits};
 
 // The bytes of a text or of a refusal's line; or not even the line has room.
-#[derive(Drop)]
+#[derive(Clone, Copy)]
 pub enum Shown {
     Text(usize),
     Refused(usize),
@@ -27,7 +27,7 @@ pub enum Shown {
 }
 
 // The bytes of the printed text, or why there is none.
-#[derive(Drop)]
+#[derive(Clone, Copy)]
 pub enum Answer {
     Printed(usize),
     Refused { number: u64, place: u64 },
@@ -35,7 +35,7 @@ pub enum Answer {
 
 // The numbers of a layout's tables, the lengths of their parts in the lent buffers, and the index of a rule;
 // or the layout's refusal; or it has no rule of that name.
-#[derive(Drop)]
+#[derive(Clone, Copy)]
 pub enum Layout {
     Tables {
         nodes: usize,

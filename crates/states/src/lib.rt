@@ -2,14 +2,14 @@
 // call answers. There is no code here: definitions, and what is true of them.
 
 // What an escape stands in: a string of a kind, or a character literal.
-#[derive(Drop)]
+#[derive(Clone, Copy)]
 pub enum Lit {
     Text(usize),
     One,
 }
 
 // Where a character of several bytes stands: one, two or three bytes more; after E0, ED, F0, F4.
-#[derive(Drop)]
+#[derive(Clone, Copy)]
 pub enum Tail {
     T1,
     T2,
@@ -22,7 +22,7 @@ pub enum Tail {
 
 // The states. Str, Doc: the kind. Esc to Un: what the escape stands in, and the backslash's place in
 // the token; Un: the digits so far. Com, Star, Bar: the comments open.
-#[derive(Drop)]
+#[derive(Clone, Copy)]
 pub enum State {
     Start,
     Word,
@@ -58,7 +58,7 @@ pub enum State {
 
 // Where the machine stands: the state, where the token in hand starts, and how many bytes of it were
 // seen. Start: where the next byte stands, and 0. Refused: the place, and 0.
-#[derive(Drop)]
+#[derive(Clone, Copy)]
 pub struct Conf {
     pub state: State,
     pub start: usize,
@@ -66,7 +66,7 @@ pub struct Conf {
 }
 
 // UTF-8: between characters; in one that began at a place; in a bad sequence that began at a place.
-#[derive(Drop)]
+#[derive(Clone, Copy)]
 pub enum Utf {
     Whole,
     Mid(Tail, usize),
@@ -74,7 +74,7 @@ pub enum Utf {
 }
 
 // Where a stream stands: the tokens' machine, UTF-8's, the bytes so far, and the records in the list.
-#[derive(Drop)]
+#[derive(Clone, Copy)]
 pub struct Stand {
     pub conf: Conf,
     pub utf: Utf,
@@ -83,7 +83,7 @@ pub struct Stand {
 }
 
 // Between calls a stream is open, or holds a refusal: number, place, and the records in the list.
-#[derive(Drop)]
+#[derive(Clone, Copy)]
 pub enum Status {
     Open(Stand),
     Held(usize, usize, usize),
@@ -91,7 +91,7 @@ pub enum Status {
 
 // The same in numbers that a caller keeps between calls; all zeros: a fresh stream. Where number isn't
 // 0 the stream holds that refusal, and start is its place.
-#[derive(Drop)]
+#[derive(Clone, Copy)]
 pub struct Feed {
     pub state: usize,
     pub start: usize,
@@ -107,7 +107,7 @@ pub struct Feed {
 
 // What a call answers: a refusal's number (0: none) and place, the records in the list (0 if refused),
 // and what to keep for the next call.
-#[derive(Drop)]
+#[derive(Clone, Copy)]
 pub struct Call {
     pub number: usize,
     pub place: usize,

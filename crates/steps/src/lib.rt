@@ -5,7 +5,7 @@ use states::Conf;
 use text::Scan;
 
 // A token that a byte ended, by its kind, start and end; or none.
-#[derive(Drop)]
+#[derive(Clone, Copy)]
 pub enum Given {
     No,
     Yes(u32, u32, u32),
@@ -13,7 +13,7 @@ pub enum Given {
 
 // What a byte does: the token that ended before it, the one that ends with it, and where the machine
 // stands then.
-#[derive(Drop)]
+#[derive(Clone, Copy)]
 pub struct Row {
     pub before: Given,
     pub here: Given,
@@ -21,7 +21,7 @@ pub struct Row {
 }
 
 // The token that stands when the text ends, or a fault's place.
-#[derive(Drop)]
+#[derive(Clone, Copy)]
 pub struct Finish {
     pub token: Given,
     pub fault: Scan,

@@ -13,28 +13,28 @@ use steps::Given;
 
 // What a byte or the end does to a stream: at most two tokens, and where the stream stands then; or a
 // refusal's number and place.
-#[derive(Drop)]
+#[derive(Clone, Copy)]
 pub enum Stepped {
     Moves(Given, Given, Stand),
     Stops(usize, usize),
 }
 
 // The same of a packet, whose tokens are found again when they are written.
-#[derive(Drop)]
+#[derive(Clone, Copy)]
 pub enum Ran {
     Stands(Stand),
     Refuses(usize, usize),
 }
 
 // How far a packet was read, and where the stream stands there.
-#[derive(Drop)]
+#[derive(Clone, Copy)]
 pub struct Part {
     pub stand: Stand,
     pub at: usize,
 }
 
 // The next token of a packet, by its kind, start and end in the packet; or none whose end is known.
-#[derive(Drop)]
+#[derive(Clone, Copy)]
 pub enum Ahead {
     Nothing,
     Token(usize, usize, usize),

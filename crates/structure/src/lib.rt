@@ -5,21 +5,21 @@
 pub mod inner;
 
 // Tagged: tags are kept. Plain: tags are dropped, and PUSH_LITERAL is refused.
-#[derive(Drop)]
+#[derive(Clone, Copy)]
 pub enum Level {
     Tagged,
     Plain,
 }
 
 // First: a minimum may be above its maximum. Second: it may not.
-#[derive(Drop)]
+#[derive(Clone, Copy)]
 pub enum Edition {
     First,
     Second,
 }
 
 // Why a text is refused. The reader gives each reason its number.
-#[derive(Drop)]
+#[derive(Clone, Copy)]
 pub enum Why {
     TooLong,
     NotUtf8,
@@ -38,21 +38,21 @@ pub enum Why {
 }
 
 // A refusal: the reason and the place.
-#[derive(Drop)]
+#[derive(Clone, Copy)]
 pub struct Refusal {
     pub why: Why,
     pub place: usize,
 }
 
 // What is wrong with the values of tokens.
-#[derive(Drop)]
+#[derive(Clone, Copy)]
 pub enum Fault {
     Sound,
     At(Refusal),
 }
 
 // What was checked: the index of the next token, its nodes and its bytes in the store.
-#[derive(Drop)]
+#[derive(Clone, Copy)]
 pub enum Checked {
     Good {
         next: usize,
@@ -63,14 +63,14 @@ pub enum Checked {
 }
 
 // A token that is wanted: the index past it.
-#[derive(Drop)]
+#[derive(Clone, Copy)]
 pub enum Wanted {
     Here(usize),
     Missing,
 }
 
 // A term's tag, if any: the index past it, its nodes and bytes; or no `=` after it.
-#[derive(Drop)]
+#[derive(Clone, Copy)]
 pub enum Opening {
     From {
         next: usize,
@@ -82,7 +82,7 @@ pub enum Opening {
 
 // What opens an expression in a node: the `(`, and the nodes around what it holds; no `(` after PUSH;
 // or nothing does.
-#[derive(Drop)]
+#[derive(Clone, Copy)]
 pub enum Bracket {
     Opens { at: usize, nodes: usize },
     Unopened,
@@ -90,7 +90,7 @@ pub enum Bracket {
 }
 
 // One postfix: the index past it.
-#[derive(Drop)]
+#[derive(Clone, Copy)]
 pub enum PostfixEnd {
     Past(usize),
     Bad(Refusal),
@@ -98,14 +98,14 @@ pub enum PostfixEnd {
 }
 
 // All postfixes of a node: the index past the last, and how many.
-#[derive(Drop)]
+#[derive(Clone, Copy)]
 pub enum PostfixEnds {
     All { next: usize, nodes: usize },
     Bad(Refusal),
 }
 
 // What the rules of a text use.
-#[derive(Drop)]
+#[derive(Clone, Copy)]
 pub enum Counted {
     Rules {
         rules: usize,

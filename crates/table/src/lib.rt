@@ -15,14 +15,14 @@ use text::Scan;
 pub use text::limits;
 
 // How two expressions are joined.
-#[derive(Drop)]
+#[derive(Clone, Copy)]
 pub enum Join {
     Seq,
     Choice,
 }
 
 // What is done to one expression, but for tags.
-#[derive(Drop)]
+#[derive(Clone, Copy)]
 pub enum Unary {
     PosPred,
     NegPred,
@@ -37,7 +37,7 @@ pub enum Unary {
 }
 
 // What a text in the store is.
-#[derive(Drop)]
+#[derive(Clone, Copy)]
 pub enum Sort {
     Str,
     Insens,
@@ -46,14 +46,14 @@ pub enum Sort {
 }
 
 // Where a slice of the stack ends.
-#[derive(Drop)]
+#[derive(Clone, Copy)]
 pub enum End {
     Open,
     At(u32),
 }
 
 // A leaf, its text by offset and length.
-#[derive(Drop)]
+#[derive(Clone, Copy)]
 pub enum Leaf {
     Text(Sort, usize, usize),
     Range(u32, u32),
@@ -61,14 +61,14 @@ pub enum Leaf {
 }
 
 // What stands over one child, a tag's text by offset and length.
-#[derive(Drop)]
+#[derive(Clone, Copy)]
 pub enum Op {
     Plain(Unary),
     NodeTag(usize, usize),
 }
 
 // A node record by its shape, children by their indexes.
-#[derive(Drop)]
+#[derive(Clone, Copy)]
 pub enum Node {
     Tip(Leaf),
     One(Op, usize),
@@ -77,7 +77,7 @@ pub enum Node {
 }
 
 // The first node of a subtree, if its last is not false.
-#[derive(Drop)]
+#[derive(Clone, Copy)]
 pub enum First {
     At(usize),
     Nowhere,
@@ -85,7 +85,7 @@ pub enum First {
 
 // Tables that are not false; or no whole records, too many, or too long a store; or the lowest false
 // node; or the lowest false rule.
-#[derive(Drop)]
+#[derive(Clone, Copy)]
 pub enum TableCheck {
     Good,
     Shape,
@@ -94,28 +94,28 @@ pub enum TableCheck {
 }
 
 // The place of a fault, if there is one.
-#[derive(Drop)]
+#[derive(Clone, Copy)]
 pub enum Fault {
     None,
     At(usize),
 }
 
 // A character with the length of its sequence.
-#[derive(Drop)]
+#[derive(Clone, Copy)]
 pub enum Character {
     Is(u32, usize),
     Broken,
 }
 
 // The rule of a name, by its index.
-#[derive(Drop)]
+#[derive(Clone, Copy)]
 pub enum Named {
     By(usize),
     Nobody,
 }
 
 // A rule record but for its span: where the name lies, the mark, and the root.
-#[derive(Drop)]
+#[derive(Clone, Copy)]
 pub struct Head {
     pub offset: usize,
     pub length: usize,

@@ -14,7 +14,7 @@ ghost use Rattle.text.specs.Words.{word_of};
 ghost use Rattle.text.specs.Digits.{decimal_of, decimal_put, decimal_in, hex_of};
 
 // A number, where there is one.
-#[derive(Drop)]
+#[derive(Clone, Copy)]
 pub enum Value {
     Number(u32),
     Nothing,
@@ -22,35 +22,35 @@ pub enum Value {
 
 // What a first byte says of its sequence: the number's bits in it, how many bytes follow, and the
 // least number that takes so many.
-#[derive(Drop)]
+#[derive(Clone, Copy)]
 pub enum Lead {
     Row(u32, usize, u32),
     Stray,
 }
 
 // A character with the length of its sequence.
-#[derive(Drop)]
+#[derive(Clone, Copy)]
 pub enum Sequence {
     Is(u32, usize),
     Broken,
 }
 
 // What came of going over bytes or records in search of one to stop at: there was none, or the first one's place.
-#[derive(Drop)]
+#[derive(Clone, Copy)]
 pub enum Scan {
     Through,
     StopsAt(usize),
 }
 
 // A piece to go past, by its bytes after the first, or one to stop at.
-#[derive(Drop)]
+#[derive(Clone, Copy)]
 pub enum Look {
     Past(usize),
     Stop,
 }
 
 // A character's bytes, written or not.
-#[derive(Drop)]
+#[derive(Clone, Copy)]
 pub enum Encoded {
     Wrote(usize),
     NoRoom,
@@ -58,7 +58,7 @@ pub enum Encoded {
 }
 
 // A word that may be a name, one that begins PUSH and may be a tag's alone, or no word.
-#[derive(Drop)]
+#[derive(Clone, Copy)]
 pub enum Word {
     Name,
     Push,
@@ -66,7 +66,7 @@ pub enum Word {
 }
 
 // What decimal digits are worth, against a limit.
-#[derive(Drop)]
+#[derive(Clone, Copy)]
 pub enum Decimal {
     Is(u32),
     Over,
@@ -74,7 +74,7 @@ pub enum Decimal {
 }
 
 // Bytes written, or not.
-#[derive(Drop)]
+#[derive(Clone, Copy)]
 pub enum Put {
     Wrote(usize),
     NoRoom,

@@ -13,7 +13,7 @@ ghost use Rattle.token.specs.Lister.{next_of, numbers_of, lister};
 use text::{Scan, limits};
 
 // A token, the text's end, or the place where there is no token.
-#[derive(Drop)]
+#[derive(Clone, Copy)]
 pub enum Token {
     Found { kind: u8, start: usize, end: usize },
     End,
@@ -21,7 +21,7 @@ pub enum Token {
 }
 
 // What two bytes are in a comment.
-#[derive(Drop)]
+#[derive(Clone, Copy)]
 pub enum Mark {
     Closes,
     Opens,
@@ -29,7 +29,7 @@ pub enum Mark {
 }
 
 // Where a comment is closed.
-#[derive(Drop)]
+#[derive(Clone, Copy)]
 pub enum Close {
     At(usize),
     Never,
@@ -37,7 +37,7 @@ pub enum Close {
 
 // How many tokens were put into the lent table, or the place where there is no token; or there are
 // more tokens before it than the table has room for.
-#[derive(Drop)]
+#[derive(Clone, Copy)]
 pub enum Filled {
     All(usize),
     NoToken(usize),
@@ -46,7 +46,7 @@ pub enum Filled {
 
 // What the lister found: a text over 65,536 bytes, one that is not UTF-8, the next token, the text's
 // end with its length, or no token.
-#[derive(Drop)]
+#[derive(Clone, Copy)]
 pub enum Listed {
     TooLong,
     NotUtf8(usize),

@@ -6,7 +6,7 @@ ghost use Rattle.vectors.specs.Vectors.{find_of, line_end, field_of, word_of, he
 ghost use Rattle.vectors.specs.Buffers.{filled, put, unhexed, appended, repeated, more_of, kept_if, numbers_from, pieces_from, parts_from};
 
 // Where a field lies in its line. It is empty where there is none.
-#[derive(Drop)]
+#[derive(Clone, Copy)]
 pub struct Part {
     pub start: usize,
     pub end: usize,
