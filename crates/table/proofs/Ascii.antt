@@ -1,8 +1,8 @@
 -- Texts whose nodes are told by their kind alone, and strings in a store of ASCII.
-use mathlib.Core.Path.{◌≡◌, refl, sym, ap, ◌∙◌}
+use mathlib.Core.Path.{◌≡◌, refl, ap, ◌∙◌}
 use mathlib.Core.Bool.{Bool, true, false}
 use mathlib.Core.List.{List, [], ◌∷◌}
-use Prim.Native.Nat.{ℕ, zero, suc, ◌+◌, ◌*◌, ◌<◌}
+use Prim.Native.Nat.{ℕ, zero, suc, ◌+◌, ◌*◌}
 use native.Mathlib.Omega.{arith}
 use lib.Dec.{eqb}
 use lib.ListN.{get_or, take, drop}
@@ -15,7 +15,7 @@ use Rattle.table.specs.declared.Leaf.TheVariants.{Text}
 use Rattle.table.specs.declared.Node.TheVariants.{Tip}
 use Rattle.table.specs.declared.First.TheVariants.{At}
 use Rattle.table.specs.Record.{node_size, part, node_of, node_at}
-use Rattle.table.specs.Check.{is_through, is_utf8, fine_text, in_store, good_leaf, verdict}
+use Rattle.table.specs.Check.{is_through, is_utf8, fine_text, in_store, verdict}
 use Rattle.table.proofs.Texts.{text_in}
 use Rattle.table.proofs.Verdicts.{verdict_tip}
 

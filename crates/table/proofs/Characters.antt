@@ -1,14 +1,14 @@
 -- Laws of characters. Good bytes before a text change nothing of what is good behind them, so that a place behind whole characters parts
 -- a line into two that are UTF-8.
 use mathlib.Core.Path.{◌≡◌, refl, sym, ap, ◌∙◌}
-use mathlib.Core.Bool.{Bool, true, false}
+use mathlib.Core.Bool.{true, false}
 use mathlib.Core.List.{List, [], ◌∷◌, ◌++◌, append-nil, map}
 use mathlib.Core.Logic.{⊎_elim}
 use Prim.Native.Nat.{ℕ, zero, suc, ◌+◌, ◌-◌, ◌*◌, ◌≤◌, ◌<◌}
 use native.Mathlib.Omega.{arith}
 use lib.ListN.{length, get_or, take, drop, take-append-drop, length-take, length-drop}
 use lib.Seq.{drop-length, drop-append-le, drop-drop, take-add}
-use Rattle.text.specs.Booleans.{choose, and, within}
+use Rattle.text.specs.Booleans.{within}
 use Rattle.text.specs.Scans.{later, sought_by, sought}
 use Rattle.text.specs.Utf8.{scalar, lead_of, gathered, judged, sequence_by, char_of, look_by, seq_look, first_bad, encoded}
 use Rattle.text.specs.declared.Scan.{Scan}
@@ -21,10 +21,10 @@ use Rattle.text.specs.declared.Sequence.{Sequence}
 use Rattle.text.specs.declared.Sequence.TheVariants.{Is, Broken}
 use Rattle.table.specs.declared.Character.TheVariants as Character
 use Rattle.table.specs.Characters.{character}
-use Rattle.text.proofs.Tests.{lt_or_ge, at_byte, at_end, within_low}
+use Rattle.text.proofs.Tests.{lt_or_ge, at_byte, within_low}
 use Rattle.text.proofs.Walks.{later_zero, later_later}
 use Rattle.text.proofs.Decodes.{Found, one, two, three, four, found, decoded}
-use Rattle.text.proofs.Encodes.{lead_one, found_read, encoded_read, look_step, gathered_none}
+use Rattle.text.proofs.Encodes.{found_read, encoded_read, look_step}
 
 -- ---- the code
 

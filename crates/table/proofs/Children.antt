@@ -4,7 +4,7 @@ use mathlib.Core.Bool.{Bool, true, false}
 use mathlib.Core.List.{List}
 use Prim.Native.Nat.{ℕ, zero, suc, ◌+◌, ◌*◌, ◌-◌, ◌≤◌, ◌<◌}
 use native.Mathlib.Omega.{arith}
-use lib.Dec.{eqb, leb, ltb}
+use lib.Dec.{eqb, ltb}
 use lib.ListN.{length, get_or}
 use borrow.Author.Tests.{lt-ltb, le-leb}
 use Rattle.text.specs.Booleans.{choose}
@@ -15,7 +15,6 @@ use Rattle.table.specs.declared.Unary.{Unary}
 use Rattle.table.specs.declared.Unary.TheVariants.{PosPred, NegPred, Opt, Rep, RepOnce, RepExact, RepMin, RepMax, RepMinMax, Push}
 use Rattle.table.specs.declared.Leaf.TheVariants.{Range}
 use Rattle.table.specs.declared.Op.TheVariants.{Plain}
-use Rattle.table.specs.declared.Node.TheVariants.{Tip}
 use Rattle.table.specs.declared.First.TheVariants.{At, Nowhere}
 use Rattle.table.specs.Record.{node_size, node_of, node_at, first_at}
 use Rattle.table.specs.Check.{good_op, good_leaf, verdict, Firsts}

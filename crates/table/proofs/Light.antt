@@ -1,20 +1,19 @@
 -- Laws of the check without what is known of the store: which of its three ways a node goes, and what is true of it then.
-use Prim.Native.Nat.{ℕ, ◌+◌, ◌*◌, ◌≤◌, ◌<◌}
-use mathlib.Core.Path.{◌≡◌, refl, sym, ap, ◌∙◌}
+use Prim.Native.Nat.{ℕ, ◌≤◌, ◌<◌}
+use mathlib.Core.Path.{◌≡◌, refl, ap, ◌∙◌}
 use mathlib.Core.Bool.{Bool, true, false}
 use mathlib.Core.List.{List}
 use native.Mathlib.Omega.{arith}
-use lib.Dec.{ltb, eqb}
+use lib.Dec.{ltb}
 use lib.ListN.{length, get_or, get_or-eq_default}
-use borrow.Author.Tests.{ltb-true, ltb-false, lt-ltb, le-ltb, ne_eqb}
+use borrow.Author.Tests.{ltb-true, ltb-false, le-ltb, ne_eqb}
 use Rattle.text.specs.Booleans.{choose}
 use Rattle.text.proofs.Booleans.{choose_true, choose_false}
 use Rattle.table.specs.declared.First.{First}
 use Rattle.table.specs.declared.First.TheVariants.{At, Nowhere}
-use Rattle.table.specs.Record.{node_size}
 use Rattle.table.specs.Check.{verdict}
 use Rattle.table.specs.Children.{Limits}
-use Rattle.table.specs.Heavy.{long, text_length, flat_at, long_at, lightly}
+use Rattle.table.specs.Heavy.{text_length, flat_at, long_at, lightly}
 
 -- a kind that has no limit is below none
 pub no_limit : (ls : List ℕ) (k x : ℕ) → length ls ≤ k → ltb x (get_or ls k 0) ≡ false

@@ -1,7 +1,7 @@
 -- Regrouping by its three laws: `regroup` meets them, and whatever does is `regroup`. For the second every tree is taken apart along the
 -- right children of an operator, with the two functions equal on each part.
 use mathlib.Core.Path.{◌≡◌, refl, sym, ap, ◌∙◌}
-use mathlib.Core.Bool.{true, false}
+use mathlib.Core.Bool.{false}
 use mathlib.Core.List.{List, [], ◌∷◌, map}
 use Rattle.table.specs.declared.Join.{Join}
 use Rattle.table.specs.declared.Join.TheVariants.{Seq, Choice}

@@ -12,7 +12,7 @@ use Rattle.text.proofs.Booleans.{and_assoc, and_both, and_one, and_true, choose_
 use Rattle.table.specs.declared.Join.{Join}
 use Rattle.table.specs.declared.Join.TheVariants.{Seq, Choice}
 use Rattle.table.specs.Tree.{Atom, Wrap, plain, node_tag, Tree, leaf, one, two, Rule, placed, below, count, counts, atom_stored, wrap_stored, stored, rule_stored, rules_stored, Nowhere, aside, rule_by}
-use Rattle.table.specs.Regroup.{is_join, joined, regrouped, parts, regroup, grouped, links, is_tag, untagged, Item, end, over, items, unlabelled, untagged_rules}
+use Rattle.table.specs.Regroup.{is_join, joined, regrouped, parts, regroup, grouped, links, untagged, Item, end, over, items, unlabelled, untagged_rules}
 use Rattle.table.specs.Check.{is_name, is_label, fine_atom, fine_wrap, fine, fine_rule, fine_rules}
 
 -- ---- what a tree's nodes in order say of it

@@ -1,6 +1,6 @@
 -- Rules in tables: flattening and reading back undo each other.
 use mathlib.Core.Path.{◌≡◌, refl, sym, ap, ◌∙◌}
-use mathlib.Core.Bool.{true, false}
+use mathlib.Core.Bool.{true}
 use mathlib.Core.List.{List, [], ◌∷◌, ◌++◌}
 use mathlib.Core.Logic.{⊎_elim}
 use Prim.Native.Nat.{ℕ, zero, suc, ◌+◌, ◌*◌, ◌≤◌, ◌<◌}
@@ -18,7 +18,7 @@ use Rattle.text.proofs.Booleans.{and_both, and_true}
 use Rattle.text.specs.Limits.{max_nodes, max_rules, max_store}
 use Rattle.table.proofs.Held.{Held, held_whole, held_left, held_right, held_inside, held_part, held_at}
 use Rattle.table.proofs.Flats.{span_is, length_flat, Holds, lies_flat}
-use Rattle.table.proofs.Trees.{lies_tree, lies_alike, read, flat_first, flat_good}
+use Rattle.table.proofs.Trees.{lies_tree, lies_alike, flat_first, flat_good}
 
 -- ---- lengths
 

@@ -10,7 +10,7 @@ use borrow.Author.Tests.{le-leb, eq-eqb, ne_eqb, leb-true, ltb-true, eqb-true}
 use Rattle.table.specs.Tree.{Span, Rule, below, count, counts, rules_stored}
 use Rattle.table.specs.Record.{node_size, rule_size, nodes_in, rules_in, tree_at, first_at, name_offset, name_length, name_at, mark_at, root_at, name_span, rule_row_at, rule_at, rules_from, rules_of}
 use Rattle.table.specs.Flat.{nodes_of, records_of, rule_row, RulesLie, Alike}
-use Rattle.table.specs.Check.{in_store, is_name, good_at, begin_at, good_name, good_root, good_rule, lowest, or_else, left_over, shaped, tables, Numbered, numbered, fine, fine_rule, fine_rules, SoundUpTo, Valid}
+use Rattle.table.specs.Check.{in_store, is_name, good_at, begin_at, good_name, good_root, good_rule, lowest, or_else, left_over, shaped, tables, Numbered, numbered, fine_rule, fine_rules, SoundUpTo, Valid}
 use Rattle.table.proofs.Trees.{read}
 use Rattle.table.proofs.Nodes.{sound_below}
 use Rattle.table.proofs.Lowest.{lowest_good, lowest_all}

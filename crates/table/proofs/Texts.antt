@@ -1,5 +1,5 @@
 -- Laws of the texts of leaves and tags.
-use mathlib.Core.Path.{◌≡◌, refl, ap, ◌∙◌}
+use mathlib.Core.Path.{◌≡◌, refl}
 use mathlib.Core.Bool.{Bool, true, false}
 use mathlib.Core.List.{List}
 use mathlib.Core.Logic.{◌⊎◌, inl, inr}
@@ -8,7 +8,6 @@ use native.Mathlib.Omega.{arith}
 use lib.Dec.{leb}
 use lib.ListN.{length, take, drop}
 use borrow.Author.Tests.{leb-true, leb-false}
-use Rattle.text.specs.Booleans.{and}
 use Rattle.table.specs.declared.Sort.{Sort}
 use Rattle.table.specs.declared.Leaf.{Leaf}
 use Rattle.table.specs.declared.Leaf.TheVariants.{Text, Range}
@@ -20,7 +19,6 @@ use Rattle.text.specs.Words.{word_of}
 use Rattle.text.specs.declared.Scan.{Scan}
 use Rattle.text.specs.declared.Scan.TheVariants.{Through, StopsAt}
 use Rattle.text.specs.declared.Word.{Word}
-use Rattle.text.specs.declared.Word.TheVariants as Word
 use Rattle.text.proofs.Booleans.{and_true}
 use Rattle.table.specs.Check.{is_through, may_name, may_tag, is_utf8, is_name, is_label, fine_text, fine_atom, fine_wrap, in_store, leaf_inside, op_inside, good_leaf, good_op}
 

@@ -2,7 +2,7 @@
 use mathlib.Core.Path.{◌≡◌, refl, ap, ◌∙◌}
 use mathlib.Core.Bool.{Bool, true, false}
 use mathlib.Core.List.{List}
-use Prim.Native.Nat.{ℕ, ◌+◌, ◌-◌, ◌<◌}
+use Prim.Native.Nat.{ℕ, ◌+◌, ◌<◌}
 use native.Mathlib.Omega.{arith}
 use lib.Dec.{eqb}
 use lib.ListN.{length, get_or, set}
@@ -15,7 +15,6 @@ use Rattle.table.specs.declared.Leaf.{Leaf}
 use Rattle.table.specs.declared.Op.{Op}
 use Rattle.table.specs.declared.Node.TheVariants.{Tip, One, Two, Unknown}
 use Rattle.table.specs.declared.First.TheVariants.{At, Nowhere}
-use Rattle.table.specs.Tree.{one, two}
 use Rattle.table.specs.Record.{node_at, first_at}
 use Rattle.table.specs.Check.{good_leaf, good_op, good_at, verdict, Firsts}
 use Rattle.table.proofs.Columns.{below_suc}

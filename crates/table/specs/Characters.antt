@@ -1,12 +1,8 @@
 -- Characters, tests and limits, for crates that see the tables alone: passed on, and two answers under names that those can say.
 use Rattle.text.specs.declared.Scan.{Scan}
-use Rattle.text.specs.declared.Scan.TheVariants as Scan
 use Rattle.text.specs.declared.Sequence.{Sequence}
-use Rattle.text.specs.declared.Sequence.TheVariants as Sequence
 use Rattle.table.specs.declared.Fault.{Fault}
-use Rattle.table.specs.declared.Fault.TheVariants as Fault
 use Rattle.table.specs.declared.Character.{Character}
-use Rattle.table.specs.declared.Character.TheVariants as Character
 pub use Rattle.text.specs.declared.Scan.TheVariants.{Through, StopsAt}
 unfoldable pub use Rattle.text.specs.Utf8.{char_of, first_bad}
 pub use Rattle.text.specs.Booleans.{choose, and, or, within, next_is}

@@ -6,7 +6,6 @@ use Rattle.text.specs.Words.{word_of}
 use Rattle.text.specs.declared.Scan.{Scan}
 use Rattle.text.specs.declared.Scan.TheVariants.{Through, StopsAt}
 use Rattle.text.specs.declared.Word.{Word}
-use Rattle.text.specs.declared.Word.TheVariants as Word
 use Rattle.text.specs.Limits.{max_nodes, max_rules, max_store}
 use Rattle.table.specs.declared.Sort.{Sort}
 use Rattle.table.specs.declared.Sort.TheVariants.{Str, Insens, Ident, PushLiteral}

@@ -11,7 +11,7 @@ use Rattle.table.specs.declared.Op.{Op}
 use Rattle.table.specs.declared.Op.TheVariants.{Plain, NodeTag}
 use Rattle.table.specs.declared.Node.{Node}
 use Rattle.table.specs.declared.Node.TheVariants.{Tip, One, Two, Unknown}
-use Rattle.table.specs.Tree.{Span, Atom, text, range, peek_slice, Wrap, plain, node_tag, Tree, leaf, one, two, Rule, below, count, wrap_stored, size, rule_stored, rules_stored}
+use Rattle.table.specs.Tree.{Span, Atom, text, range, peek_slice, Wrap, plain, node_tag, Tree, leaf, one, two, Rule, below, count, wrap_stored, size, rule_stored}
 use Rattle.table.specs.Record.{nodes_in, rules_in, span_at, tip, wrap, pair, row_at, RuleRow, rule_row_at}
 
 -- the numbers of a node record but for its span and line

@@ -1,5 +1,5 @@
 -- Names: which rule a name means.
-use Rattle.std.specs.Prelude.{ℕ, ◌≡◌, Bool, true, false, not, List, [], ◌∷◌, ◌+◌, ◌≤◌, ◌<◌, eqb, length}
+use Rattle.std.specs.Prelude.{ℕ, Bool, not, List, ◌+◌, ◌≤◌, ◌<◌, eqb, length}
 use Rattle.text.specs.Booleans.{and}
 use Rattle.text.specs.Words.{begins}
 use Rattle.text.specs.declared.Scan.{Scan}

@@ -3,6 +3,8 @@
 // The node and rule records are slices of numbers. The kinds carry the names of pest_meta's ast.rs.
 // The entry point stands here and asks nothing of its callers. `inner` has what the crates above it
 // build on.
+#![tactic(auto)]
+
 pub mod inner;
 pub mod kind;
 

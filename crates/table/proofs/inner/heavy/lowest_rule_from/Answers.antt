@@ -1,0 +1,43 @@
+use Rattle.table.proofs.Lowest.{lowest_more, lowest_bad}
+use Rattle.table.specs.Check.{good_rule, lowest}
+use native.Mathlib.Omega.{arith}
+use mathlib.Core.Path.{◌≡◌, sym, ap, ◌∙◌}
+use Rattle.table.specs.Record.{rules_in}
+use borrow.Author.Rules.{rules}
+use Rattle.table.proofs.inner.heavy.lowest_rule_from.Goals as goal
+
+pub fill_runs-requires : goal.fill_runs-requires
+fill_runs-requires c = record {
+  t_value = c.requires.t_value;
+  store_len_bound = c.requires.store_len_bound;
+  runs_len = search rules;
+}
+
+pub fill_stops-requires : goal.fill_stops-requires
+fill_stops-requires c = record {
+  store_len_bound = c.requires.store_len_bound;
+  stops_len = search rules;
+}
+
+pub loop-k-init : goal.loop-k-init
+loop-k-init c = (omega (arith, c.requires.from_bound), c.requires.from_value)
+
+pub good_rule-requires : goal.good_rule-requires
+good_rule-requires c = record {
+  t_value = c.requires.t_value;
+  known = record { short = c.requires.store_len_bound; runs = c.fill_runs.ensures; stops = c.fill_stops.ensures };
+  nodes_in_bounds = c.requires.nodes_in_bounds;
+  k_in_bounds = omega arith;
+  firsts = c.requires.firsts;
+}
+
+pub returns-then-not-good_rule : goal.returns-then-not-good_rule
+returns-then-not-good_rule c = sym (lowest_bad (good_rule c.args.nodes.now c.args.rules.now c.args.store.now) _ _ c.loop-k-test.true c.loop-k.invariant.1 (sym c.good_rule.ensures ∙ c.if-not-good_rule.true))
+
+pub loop-k-preserved : goal.loop-k-preserved
+loop-k-preserved c = (omega arith, lowest_more (good_rule c.args.nodes.now c.args.rules.now c.args.store.now) _ c.loop-k.invariant.1 (sym c.good_rule.ensures ∙ c.if-not-good_rule.false))
+
+pub returns : goal.returns
+returns c =
+    let e : c.loop-k.k ≡ rules_in c.args.rules.now = omega arith in
+    sym (ap (lowest (good_rule c.args.nodes.now c.args.rules.now c.args.store.now)) (sym e) ∙ c.loop-k.invariant.1)
