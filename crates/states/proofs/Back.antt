@@ -1,5 +1,5 @@
 -- A state comes back from its numbers as it was, and so does UTF-8's.
-use Prim.Native.Nat.{ℕ, ◌-◌}
+use Prim.Native.Nat.{ℕ}
 use mathlib.Core.Path.{◌≡◌, refl, ap}
 use mathlib.Core.Bool.{Bool, true, false}
 use lib.Dec.{leb, eqb}

@@ -1,6 +1,6 @@
 -- Any number of calls, for the theorems: packets one after the other, and what the list has at an index.
 use Rattle.std.specs.Prelude.{ℕ, zero, suc, ◌≤◌, ◌<◌, ◌≡◌, true, List, [], ◌∷◌, ◌++◌, ◌⊎◌, length}
-use Rattle.text.specs.Booleans.{all, among}
+use Rattle.text.specs.Booleans.{among}
 use Rattle.text.specs.Utf8.{first_bad}
 use Rattle.text.specs.declared.Scan.TheVariants.{Through, StopsAt}
 use Rattle.text.specs.Limits.{max_text}

@@ -1,5 +1,6 @@
 // What a text that arrives is: the states that its bytes move, where a stream stands between calls, and what a
 // call answers. There is no code here: definitions, and what is true of them.
+#![tactic(auto)]
 
 // What an escape stands in: a string of a kind, or a character literal.
 #[derive(Clone, Copy)]
