@@ -12,20 +12,15 @@ use lib.Seq.{get_or-set_same, get_or-set_other}
 use Rattle.table.proofs.Booleans.{choose_false, choose_true}
 use Rattle.table.specs.Characters.{max_nodes}
 use Rattle.table.specs.declared.Join.{Join}
-use Rattle.table.specs.declared.Join.TheVariants as Join
 use Rattle.table.specs.declared.Unary.{Unary}
-use Rattle.table.specs.declared.Unary.TheVariants as Unary
 use Rattle.table.specs.declared.Sort.{Sort}
-use Rattle.table.specs.declared.Sort.TheVariants as Sort
 use Rattle.table.specs.declared.Leaf.TheVariants as Leaf
 use Rattle.table.specs.declared.Op.{Op}
-use Rattle.table.specs.declared.Op.TheVariants as Op
 use Rattle.table.specs.declared.Node.{Node}
-use Rattle.table.specs.declared.Node.TheVariants as Node
 use Rattle.table.specs.declared.Head.{Head}
 use Rattle.table.specs.declared.Named.{Named}
 use Rattle.table.specs.declared.Named.TheVariants.{By, Nobody}
-use Rattle.table.specs.Characters.{choose, and, Through, fault_of}
+use Rattle.table.specs.Characters.{choose, Through, fault_of}
 use Rattle.table.specs.declared.Fault.TheVariants as Fault
 use Rattle.table.specs.Record.{node_size, nodes_in, rules_in, part, node_of, node_at, root_at, name_at, head_at}
 use Rattle.table.specs.Check.{is_through, lowest, Valid}

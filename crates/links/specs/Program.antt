@@ -2,17 +2,14 @@
 use Rattle.std.specs.Prelude.{ℕ, zero, suc, ◌+◌, ◌≤◌, ◌<◌, Bool, true, false, not, ◌≡◌, List, [], ◌∷◌, eqb, leb, ltb, length, get_or}
 use Rattle.table.specs.Characters.{max_nodes}
 use Rattle.table.specs.declared.Join.{Join}
-use Rattle.table.specs.declared.Join.TheVariants as Join
 use Rattle.table.specs.declared.Unary.{Unary}
-use Rattle.table.specs.declared.Unary.TheVariants as Unary
 use Rattle.table.specs.declared.Sort.TheVariants as Sort
 use Rattle.table.specs.declared.Leaf.TheVariants as Leaf
 use Rattle.table.specs.declared.Op.TheVariants as Op
 use Rattle.table.specs.declared.Node.{Node}
-use Rattle.table.specs.declared.Node.TheVariants as Node
 use Rattle.table.specs.declared.Named.{Named}
 use Rattle.table.specs.declared.Named.TheVariants.{By, Nobody}
-use Rattle.table.specs.Characters.{choose, and, or}
+use Rattle.table.specs.Characters.{choose, and}
 use Rattle.table.specs.Record.{nodes_in, rules_in, part, node_at, name_at, root_at}
 use Rattle.table.specs.Check.{lowest, is_through}
 use Rattle.table.specs.Names.{same_text, rule_named}

@@ -8,7 +8,6 @@ use Rattle.table.specs.Characters.{choose, fault_of}
 use Rattle.table.specs.Record.{nodes_in}
 use Rattle.table.specs.Check.{tables, lowest}
 use Rattle.links.specs.declared.Ready.{Ready}
-use Rattle.links.specs.declared.Ready.TheVariants as Ready
 use Rattle.links.specs.Program.{fit_at, named}
 
 -- 32, once the tables are good and fit

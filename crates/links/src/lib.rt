@@ -1,6 +1,8 @@
 // Links: what each node asks of a line, names bound to their rules, and whether tables can be run at all.
 //
 // They see the tables through the promises of `table` alone. `inner` has what the matcher calls.
+#![tactic(auto)]
+
 pub mod inner;
 
 // How often a repetition goes on at most.

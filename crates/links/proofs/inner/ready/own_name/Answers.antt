@@ -1,0 +1,20 @@
+-- The head has the name in the store, and the search for it finds the rule itself or another.
+use Rattle.links.proofs.Naming.{own_any, own_by, own_nobody}
+use Rattle.table.proofs.Names.{head_name, head_inside}
+use native.Mathlib.Omega.{arith}
+use Rattle.links.proofs.inner.ready.own_name.Goals as goal
+
+pub overflow_add-e : goal.overflow_add-e
+overflow_add-e c = omega (arith, head_inside _ _ _ _ c.head_at-head.ensures c.requires.names_inside c.requires.k_bound)
+
+pub slice_bounds-name-end : goal.slice_bounds-name-end
+slice_bounds-name-end c = head_inside _ _ _ _ c.head_at-head.ensures c.requires.names_inside c.requires.k_bound
+
+pub returns-then-is_any : goal.returns-then-is_any
+returns-then-is_any c = own_any _ _ _ _ (head_name _ _ _ _ c.head_at-head.ensures) c.is_any.ensures c.if-is_any.true
+
+pub returns-in-By : goal.returns-in-By
+returns-in-By c = own_by _ _ _ _ (head_name _ _ _ _ c.head_at-head.ensures) c.is_any.ensures c.if-is_any.false c.rule_named-named.ensures c.in-By.is
+
+pub returns-in-Nobody : goal.returns-in-Nobody
+returns-in-Nobody c = own_nobody _ _ _ _ (head_name _ _ _ _ c.head_at-head.ensures) c.is_any.ensures c.if-is_any.false c.rule_named-named.ensures c.in-Nobody.is
