@@ -17,7 +17,7 @@ use Rattle.table.specs.declared.Join.{Join}
 use Rattle.table.specs.declared.Join.TheVariants.{Seq, Choice}
 use Rattle.table.specs.declared.Unary.TheVariants.{PosPred, NegPred, Opt, Rep, RepOnce, RepExact, RepMin, RepMax, RepMinMax, Push}
 use Rattle.table.specs.Tree.{text, range, peek_slice, Wrap, plain, node_tag, Tree, leaf, one, two}
-use Rattle.forms.specs.declared.Style.TheVariants.{Full, Short}
+use Rattle.forms.specs.declared.Style.TheVariants.{Full}
 use Rattle.forms.specs.declared.Place.{Place}
 use Rattle.forms.specs.declared.Place.TheVariants.{Alone, Prefixed, Operand, LeftOf, RightOf}
 use Rattle.forms.specs.declared.Form.{Form}

@@ -7,14 +7,11 @@ use denote.Enum.Declared.{tag_of}
 use Rattle.table.specs.contracts.Unary.{the_type}
 use Rattle.table.specs.declared.Unary.{Unary}
 use Rattle.table.specs.declared.Unary.TheVariants.{PosPred, NegPred, Opt, Rep, RepOnce, RepExact, RepMin, RepMax, RepMinMax, Push}
-use Rattle.forms.specs.declared.Form.TheVariants.{Prefix, Postfix}
-use Rattle.forms.specs.Printing.{unary_form, unary_before, unary_after}
+use Rattle.forms.specs.declared.Form.TheVariants.{Prefix}
+use Rattle.forms.specs.Printing.{unary_form, unary_after}
 
 abbrev pub prefixes : List ℕ
 prefixes = 0 ∷ 1 ∷ []
-
-abbrev pub postfixes : List ℕ
-postfixes = 2 ∷ 3 ∷ 4 ∷ 5 ∷ 6 ∷ 7 ∷ 8 ∷ []
 
 pub prefixed : (u : Unary) → OneOf prefixes (tag_of the_type u) → (unary_form u ≡ Prefix) × (unary_after u ≡ [])
 prefixed PosPred h = (refl, refl)
@@ -27,15 +24,3 @@ prefixed (RepMin n) h = absurd (miss prefixes _ tt h)
 prefixed (RepMax n) h = absurd (miss prefixes _ tt h)
 prefixed (RepMinMax n m) h = absurd (miss prefixes _ tt h)
 prefixed Push h = absurd (miss prefixes _ tt h)
-
-pub postfixed : (u : Unary) → OneOf postfixes (tag_of the_type u) → (unary_form u ≡ Postfix) × (unary_before u ≡ [])
-postfixed PosPred h = absurd (miss postfixes _ tt h)
-postfixed NegPred h = absurd (miss postfixes _ tt h)
-postfixed Opt h = (refl, refl)
-postfixed Rep h = (refl, refl)
-postfixed RepOnce h = (refl, refl)
-postfixed (RepExact n) h = (refl, refl)
-postfixed (RepMin n) h = (refl, refl)
-postfixed (RepMax n) h = (refl, refl)
-postfixed (RepMinMax n m) h = (refl, refl)
-postfixed Push h = absurd (miss postfixes _ tt h)

@@ -8,7 +8,6 @@ use Rattle.table.specs.declared.Join.TheVariants.{Seq, Choice}
 use Rattle.table.specs.declared.Unary.{Unary}
 use Rattle.table.specs.declared.Unary.TheVariants.{PosPred, NegPred, Opt, Rep, RepOnce, RepExact, RepMin, RepMax, RepMinMax, Push}
 use Rattle.table.specs.declared.Op.{Op}
-use Rattle.table.specs.declared.Op.TheVariants as Op
 use Rattle.table.specs.declared.Sort.{Sort}
 use Rattle.table.specs.declared.Sort.TheVariants.{Str, Insens, Ident, PushLiteral}
 use Rattle.table.specs.declared.End.{End}

@@ -2,6 +2,8 @@
 //
 // They carry over the arms of `Display` and `as_postfix_operand` of pest_meta's ast.rs. `inner` has the
 // functions, each once to measure and once to write.
+#![tactic(auto)]
+
 pub mod inner;
 
 use table::{Join, Unary};

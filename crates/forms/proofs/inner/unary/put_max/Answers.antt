@@ -1,0 +1,29 @@
+-- The text is a row of four parts: `{`, a comma, n, `}` (`max_row`). The laws of Rows find room for each, and put them together.
+use Rattle.forms.proofs.Rows.{begin, part_room, go, finish}
+use Rattle.forms.proofs.Leaves.{max_row}
+use Rattle.forms.proofs.inner.unary.put_max.Goals as goal
+
+pub put_byte-a-requires : goal.put_byte-a-requires
+put_byte-a-requires c =
+    let g = begin (max_row c.args.n) c.requires in
+    part_room g
+
+pub put_byte-b-requires : goal.put_byte-b-requires
+put_byte-b-requires c =
+    let g = begin (max_row c.args.n) c.requires in
+    part_room (go g c.put_byte-a.ensures)
+
+pub put_decimal-c-requires : goal.put_decimal-c-requires
+put_decimal-c-requires c =
+    let g = begin (max_row c.args.n) c.requires in
+    part_room (go (go g c.put_byte-a.ensures) c.put_byte-b.ensures)
+
+pub put_byte-requires : goal.put_byte-requires
+put_byte-requires c =
+    let g = begin (max_row c.args.n) c.requires in
+    part_room (go (go (go g c.put_byte-a.ensures) c.put_byte-b.ensures) c.put_decimal-c.ensures)
+
+pub returns : goal.returns
+returns c =
+    let g = begin (max_row c.args.n) c.requires in
+    finish (go (go (go g c.put_byte-a.ensures) c.put_byte-b.ensures) c.put_decimal-c.ensures) c.put_byte.ensures
