@@ -1,25 +1,20 @@
 -- Laws of the answers: what a line's run gives, and what a call gives once its tables were asked about.
-use mathlib.Core.Bool.{Bool, true, false}
 use mathlib.Core.List.{List}
-use mathlib.Core.Path.{◌≡◌, refl, sym, ap, ◌∙◌, subst}
-use Prim.Native.Nat.{ℕ, zero, suc, ◌+◌, ◌-◌, ◌≤◌, ◌<◌}
+use mathlib.Core.Path.{◌≡◌, sym, ap, ◌∙◌, subst}
+use Prim.Native.Nat.{ℕ, ◌-◌, ◌<◌}
 use native.Mathlib.Omega.{arith}
 use lib.ListN.{length}
 use Rattle.table.specs.declared.Fault.{Fault}
-use Rattle.table.specs.declared.Fault.TheVariants as Fault
 use Rattle.table.specs.Characters.{first_bad, fault_of}
 use Rattle.table.specs.Record.{nodes_in, rules_in, root_at}
 use Rattle.table.specs.Check.{Valid}
 use Rattle.table.proofs.Tables.{sound_at}
 use Rattle.links.specs.declared.Act.{Act}
 use Rattle.matcher.specs.declared.Outcome.{Outcome}
-use Rattle.matcher.specs.declared.Outcome.TheVariants as Outcome
 use Rattle.links.specs.declared.Ready.{Ready}
-use Rattle.links.specs.declared.Ready.TheVariants as Ready
 use Rattle.replies.specs.declared.Answer.{Answer}
 use Rattle.replies.specs.declared.Answer.TheVariants.{Matched, NoMatch, FalseTables, Unfit, NoRule, NotUtf8, Over}
 use Rattle.replies.specs.declared.Lines.{Lines}
-use Rattle.replies.specs.declared.Lines.TheVariants as Lines
 use Rattle.links.specs.Program.{program, linked_at, Linked, Runnable}
 use Rattle.matcher.specs.Match.{visit}
 use Rattle.matcher.specs.Answers.{max_visits, reply, line_by, line_of, answer_by, match_of}
@@ -27,7 +22,7 @@ use Rattle.links.specs.Ready.{ready_of}
 use Rattle.matcher.specs.Lines.{lines_by, ran_over, lines_of, recorded, records_by, records_of}
 use Rattle.matcher.proofs.Visits.{Below, visit_below}
 use Rattle.links.proofs.Naming.{linked_program, sound_links}
-use Rattle.links.proofs.Asked.{Allowed, ready_allows}
+use Rattle.links.proofs.Asked.{ready_allows}
 
 -- ---- a line
 

@@ -1,22 +1,19 @@
 -- What a call's answer means, over the definition without allowance: a length or a none is given exactly where a run of the starting rule's
 -- root comes to it within the allowance, and 34 exactly where no run does.
-use mathlib.Core.Bool.{Bool, true, false}
 use mathlib.Core.List.{List}
 use mathlib.Core.Path.{◌≡◌, refl, sym, ap, ◌∙◌}
-use Prim.Native.Nat.{ℕ, zero, suc, ◌+◌, ◌-◌, ◌≤◌, ◌<◌}
+use Prim.Native.Nat.{ℕ, ◌+◌, ◌-◌, ◌≤◌, ◌<◌}
 use native.Mathlib.Omega.{arith}
 use Rattle.table.specs.Characters.{first_bad, fault_of, Through}
 use Rattle.table.specs.Record.{root_at}
 use Rattle.links.specs.declared.Act.{Act}
 use Rattle.matcher.specs.declared.Outcome.{Outcome}
-use Rattle.matcher.specs.declared.Outcome.TheVariants as Outcome
 use Rattle.links.specs.declared.Ready.{Ready}
-use Rattle.links.specs.declared.Ready.TheVariants as Ready
 use Rattle.replies.specs.declared.Answer.{Answer}
-use Rattle.replies.specs.declared.Answer.TheVariants.{Matched, NoMatch, FalseTables, Unfit, NoRule, NotUtf8, Over}
+use Rattle.replies.specs.declared.Answer.TheVariants.{Matched, NoMatch, Over}
 use Rattle.links.specs.Program.{program}
 use Rattle.matcher.specs.Match.{visit}
-use Rattle.matcher.specs.Runs.{Verdict, up_to, none, give, Task, node, Runs}
+use Rattle.matcher.specs.Runs.{Verdict, up_to, none, give, node, Runs}
 use Rattle.matcher.specs.Answers.{max_visits, reply, line_by, line_of, answer_by, match_of}
 use Rattle.links.specs.Ready.{ready_of}
 use Rattle.matcher.proofs.Visits.{Below, visit_below}

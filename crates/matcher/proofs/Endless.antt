@@ -1,9 +1,9 @@
 -- An endless repetition comes to nothing: where its child matches and takes nothing, each round is followed by the same round, so that no run
 -- is ever complete, and a call that comes to it answers 34 at every allowance.
-use mathlib.Core.Bool.{Bool, true, false}
+use mathlib.Core.Bool.{true}
 use mathlib.Core.List.{List}
-use mathlib.Core.Path.{◌≡◌, refl, sym, ap, ◌∙◌, subst}
-use Prim.Native.Nat.{ℕ, zero, suc, ◌+◌, ◌≤◌, ◌<◌}
+use mathlib.Core.Path.{◌≡◌, refl, subst}
+use Prim.Native.Nat.{ℕ, suc}
 use native.Mathlib.Omega.{arith}
 use Rattle.table.specs.Characters.{first_bad, Through}
 use Rattle.table.specs.Record.{root_at}
@@ -15,7 +15,7 @@ use Rattle.links.specs.declared.Ready.TheVariants.{Yes}
 use Rattle.replies.specs.declared.Answer.TheVariants.{Over}
 use Rattle.links.specs.Program.{program}
 use Rattle.matcher.specs.Match.{full}
-use Rattle.matcher.specs.Runs.{Verdict, up_to, none, Task, node, inner, more, Runs, visited, text, range, any, call, pos, pos_not, neg, neg_not, seq, seq_not, choice, choice_not, repeated, unfit, filled, again, ended}
+use Rattle.matcher.specs.Runs.{Verdict, up_to, Task, node, inner, more, Runs, visited, text, range, any, call, pos, pos_not, neg, neg_not, seq, seq_not, choice, choice_not, repeated, unfit, filled, again, ended}
 use Rattle.matcher.specs.Answers.{match_of}
 use Rattle.links.specs.Ready.{ready_of}
 use Rattle.matcher.proofs.Exact.{runs_once}

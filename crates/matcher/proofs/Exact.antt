@@ -1,7 +1,7 @@
 -- A visit with an allowance gives what the definition without one comes to, and Over exactly where that needs more visits or steps:
 -- each run is given by a visit with as many steps (`complete`), and what a visit gives is a run (`sound`).
 use mathlib.Core.Bool.{Bool, true, false}
-use Prim.Native.Nat.{ℕ, zero, suc, ◌+◌, ◌-◌, ◌≤◌, ◌<◌}
+use Prim.Native.Nat.{ℕ, zero, suc, ◌+◌, ◌-◌, ◌<◌}
 use mathlib.Core.Path.{◌≡◌, refl, sym, ap, ◌∙◌, subst}
 use mathlib.Core.List.{List}
 use native.Mathlib.Omega.{arith}

@@ -2,21 +2,20 @@
 use mathlib.Core.Bool.{Bool, true, false}
 use Prim.Native.Nat.{ℕ, zero, suc, ◌+◌, ◌-◌, ◌≤◌, ◌<◌, max}
 use native.Mathlib.Decide.{dec_lt}
-use mathlib.Core.Path.{◌≡◌, refl, sym, ap, ◌∙◌}
+use mathlib.Core.Path.{◌≡◌, refl, sym, ◌∙◌}
 use mathlib.Core.List.{List, [], ◌∷◌}
 use native.Mathlib.Omega.{arith}
 use native.Mathlib.Numerals.{add-one}
-use lib.Dec.{eqb, leb, ltb}
-use lib.ListN.{length, get_or, take, drop, length-take, length-drop}
+use lib.Dec.{eqb, leb}
+use lib.ListN.{length, get_or, drop, length-take, length-drop}
 use lib.Seq.{drop-cons}
-use borrow.Author.Tests.{le-leb, lt-leb, eq-eqb, ne_eqb}
+use borrow.Author.Tests.{le-leb, lt-leb, ne_eqb}
 use Rattle.table.proofs.Booleans.{and_second}
 use Rattle.table.specs.declared.Character.{Character}
 use Rattle.table.specs.declared.Character.TheVariants.{Is, Broken}
-use Rattle.table.specs.Characters.{choose, and, within}
+use Rattle.table.specs.Characters.{and, within}
 use Rattle.table.specs.Record.{part}
-use Rattle.matcher.specs.declared.Outcome.{Outcome}
-use Rattle.matcher.specs.declared.Outcome.TheVariants.{Matched, Missed, Over}
+use Rattle.matcher.specs.declared.Outcome.TheVariants.{Matched, Missed}
 use Rattle.matcher.specs.Match.{took, lower, alike, starts, one, any_character}
 
 pub took_true : {b : Bool} (e l : ℕ) → b ≡ true → Matched e l ≡ took b e l

@@ -7,14 +7,13 @@ use Prim.Native.Nat.{ℕ, zero, suc, ◌+◌, ◌*◌, ◌-◌, ◌/◌, ◌≤�
 use native.Mathlib.Omega.{arith}
 use native.Mathlib.Numerals.{add-one}
 use lib.Dec.{eqb}
-use lib.ListN.{length, get_or, set, take, drop, length-take, length-drop, length-append, get_or-eq_default}
+use lib.ListN.{length, get_or, set, take, drop, length-take, length-drop}
 use lib.Seq.{drop-cons, drop-drop, sets, length-sets, sets-eq}
 use borrow.Author.Tests.{eq-eqb, ne_eqb}
 use Rattle.table.proofs.Booleans.{and_right, choose_false, choose_true}
 use Rattle.table.specs.Characters.{choose, and, or, next_is, fronted}
 use Rattle.replies.specs.declared.Answer.{Answer}
 use Rattle.replies.specs.declared.Row.{Row}
-use Rattle.replies.specs.declared.Lines.{Lines}
 use Rattle.replies.specs.declared.Lines.TheVariants.{Ran}
 use Rattle.replies.specs.Replies.{numbered}
 use Rattle.matcher.specs.Lines.{onto, lines, past, row_size, fields, rows, ran_over, recorded, body_size, line_size}

@@ -10,7 +10,6 @@ use Rattle.table.specs.Check.{tables}
 use Rattle.table.specs.Names.{rule_named, NamesInside}
 use Rattle.table.proofs.Tables.{tables_valid}
 use Rattle.table.proofs.Names.{valid_inside}
-use Rattle.replies.specs.declared.Found.{Found}
 use Rattle.replies.specs.declared.Found.TheVariants.{Rule, FalseTables, NoRule}
 use Rattle.matcher.specs.Sought.{found_by, found_tables, found_of}
 

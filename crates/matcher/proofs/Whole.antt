@@ -3,7 +3,7 @@
 use mathlib.Core.Bool.{Bool, true, false}
 use mathlib.Core.Path.{◌≡◌, refl, sym, ap, ◌∙◌, subst}
 use mathlib.Core.List.{List, [], ◌∷◌, map}
-use Prim.Native.Nat.{ℕ, zero, suc, ◌+◌, ◌*◌, ◌-◌, ◌≤◌, ◌<◌}
+use Prim.Native.Nat.{ℕ, zero, suc, ◌+◌, ◌-◌, ◌≤◌, ◌<◌}
 use native.Mathlib.Omega.{arith}
 use native.Mathlib.Decide.{dec_lt}
 use lib.Dec.{eqb, leb}
@@ -12,28 +12,24 @@ use borrow.Author.Tests.{eqb-true}
 use Rattle.table.proofs.Booleans.{and_true}
 use Rattle.table.specs.declared.Join.TheVariants as Join
 use Rattle.table.specs.declared.Unary.{Unary}
-use Rattle.table.specs.declared.Unary.TheVariants as Unary
 use Rattle.table.specs.declared.Sort.TheVariants as Sort
 use Rattle.table.specs.declared.Leaf.TheVariants as Leaf
 use Rattle.table.specs.declared.Op.TheVariants as Op
 use Rattle.table.specs.declared.Node.{Node}
-use Rattle.table.specs.declared.Node.TheVariants as Node
 use Rattle.table.specs.declared.Character.{Character}
-use Rattle.table.specs.declared.Character.TheVariants as Character
-use Rattle.table.specs.Characters.{choose, and, within, char_of, character, first_bad, Through}
-use Rattle.table.specs.Record.{node_size, nodes_in, part, node_at, root_at}
+use Rattle.table.specs.Characters.{choose, within, char_of, character, first_bad, Through}
+use Rattle.table.specs.Record.{nodes_in, part, node_at}
 use Rattle.table.specs.Check.{Valid}
 use Rattle.table.specs.Check as Check
 use Rattle.table.proofs.Nodes.{sound_tip, sound_below}
 use Rattle.table.proofs.Texts.{leaf_inside_lem, leaf_fine, utf8_is}
 use Rattle.table.proofs.Characters.{Edge, edge_first, edge_more, edge_char, Keeps, good_map}
-use Rattle.links.specs.declared.Most.{Most}
 use Rattle.links.specs.declared.Act.{Act}
 use Rattle.links.specs.declared.Act.TheVariants.{Text, Range, Any, Call, PosPred, NegPred, Seq, Choice, Repeat, Unfit}
 use Rattle.links.specs.declared.Ready.TheVariants.{Yes}
 use Rattle.replies.specs.declared.Answer.TheVariants.{Matched}
 use Rattle.links.specs.Program.{linked, unary_act, act_of, link_at, number, program}
-use Rattle.matcher.specs.Match.{lower, alike, starts, any_character, full}
+use Rattle.matcher.specs.Match.{lower, starts, any_character}
 use Rattle.matcher.specs.Runs.{Verdict, up_to, none, tested, tested_one, Task, node, inner, more, Runs, visited, text, range, any, call, pos, pos_not, neg, neg_not, seq, seq_not, choice, choice_not, repeated, unfit, filled, again, ended}
 use Rattle.matcher.specs.Answers.{match_of}
 use Rattle.links.specs.Ready.{ready_of}

@@ -4,12 +4,9 @@ use Rattle.table.specs.declared.Fault.{Fault}
 use Rattle.table.specs.declared.Fault.TheVariants.{None, At}
 use Rattle.table.specs.Characters.{first_bad, fault_of}
 use Rattle.table.specs.Record.{root_at}
-use Rattle.table.specs.Check.{tables}
 use Rattle.links.specs.declared.Act.{Act}
 use Rattle.matcher.specs.declared.Outcome.{Outcome}
-use Rattle.matcher.specs.declared.Outcome.TheVariants as Outcome
 use Rattle.links.specs.declared.Ready.{Ready}
-use Rattle.links.specs.declared.Ready.TheVariants as Ready
 use Rattle.replies.specs.declared.Answer.{Answer}
 use Rattle.replies.specs.declared.Answer.TheVariants.{Matched, NoMatch, FalseTables, Unfit, NoRule, NotUtf8, Over}
 use Rattle.links.specs.Program.{program}

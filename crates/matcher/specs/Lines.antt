@@ -1,11 +1,9 @@
 -- The lines of a text, and an answer for each.
-use Rattle.std.specs.Prelude.{List, [], ◌∷◌, ◌++◌, ℕ, zero, suc, ◌+◌, ◌/◌, eqb, length, take}
+use Rattle.std.specs.Prelude.{List, [], ◌∷◌, ◌++◌, ℕ, zero, suc, ◌/◌, eqb, length, take}
 use Rattle.table.specs.Characters.{choose, and, or, next_is, fronted}
 use Rattle.table.specs.Record.{root_at}
 use Rattle.links.specs.declared.Ready.{Ready}
-use Rattle.links.specs.declared.Ready.TheVariants as Ready
 use Rattle.replies.specs.declared.Answer.{Answer}
-use Rattle.replies.specs.declared.Answer.TheVariants as Answer
 use Rattle.replies.specs.declared.Row.{Row}
 use Rattle.replies.specs.declared.Lines.{Lines}
 use Rattle.replies.specs.declared.Lines.TheVariants.{Ran, FalseTables, Unfit, NoRule}

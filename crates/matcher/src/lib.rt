@@ -3,6 +3,8 @@
 // Choice is ordered, repetition takes all it can and gives nothing back, and nothing is implicit: the marks
 // of rules mean nothing here. Each visit to a node is a step. The entry points stand here and ask nothing
 // of their callers. They see the tables through the promises of `table` alone.
+#![tactic(auto)]
+
 mod inner;
 
 ghost use Rattle.std.specs.Prelude.{◌≡◌, length};
