@@ -3,7 +3,7 @@
 use Prim.Native.Nat.{ℕ, zero, suc, ◌+◌, ◌≤◌, ◌<◌}
 use mathlib.Core.Path.{◌≡◌, refl, sym, ap, ◌∙◌}
 use mathlib.Core.Bool.{Bool, true, false}
-use mathlib.Core.List.{List, []}
+use mathlib.Core.List.{List}
 use native.Mathlib.Omega.{arith}
 use native.Mathlib.Decide.{dec_lt}
 use lib.Dec.{leb}
@@ -16,7 +16,7 @@ use Rattle.table.specs.Tree.{Span, Rule}
 use Rattle.structure.specs.declared.Level.{Level}
 use Rattle.structure.specs.declared.Why.TheVariants.{NotAllowed}
 use Rattle.structure.specs.Refusals.{because}
-use Rattle.structure.specs.Structure.{Ruled, rules, unruled, with_rule, Ruling, ruling, no_rule, then_rules, rule_from, rules_by, rules_up_to, grammar_from, docs_in, docs, grammar}
+use Rattle.structure.specs.Structure.{Ruled, unruled, with_rule, Ruling, ruling, no_rule, then_rules, rule_from, rules_by, rules_up_to, grammar_from, docs_in, docs, grammar}
 use Rattle.structure.specs.Meaning.{DocsTo}
 use Rattle.structure.proofs.Steps.{inside_is}
 use Rattle.structure.proofs.Rules.{rule_past, rules_end}

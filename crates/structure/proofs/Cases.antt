@@ -1,6 +1,6 @@
 -- What was read, call by call: a case for each way, with what it says of the tokens. For whoever builds what was read.
-use Prim.Native.Nat.{ℕ, ◌+◌, ◌-◌}
-use mathlib.Core.Path.{◌≡◌, ◌∙◌}
+use Prim.Native.Nat.{ℕ, ◌+◌}
+use mathlib.Core.Path.{◌≡◌}
 use mathlib.Core.Bool.{true, false}
 use mathlib.Core.List.{List}
 use native.Mathlib.Omega.{arith}
@@ -16,7 +16,7 @@ use Rattle.table.specs.declared.Sort.TheVariants.{Str, Insens, Ident, PushLitera
 use Rattle.structure.specs.declared.Level.{Level}
 use Rattle.structure.specs.Tokens.{across, spells}
 use Rattle.structure.specs.Values.{number, string, character}
-use Rattle.structure.specs.Structure.{got, next, post, from_number, from_comma, postfix_at, slice, pushed, ranged, slices, leaf_at, expr, Run, is_name, mark_at, past_mark, past_bar, ruling, rule_from}
+use Rattle.structure.specs.Structure.{got, post, from_number, from_comma, postfix_at, slice, pushed, ranged, slices, leaf_at, expr, Run, is_name, mark_at, past_mark, past_bar, ruling, rule_from}
 use Rattle.structure.proofs.Steps.{no_tree, want_got, want_post, opened_got}
 use Rattle.structure.proofs.Rules.{want_rule, rule_got}
 

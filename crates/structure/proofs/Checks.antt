@@ -6,7 +6,7 @@ use mathlib.Core.List.{List}
 use mathlib.Core.Logic.{◌⊎◌, inl, inr}
 use native.Mathlib.Omega.{arith}
 use lib.ListN.{length}
-use Rattle.text.specs.Booleans.{choose, and, or}
+use Rattle.text.specs.Booleans.{choose, or}
 use Rattle.text.specs.Words.{push}
 use Rattle.text.proofs.Booleans.{choose_false, choose_true, choose_by, or_first, or_second, or_neither, or_by, or_false}
 use Rattle.text.specs.Limits.{max_text}
@@ -21,7 +21,6 @@ use Rattle.structure.specs.declared.Refusal.{Refusal}
 use Rattle.structure.specs.declared.Why.TheVariants.{NotAllowed}
 use Rattle.structure.specs.Refusals.{because}
 use Rattle.structure.specs.declared.Checked.{Checked}
-use Rattle.structure.specs.declared.Checked.TheVariants as Checked
 use Rattle.structure.specs.declared.Wanted.{Wanted}
 use Rattle.structure.specs.declared.Wanted.TheVariants.{Here, Missing}
 use Rattle.structure.specs.declared.Opening.{Opening}
@@ -29,9 +28,7 @@ use Rattle.structure.specs.declared.Opening.TheVariants.{From, Untied}
 use Rattle.structure.specs.declared.Bracket.{Bracket}
 use Rattle.structure.specs.declared.Bracket.TheVariants.{Opens, Unopened, Nothing}
 use Rattle.structure.specs.declared.PostfixEnd.{PostfixEnd}
-use Rattle.structure.specs.declared.PostfixEnd.TheVariants as PostfixEnd
 use Rattle.structure.specs.declared.PostfixEnds.{PostfixEnds}
-use Rattle.structure.specs.declared.PostfixEnds.TheVariants as PostfixEnds
 use Rattle.structure.specs.Tokens.{spells}
 use Rattle.structure.specs.Structure.{Parsed, got, refused, next, want, opened, prefixed, postfixed, in_tag, post, postfix_at, leaf_at, posts_by, expr, term, signed, node, posts, Run}
 use Rattle.structure.specs.Answers.{summary, wanted, tag_nodes, tag_bytes, opening_of, is_sign, predicates_in, predicates_end, sign_of, predicates, Signed, bracket_of, tail_of, tailed, Posted}

@@ -19,7 +19,6 @@ use Rattle.structure.specs.declared.Refusal.{Refusal}
 use Rattle.structure.specs.declared.Why.TheVariants.{NotAllowed, TooDeep}
 use Rattle.structure.specs.Refusals.{because}
 use Rattle.structure.specs.declared.Checked.{Checked}
-use Rattle.structure.specs.declared.Checked.TheVariants as Checked
 use Rattle.structure.specs.declared.Wanted.{Wanted}
 use Rattle.structure.specs.declared.Wanted.TheVariants.{Here, Missing}
 use Rattle.structure.specs.declared.Opening.{Opening}
@@ -27,7 +26,6 @@ use Rattle.structure.specs.declared.Opening.TheVariants.{Untied}
 use Rattle.structure.specs.declared.Bracket.{Bracket}
 use Rattle.structure.specs.declared.Bracket.TheVariants.{Unopened, Nothing}
 use Rattle.structure.specs.declared.PostfixEnds.{PostfixEnds}
-use Rattle.structure.specs.declared.PostfixEnds.TheVariants as PostfixEnds
 use Rattle.structure.specs.Structure.{Parsed, got, refused, next, join, closed, leaf_at, Call, expr, term, node, chain, posts, place, Run}
 use Rattle.structure.specs.Answers.{unread, summary, wanted, opening_of, predicates_end, predicates, bracket_of, Posted}
 use Rattle.structure.proofs.Steps.{inside_is, sees, misses, next_good, next_bad, next_assoc, next_on, opened_true, opened_false}

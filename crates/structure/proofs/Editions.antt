@@ -1,6 +1,6 @@
 -- The editions side by side: the first never gives 15, and another differs from it by 15 alone. The faults of a token agree or the one is 15 (`Adds`),
 -- and so do those of all tokens. Where 15 is given, the fault of the first edition, if it has one, is that of a later token.
-use Prim.Native.Nat.{ℕ, zero, suc, ◌+◌, ◌<◌, ◌≤◌}
+use Prim.Native.Nat.{ℕ, zero, suc, ◌+◌, ◌<◌}
 use mathlib.Core.Path.{◌≡◌, refl, sym, ap, subst, ◌∙◌}
 use mathlib.Core.Logic.{◌⊎◌, inl, inr, ⊎_elim}
 use mathlib.Core.List.{List, [], ◌∷◌}
@@ -10,7 +10,6 @@ use lib.ListN.{length}
 use Rattle.text.specs.Booleans.{or}
 use Rattle.text.specs.Digits.{decimal_of}
 use Rattle.text.specs.declared.Decimal.{Decimal}
-use Rattle.text.specs.declared.Decimal.TheVariants as Decimal
 use Rattle.text.proofs.Tests.{lt_or_ge}
 use Rattle.text.proofs.Booleans.{choose_by}
 use Rattle.token.specs.Table.{toks, kind, start, is, word}

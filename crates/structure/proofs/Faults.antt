@@ -13,20 +13,18 @@ use Rattle.text.specs.Booleans.{choose, and, or}
 use Rattle.text.specs.Digits.{decimal_of}
 use Rattle.text.specs.Scans.{later}
 use Rattle.text.specs.declared.Decimal.{Decimal}
-use Rattle.text.specs.declared.Decimal.TheVariants as Decimal
 use Rattle.text.specs.declared.Scan.{Scan}
-use Rattle.text.specs.declared.Scan.TheVariants as Scan
 use Rattle.text.proofs.Booleans.{and_true, and_both, and_first, and_second, choose_false, choose_true, or_first, or_neither, or_second}
 use Rattle.literal.specs.Escapes.{escape_look, bad_escape}
 use Rattle.token.proofs.Bounds.{stop_at}
-use Rattle.token.specs.Table.{toks, kind, start, end, is, between, trimmed, word}
+use Rattle.token.specs.Table.{toks, kind, start, end, is, between, word}
 use Rattle.token.specs.Tokens.{push_literal}
 use Rattle.token.proofs.Table.{part_is, word_is}
 use Rattle.structure.proofs.Bytes.{inside_of}
 use Rattle.structure.specs.declared.Edition.{Edition}
 use Rattle.structure.specs.declared.Edition.TheVariants.{First, Second}
 use Rattle.structure.specs.declared.Level.{Level}
-use Rattle.structure.specs.declared.Level.TheVariants.{Tagged, Plain}
+use Rattle.structure.specs.declared.Level.TheVariants.{Plain}
 use Rattle.structure.specs.declared.Fault.{Fault}
 use Rattle.structure.specs.declared.Fault.TheVariants.{Sound, At}
 use Rattle.structure.specs.declared.Why.TheVariants.{Over, Zero, PeekRange, NotScalar, NotPlain, Above}

@@ -13,13 +13,11 @@ use Rattle.text.specs.Utf8.{scalar, char_of, first_bad}
 use Rattle.text.specs.Scans.{sought}
 use Rattle.text.specs.declared.Scan.TheVariants.{Through}
 use Rattle.text.specs.declared.Sequence.{Sequence}
-use Rattle.text.specs.declared.Sequence.TheVariants as Sequence
 use Rattle.text.proofs.Booleans.{and_both, and_true, choose_by, or_by, or_first, or_second, split}
 use Rattle.text.proofs.Decodes.{decoded}
 use Rattle.text.proofs.Walks.{later_zero}
 use Rattle.literal.specs.Escapes.{escape_of, escape_look, bad_escape}
 use Rattle.literal.specs.declared.Escape.{Escape}
-use Rattle.literal.specs.declared.Escape.TheVariants as Escape
 use Rattle.literal.proofs.Escaped.{meant, good_scalar}
 use Rattle.literal.proofs.Meanings.{unescaped_utf8}
 use Rattle.token.specs.Table.{start, end, is, word, label}

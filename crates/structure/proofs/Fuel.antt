@@ -12,7 +12,7 @@ use Rattle.text.proofs.Booleans.{choose_cong, split}
 use Rattle.text.specs.Limits.{max_text}
 use Rattle.token.specs.Table.{toks, start, end, is, word, label}
 use Rattle.token.specs.Tokens.{push_literal}
-use Rattle.table.specs.Tree.{Span, Atom, text, range, peek_slice, plain, Tree, leaf, one, below, count, stored, size, atom_stored, ends_at, starts_at}
+use Rattle.table.specs.Tree.{Span, Atom, text, range, peek_slice, plain, Tree, leaf, below, count, stored, size, atom_stored, ends_at, starts_at}
 use Rattle.table.specs.declared.Join.TheVariants.{Seq}
 use Rattle.table.specs.declared.Unary.{Unary}
 use Rattle.table.specs.declared.Unary.TheVariants.{PosPred, NegPred, Push}

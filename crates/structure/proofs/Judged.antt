@@ -13,9 +13,7 @@ use borrow.Author.Tests.{eqb-true}
 use Rattle.text.specs.Booleans.{choose, and, or}
 use Rattle.text.specs.Digits.{decimal_of}
 use Rattle.text.specs.declared.Decimal.{Decimal}
-use Rattle.text.specs.declared.Decimal.TheVariants as Decimal
 use Rattle.text.specs.declared.Scan.{Scan}
-use Rattle.text.specs.declared.Scan.TheVariants as Scan
 use Rattle.text.proofs.Booleans.{or_first, or_second, or_neither, or_false, or_by, choose_by, choose_cong, choose_false, choose_true}
 use Rattle.text.proofs.Tests.{lt_or_ge}
 use Rattle.literal.specs.Escapes.{bad_escape}

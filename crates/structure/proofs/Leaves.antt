@@ -1,5 +1,5 @@
 -- The paths of the functions that check postfixes and nodes without an expression.
-use Prim.Native.Nat.{ℕ, ◌+◌, ◌-◌, ◌≤◌, ◌<◌}
+use Prim.Native.Nat.{ℕ, ◌+◌, ◌≤◌, ◌<◌}
 use mathlib.Core.Path.{◌≡◌, refl, sym, ap, ◌∙◌}
 use mathlib.Core.Bool.{Bool, true, false}
 use mathlib.Core.Logic.{◌⊎◌, inl, inr, ⊎_elim}
@@ -23,11 +23,9 @@ use Rattle.structure.specs.declared.Why.TheVariants.{NotAllowed, TooDeep}
 use Rattle.structure.specs.declared.Refusal.{Refusal}
 use Rattle.structure.specs.Refusals.{because}
 use Rattle.structure.specs.declared.Checked.{Checked}
-use Rattle.structure.specs.declared.Checked.TheVariants as Checked
 use Rattle.structure.specs.declared.Wanted.{Wanted}
 use Rattle.structure.specs.declared.Wanted.TheVariants.{Here, Missing}
 use Rattle.structure.specs.declared.PostfixEnd.{PostfixEnd}
-use Rattle.structure.specs.declared.PostfixEnd.TheVariants as PostfixEnd
 use Rattle.structure.specs.Tokens.{across, spells, peek}
 use Rattle.structure.specs.Values.{is_integer, integer, number, string, character}
 use Rattle.structure.specs.Structure.{Parsed, got, refused, want, post, not_post, to_most, from_number, from_comma, postfix_at, slice_to, slice, pushed, ranged, slices, leaf_at}

@@ -14,7 +14,7 @@ use Rattle.table.specs.Tree.{Span, Tree}
 use Rattle.table.specs.declared.Join.TheVariants.{Seq, Choice}
 use Rattle.structure.specs.declared.Level.{Level}
 use Rattle.structure.specs.Structure.{got, join, closed, expr, term, chain, Run}
-use Rattle.structure.specs.Meaning.{Behind, nothing, more, Joined, Term, Sequence, Expression}
+use Rattle.structure.specs.Meaning.{Behind, nothing, more, Term, Sequence, Expression}
 use Rattle.structure.proofs.Steps.{inside_is, another, next_got, next_good}
 use Rattle.structure.proofs.Fuel.{went}
 use Rattle.structure.proofs.Grammar.{expr_law, chain_law}

@@ -1,27 +1,22 @@
 -- Why a text is refused, phase by phase: by structure for what isn't allowed or too deep, by values for the five that a token alone shows.
 -- Each definition hands a refusal on as it is, so that the reason is that of where it was made.
-use Prim.Native.Nat.{ℕ, zero, suc, ◌+◌, ◌-◌}
+use Prim.Native.Nat.{ℕ, zero, suc, ◌+◌}
 use mathlib.Core.Path.{◌≡◌, refl}
-use mathlib.Core.Bool.{Bool, true, false}
 use mathlib.Core.Logic.{◌⊎◌, inl, inr}
 use mathlib.Core.List.{List}
-use mathlib.Core.Option.{none, some}
 use lib.Dec.{leb, eqb}
 use lib.ListN.{length}
-use Rattle.text.specs.Booleans.{choose, or}
+use Rattle.text.specs.Booleans.{or}
 use Rattle.text.specs.Digits.{decimal_of}
 use Rattle.text.specs.Words.{push}
 use Rattle.text.specs.declared.Scan.{Scan}
-use Rattle.text.specs.declared.Scan.TheVariants as Scan
 use Rattle.text.specs.declared.Decimal.{Decimal}
-use Rattle.text.specs.declared.Decimal.TheVariants as Decimal
 use Rattle.text.proofs.Booleans.{choose_by}
 use Rattle.text.specs.Limits.{max_open}
 use Rattle.literal.specs.Escapes.{bad_escape}
-use Rattle.token.specs.Table.{toks, start, end, kind, is, word, label}
+use Rattle.token.specs.Table.{toks, start, kind, is, word}
 use Rattle.token.specs.Tokens.{push_literal}
-use Rattle.table.specs.Tree.{Span, Tree, Rule, plain, starts_at, ends_at}
-use Rattle.table.specs.declared.Join.TheVariants.{Seq}
+use Rattle.table.specs.Tree.{Span, Tree, Rule}
 use Rattle.table.specs.declared.Unary.{Unary}
 use Rattle.structure.specs.declared.Edition.{Edition}
 use Rattle.structure.specs.declared.Edition.TheVariants.{First, Second}
@@ -31,11 +26,10 @@ use Rattle.structure.specs.declared.Why.{Why}
 use Rattle.structure.specs.declared.Why.TheVariants.{NotAllowed, TooDeep, Over, Zero, PeekRange, NotScalar, NotPlain, Above}
 use Rattle.structure.specs.declared.Refusal.{Refusal}
 use Rattle.structure.specs.declared.Fault.{Fault}
-use Rattle.structure.specs.declared.Fault.TheVariants as Fault
 use Rattle.structure.specs.Refusals.{because}
 use Rattle.structure.specs.Tokens.{spells}
-use Rattle.structure.specs.Values.{is_integer, integer_of, literal_bytes, exceeds, above_fault, repeat_fault, peek_fault, literal_fault, word_fault, number_fault, fault_at, or_fault, faults_from, faults}
-use Rattle.structure.specs.Structure.{Parsed, got, refused, next, want, opened, Postfix, post, not_post, no_post, from_number, from_comma, postfix_at, slice_to, slice, pushed, ranged, slices, leaf_at, posts_by, Call, expr, term, signed, node, chain, posts, body, run, Run, is_name, past_mark, past_bar, Ruled, rules, unruled, with_rule, Ruling, ruling, no_rule, rule_of, then_rules, rule_from, rules_up_to, docs, grammar}
+use Rattle.structure.specs.Values.{is_integer, integer_of, literal_bytes, exceeds, above_fault, repeat_fault, peek_fault, literal_fault, word_fault, fault_at, or_fault, faults_from, faults}
+use Rattle.structure.specs.Structure.{Parsed, got, refused, next, want, opened, Postfix, post, not_post, no_post, from_number, from_comma, postfix_at, slice_to, slice, pushed, ranged, slices, leaf_at, posts_by, Call, expr, term, signed, node, chain, posts, body, run, Run, is_name, past_mark, Ruled, rules, unruled, with_rule, Ruling, ruling, no_rule, rule_of, then_rules, rule_from, rules_up_to, docs, grammar}
 
 -- ---- structure: 4 and 9
 

@@ -19,12 +19,10 @@ use Rattle.structure.specs.declared.Refusal.{Refusal}
 use Rattle.structure.specs.declared.Why.TheVariants.{NotAllowed}
 use Rattle.structure.specs.Refusals.{because}
 use Rattle.structure.specs.declared.Checked.{Checked}
-use Rattle.structure.specs.declared.Checked.TheVariants as Checked
 use Rattle.structure.specs.declared.Counted.{Counted}
-use Rattle.structure.specs.declared.Counted.TheVariants as Counted
 use Rattle.structure.specs.declared.Wanted.{Wanted}
 use Rattle.structure.specs.declared.Wanted.TheVariants.{Here, Missing}
-use Rattle.structure.specs.Tokens.{across, same, spells}
+use Rattle.structure.specs.Tokens.{across, spells}
 use Rattle.structure.specs.Structure.{Parsed, got, refused, want, expr, Run, is_name, silent, mark_at, past_mark, past_bar, Ruled, rules, unruled, with_rule, Ruling, ruling, no_rule, rule_of, then_rules, rule_from, rules_up_to, docs_in, docs, grammar}
 use Rattle.structure.specs.Answers.{summary, wanted, rule_summary, summaries}
 use Rattle.structure.proofs.Steps.{inside_is, sees, misses, another, spells_in, spells_kind}

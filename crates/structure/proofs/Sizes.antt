@@ -11,7 +11,6 @@ use Rattle.text.specs.Utf8.{encoded}
 use Rattle.text.proofs.Booleans.{choose_by}
 use Rattle.literal.specs.Escapes.{escape_of, escape_piece_by, escape_piece, unescaped}
 use Rattle.literal.specs.declared.Escape.{Escape}
-use Rattle.literal.specs.declared.Escape.TheVariants as Escape
 use Rattle.token.specs.Table.{start, end, between, word, label}
 use Rattle.table.specs.Tree.{Span, Wrap, plain, node_tag, Tree, leaf, one, two, below, count, stored, size, wrap_stored, place_of, placed, ends_at, starts_at}
 use Rattle.table.specs.declared.Join.{Join}

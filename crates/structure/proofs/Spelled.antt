@@ -18,12 +18,10 @@ use Rattle.text.specs.Utf8.{char_of, first_bad}
 use Rattle.text.specs.declared.Scan.{Scan}
 use Rattle.text.specs.declared.Scan.TheVariants.{Through, StopsAt}
 use Rattle.text.specs.declared.Sequence.{Sequence}
-use Rattle.text.specs.declared.Sequence.TheVariants as Sequence
 use Rattle.text.proofs.Booleans.{and_both, and_true, choose_by, or_by, split}
 use Rattle.text.proofs.Tests.{lt_or_ge}
 use Rattle.literal.specs.Escapes.{escape_of}
 use Rattle.literal.specs.declared.Escape.{Escape}
-use Rattle.literal.specs.declared.Escape.TheVariants as Escape
 use Rattle.token.specs.Blanks.{run, first, in_digits, words, digit_run, zeros, blank_of}
 use Rattle.token.specs.Tokens.{moved, push_literal, allowed, word_token, tag_token, number_token, minus_token, dots_token, inside_look, string_by, string_of, insens_token, quoted, escaped_by, raw_by, char_token, doc_token, opener_token, place_in, one_kind, token_by, first_token, token_at}
 use Rattle.token.specs.Lists.{Tok, tok, kind_of, start_of, end_of, place_from}

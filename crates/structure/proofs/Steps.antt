@@ -8,7 +8,7 @@ use native.Mathlib.Decide.{dec_lt}
 use lib.Dec.{leb, eqb}
 use lib.ListN.{length, get_or-eq_default}
 use borrow.Author.Tests.{eqb-true, eq-eqb, ne_eqb}
-use Rattle.text.specs.Booleans.{choose, and, or}
+use Rattle.text.specs.Booleans.{and}
 use Rattle.text.proofs.Booleans.{and_first, and_left, choose_cong, choose_false, choose_true, split}
 use Rattle.text.specs.Limits.{max_open}
 use Rattle.text.specs.Words.{begins}

@@ -31,7 +31,6 @@ use Rattle.table.specs.Tree.{Span, Tree, Rule, stored, size, rule_stored, rules_
 use Rattle.table.specs.declared.Join.TheVariants.{Seq}
 use Rattle.table.specs.declared.Unary.TheVariants.{PosPred, NegPred, Push}
 use Rattle.structure.specs.declared.Level.{Level}
-use Rattle.structure.specs.declared.Level.TheVariants as Level
 use Rattle.structure.specs.Tokens.{across, spells}
 use Rattle.structure.specs.Values.{is_integer, opening, literal_bytes, string}
 use Rattle.structure.specs.Answers.{tag_bytes}

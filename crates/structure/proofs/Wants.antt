@@ -17,11 +17,9 @@ use Rattle.structure.specs.declared.Refusal.{Refusal}
 use Rattle.structure.specs.declared.Why.TheVariants.{NotAllowed}
 use Rattle.structure.specs.Refusals.{because}
 use Rattle.structure.specs.declared.Checked.{Checked}
-use Rattle.structure.specs.declared.Checked.TheVariants as Checked
 use Rattle.structure.specs.declared.Wanted.{Wanted}
 use Rattle.structure.specs.declared.Wanted.TheVariants.{Here, Missing}
 use Rattle.structure.specs.declared.PostfixEnd.{PostfixEnd}
-use Rattle.structure.specs.declared.PostfixEnd.TheVariants as PostfixEnd
 use Rattle.structure.specs.Structure.{Parsed, got, refused, want, Postfix, post, not_post, no_post}
 use Rattle.structure.specs.Answers.{unread, summary, wanted, tail_of}
 use Rattle.structure.proofs.Steps.{inside_is, sees, misses, want_true, want_false}

@@ -10,7 +10,6 @@ use Rattle.table.specs.declared.Unary.TheVariants.{PosPred, NegPred}
 use Rattle.structure.specs.declared.Level.{Level}
 use Rattle.structure.specs.declared.Level.TheVariants.{Tagged, Plain}
 use Rattle.structure.specs.declared.Checked.{Checked}
-use Rattle.structure.specs.declared.Checked.TheVariants as Checked
 use Rattle.structure.specs.declared.Wanted.{Wanted}
 use Rattle.structure.specs.declared.Wanted.TheVariants.{Here, Missing}
 use Rattle.structure.specs.declared.Opening.{Opening}
@@ -18,11 +17,8 @@ use Rattle.structure.specs.declared.Opening.TheVariants.{From, Untied}
 use Rattle.structure.specs.declared.Bracket.{Bracket}
 use Rattle.structure.specs.declared.Bracket.TheVariants.{Opens, Unopened, Nothing}
 use Rattle.structure.specs.declared.PostfixEnd.{PostfixEnd}
-use Rattle.structure.specs.declared.PostfixEnd.TheVariants as PostfixEnd
 use Rattle.structure.specs.declared.PostfixEnds.{PostfixEnds}
-use Rattle.structure.specs.declared.PostfixEnds.TheVariants as PostfixEnds
 use Rattle.structure.specs.declared.Counted.{Counted}
-use Rattle.structure.specs.declared.Counted.TheVariants as Counted
 use Rattle.structure.specs.Tokens.{spells}
 use Rattle.structure.specs.Values.{is_integer}
 use Rattle.structure.specs.Structure.{Parsed, got, refused, next, prefixed, Postfix, post, not_post, no_post, signed, posts, Run, Ruling, ruling, no_rule, Ruled, rules, unruled}

@@ -2,7 +2,7 @@
 -- `body` is the grammar; `go` reads what stands inside. `Run c` is `body Run c` (a law), so nobody above looks at fuel.
 use Rattle.std.specs.Prelude.{ℕ, zero, suc, ◌+◌, ◌-◌, ◌*◌, Bool, not, List, [], ◌∷◌, leb, eqb, length}
 use Rattle.std.proofs.Math.Option.{Option, none, some}
-use Rattle.text.specs.Booleans.{choose, and, or}
+use Rattle.text.specs.Booleans.{choose, and}
 use Rattle.text.specs.Words.{begins, push}
 use Rattle.text.specs.Limits.{max_open}
 use Rattle.token.specs.Table.{toks, start, end, is, word, label}

@@ -4,14 +4,10 @@ use Rattle.text.specs.Booleans.{choose, and, or}
 use Rattle.text.specs.Digits.{decimal_of}
 use Rattle.text.specs.Utf8.{char_of}
 use Rattle.text.specs.declared.Decimal.{Decimal}
-use Rattle.text.specs.declared.Decimal.TheVariants as Decimal
 use Rattle.text.specs.declared.Sequence.{Sequence}
-use Rattle.text.specs.declared.Sequence.TheVariants as Sequence
 use Rattle.text.specs.declared.Scan.{Scan}
-use Rattle.text.specs.declared.Scan.TheVariants as Scan
 use Rattle.literal.specs.Escapes.{escape_of, unescaped, bad_escape}
 use Rattle.literal.specs.declared.Escape.{Escape}
-use Rattle.literal.specs.declared.Escape.TheVariants as Escape
 use Rattle.token.specs.Table.{toks, kind, start, is, trimmed, word}
 use Rattle.token.specs.Tokens.{push_literal}
 use Rattle.structure.specs.declared.Edition.{Edition}

@@ -2,6 +2,8 @@
 //
 // It carries over the descent of pest_meta's parser.rs: `consume_rules_with_spans`, `consume_expr`,
 // `unaries`, `get_node_tag`. `inner` has what the crates above build on.
+#![tactic(auto)]
+
 pub mod inner;
 
 // Tagged: tags are kept. Plain: tags are dropped, and PUSH_LITERAL is refused.

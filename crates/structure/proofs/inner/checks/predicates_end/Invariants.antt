@@ -1,0 +1,13 @@
+-- Invariant (`EndInv`): the predicates from the start on end where those from i on end. Each turn takes one `&` or `!`, so that the
+-- tokens left fall; at any other token they end.
+use Rattle.structure.proofs.Checks.{EndInv}
+use lib.ListN.{length}
+use Prim.Native.Nat.{◌-◌}
+use Rattle.token.specs.Table.{toks}
+use Rattle.structure.proofs.inner.checks.predicates_end.Given as goal
+
+abbrev pub invariant-loop-at : goal.invariant-loop-at
+invariant-loop-at l = EndInv l.text l.at l.i
+
+abbrev pub decreases-loop-at : goal.decreases-loop-at
+decreases-loop-at l = length (toks l.text) - l.i
