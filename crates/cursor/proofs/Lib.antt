@@ -1,4 +1,2 @@
 -- The cursor: the laws that its proofs and callers use.
 pub mod Cursors
-pub mod Facts
-pub mod Calls

@@ -3,6 +3,8 @@
 //
 // A function that takes, makes or holds a cursor is taken apart by hand in its proof, so these are few
 // and thin. The work is done on a slice and a number.
+#![tactic(auto)]
+
 ghost use Rattle.std.specs.Prelude.{◌≡◌};
 ghost use Rattle.token.specs.Lister.{next_of, numbers_of, lister};
 ghost use Rattle.cursor.specs.Cursors.{step_of, two_of, moved};
