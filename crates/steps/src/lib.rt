@@ -1,4 +1,6 @@
 // The table of states as code: what a byte or the text's end does. `inner` has it, for the crate above.
+#![tactic(auto)]
+
 pub mod inner;
 
 use states::Conf;
