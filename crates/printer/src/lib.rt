@@ -3,6 +3,8 @@
 // `print` stands here and asks nothing of its callers. `inner` has what it is made of: a bound on the
 // text, and the two walks from a node to its children, one that measures and one that writes. They carry
 // over `Display` and `print_rule` of pest_meta's ast.rs.
+#![tactic(auto)]
+
 pub mod inner;
 
 ghost use Rattle.std.specs.Prelude.{◌≡◌, length};
