@@ -41,7 +41,7 @@ pub fn spend_op(store: &[u8], op: Op, left: usize) -> usize
 }
 
 // Writes a tag, before the child.
-fn put_tag(store: &[u8], p: usize, n: usize, out: &mut [u8], at: usize) -> usize
+pub fn put_tag(store: &[u8], p: usize, n: usize, out: &mut [u8], at: usize) -> usize
     requires n_value { good_op store.now (NodeTag p n) ≡ true }
     requires room { Room out.old at (before (wrap_of store.now (NodeTag p n))) }
     ensures { Wrote out.old at (before (wrap_of store.now (NodeTag p n))) out.new result }
@@ -53,7 +53,7 @@ fn put_tag(store: &[u8], p: usize, n: usize, out: &mut [u8], at: usize) -> usize
 }
 
 // Writes what stands before the child where there is no tag.
-fn put_before(unary: Unary, out: &mut [u8], at: usize) -> usize
+pub fn put_before(unary: Unary, out: &mut [u8], at: usize) -> usize
     requires { Room out.old at (unary_before unary) }
     ensures { Wrote out.old at (unary_before unary) out.new result }
 {
