@@ -54,7 +54,7 @@ pub fn measure(
 
 // Writes node i's text. Who calls it has looked up the node's kind, while something else was being written: the walk
 // branches on it at once, and most of these branches a processor guesses wrong.
-pub fn write(
+fn write_kind(
     nodes: &[u32],
     store: &[u8],
     kind: u32,
@@ -84,11 +84,11 @@ pub fn write(
                 Over::Before(under, opens, closes) => {
                     let a1 = brackets::put_open(opens, out, at);
                     let a2 = unary::put_front(store, op, out, a1);
-                    let a3 = write(nodes, store, kc, c, out, a2, under, style);
+                    let a3 = write_kind(nodes, store, kc, c, out, a2, under, style);
                     brackets::put_close(closes, out, a3)
                 }
                 Over::Behind(unary) => {
-                    let a1 = write(nodes, store, kc, c, out, at, Place::Operand, style);
+                    let a1 = write_kind(nodes, store, kc, c, out, at, Place::Operand, style);
                     unary::put_after(unary, out, a1)
                 }
             }
@@ -97,14 +97,32 @@ pub fn write(
             let ka = kind_at(nodes, a);
             let on = brackets::join_brackets(style, place, join);
             let a1 = brackets::put_open(on, out, at);
-            let a2 = write(nodes, store, ka, a, out, a1, Place::LeftOf(join), style);
+            let a2 = write_kind(nodes, store, ka, a, out, a1, Place::LeftOf(join), style);
             let a3 = brackets::put_separator(join, out, a2);
             let kb = kind_at(nodes, b);
-            let a4 = write(nodes, store, kb, b, out, a3, Place::RightOf(join), style);
+            let a4 = write_kind(nodes, store, kb, b, out, a3, Place::RightOf(join), style);
             brackets::put_close(on, out, a4)
         }
         Node::Unknown => at,
     }
+}
+
+// Writes node i's text.
+pub fn write(
+    nodes: &[u32],
+    store: &[u8],
+    i: usize,
+    place: Place,
+    out: &mut [u8],
+    at: usize,
+    style: Style,
+) -> usize
+    requires sound_up_to { SoundUpTo nodes.now store.now (i + 1) }
+    requires room { Room out.old at (printed style place (tree_at nodes.now store.now i)) }
+    ensures { Wrote out.old at (printed style place (tree_at nodes.now store.now i)) out.new result }
+{
+    let kind = kind_at(nodes, i);
+    write_kind(nodes, store, kind, i, out, at, place, style)
 }
 
 fn spend_mark(mark: u32, left: usize) -> usize
@@ -172,8 +190,7 @@ fn print_rule(
     let a2 = put(b" = ", out, a1);
     let a3 = put_mark(head.mark, out, a2);
     let a4 = put(b"{ ", out, a3);
-    let kind = kind_at(nodes, head.root);
-    let a5 = write(nodes, store, kind, head.root, out, a4, Place::Alone, style);
+    let a5 = write(nodes, store, head.root, Place::Alone, out, a4, style);
     put(b" }\n", out, a5)
 }
 

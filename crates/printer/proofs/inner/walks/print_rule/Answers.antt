@@ -62,9 +62,6 @@ put-a4-requires c =
     let b = part_between st h.offset h.length in
     part_room (go (go (go g (rw b at c.put-a1.ensures)) c.put-a2.ensures) c.put_mark-a3.ensures)
 
-pub kind_at-kind-requires : goal.kind_at-kind-requires
-kind_at-kind-requires c = (rule_tree c.args.style c.args.nodes.now c.args.rules.now c.args.store.now c.args.k c.head_at-head.result c.head_at-head.ensures c.requires.valid c.requires.k_bound).whole
-
 pub write-a5-requires : goal.write-a5-requires
 write-a5-requires c =
     let ns = c.args.nodes.now in
@@ -75,7 +72,6 @@ write-a5-requires c =
     let b = part_between st h.offset h.length in
     record {
       sound_up_to = rule_tree c.args.style ns rs st c.args.k h c.head_at-head.ensures c.requires.valid c.requires.k_bound;
-      kind_value = c.kind_at-kind.ensures;
       room = part_room (go (go (go (go g (rw b at c.put-a1.ensures)) c.put-a2.ensures) c.put_mark-a3.ensures) c.put-a4.ensures);
     }
 

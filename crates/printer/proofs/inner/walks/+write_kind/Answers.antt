@@ -22,7 +22,7 @@ use Rattle.forms.specs.declared.Over.TheVariants.{Before, Behind}
 use Rattle.forms.specs.Printing.{brackets, opening, closing, atom_form, atom_text, over_of, unary_after, before, separator, printed}
 use Rattle.forms.proofs.Rows.{Going, begin, part_room, go, finish}
 use Rattle.printer.proofs.Nodes.{leaf_row, over_row_lem, two_row}
-use Rattle.printer.proofs.inner.walks.+write.Goals as goal
+use Rattle.printer.proofs.inner.walks.+write_kind.Goals as goal
 
 -- what stands below the node n at i, which isn't false: a good leaf, or children lower than it that aren't false either
 module _ {ns st : List ℕ} (i : ℕ) (s : SoundUpTo ns st (i + 1)) {n : Node} (v : n ≡ node_at ns i) where
@@ -110,8 +110,8 @@ put_front-a2-requires t c =
       room = part_room (go parts c.put_open-a1-in-Before.ensures);
     }
 
-pub write-a3-requires : goal.write-a3-requires
-write-a3-requires t c =
+pub write_kind-a3-requires : goal.write_kind-a3-requires
+write_kind-a3-requires t c =
     let parts = before_parts c.args.i c.requires.sound_up_to c.node_with-node.ensures c.args.style c.args.place c.requires.room c.in-One.is c.over-over.ensures c.in-Before.is in
     let below = under c.args.i c.requires.sound_up_to c.node_with-node.ensures c.in-One.is in
     (omega (arith, below.0), (below.1, (c.kind_at-kc.ensures, part_room (go (go parts c.put_open-a1-in-Before.ensures) c.put_front-a2.ensures))))
@@ -119,15 +119,15 @@ write-a3-requires t c =
 pub put_close-requires-in-Before : goal.put_close-requires-in-Before
 put_close-requires-in-Before t c =
     let parts = before_parts c.args.i c.requires.sound_up_to c.node_with-node.ensures c.args.style c.args.place c.requires.room c.in-One.is c.over-over.ensures c.in-Before.is in
-    part_room (go (go (go parts c.put_open-a1-in-Before.ensures) c.put_front-a2.ensures) c.write-a3.ensures)
+    part_room (go (go (go parts c.put_open-a1-in-Before.ensures) c.put_front-a2.ensures) c.write_kind-a3.ensures)
 
 pub returns-in-Before : goal.returns-in-Before
 returns-in-Before t c =
     let parts = before_parts c.args.i c.requires.sound_up_to c.node_with-node.ensures c.args.style c.args.place c.requires.room c.in-One.is c.over-over.ensures c.in-Before.is in
-    finish (go (go (go parts c.put_open-a1-in-Before.ensures) c.put_front-a2.ensures) c.write-a3.ensures) c.put_close-in-Before.ensures
+    finish (go (go (go parts c.put_open-a1-in-Before.ensures) c.put_front-a2.ensures) c.write_kind-a3.ensures) c.put_close-in-Before.ensures
 
-pub write-a1-requires : goal.write-a1-requires
-write-a1-requires t c =
+pub write_kind-a1-requires : goal.write_kind-a1-requires
+write_kind-a1-requires t c =
     let parts = behind_parts c.args.i c.requires.sound_up_to c.node_with-node.ensures c.args.style c.args.place c.requires.room c.in-One.is c.over-over.ensures c.in-Behind.is in
     let below = under c.args.i c.requires.sound_up_to c.node_with-node.ensures c.in-One.is in
     (omega (arith, below.0), (below.1, (c.kind_at-kc.ensures, part_room parts)))
@@ -135,12 +135,12 @@ write-a1-requires t c =
 pub put_after-requires : goal.put_after-requires
 put_after-requires t c =
     let parts = behind_parts c.args.i c.requires.sound_up_to c.node_with-node.ensures c.args.style c.args.place c.requires.room c.in-One.is c.over-over.ensures c.in-Behind.is in
-    part_room (go parts c.write-a1.ensures)
+    part_room (go parts c.write_kind-a1.ensures)
 
 pub returns-in-Behind : goal.returns-in-Behind
 returns-in-Behind t c =
     let parts = behind_parts c.args.i c.requires.sound_up_to c.node_with-node.ensures c.args.style c.args.place c.requires.room c.in-One.is c.over-over.ensures c.in-Behind.is in
-    finish (go parts c.write-a1.ensures) c.put_after.ensures
+    finish (go parts c.write_kind-a1.ensures) c.put_after.ensures
 
 pub kind_at-ka-requires : goal.kind_at-ka-requires
 kind_at-ka-requires t c = (left c.args.i c.requires.sound_up_to c.node_with-node.ensures c.in-Two.is).1.whole
@@ -149,8 +149,8 @@ pub put_open-a1-requires-in-Two : goal.put_open-a1-requires-in-Two
 put_open-a1-requires-in-Two t c =
     part_room (two_parts c.args.i c.requires.sound_up_to c.node_with-node.ensures c.args.style c.args.place c.requires.room c.in-Two.is c.join_brackets-on.ensures)
 
-pub write-a2-requires : goal.write-a2-requires
-write-a2-requires t c =
+pub write_kind-a2-requires : goal.write_kind-a2-requires
+write_kind-a2-requires t c =
     let parts = two_parts c.args.i c.requires.sound_up_to c.node_with-node.ensures c.args.style c.args.place c.requires.room c.in-Two.is c.join_brackets-on.ensures in
     let below = left c.args.i c.requires.sound_up_to c.node_with-node.ensures c.in-Two.is in
     (omega (arith, below.0), (below.1, (c.kind_at-ka.ensures, part_room (go parts c.put_open-a1-in-Two.ensures))))
@@ -158,26 +158,26 @@ write-a2-requires t c =
 pub put_separator-a3-requires : goal.put_separator-a3-requires
 put_separator-a3-requires t c =
     let parts = two_parts c.args.i c.requires.sound_up_to c.node_with-node.ensures c.args.style c.args.place c.requires.room c.in-Two.is c.join_brackets-on.ensures in
-    part_room (go (go parts c.put_open-a1-in-Two.ensures) c.write-a2.ensures)
+    part_room (go (go parts c.put_open-a1-in-Two.ensures) c.write_kind-a2.ensures)
 
 pub kind_at-kb-requires : goal.kind_at-kb-requires
 kind_at-kb-requires t c = (right c.args.i c.requires.sound_up_to c.node_with-node.ensures c.in-Two.is).1.whole
 
-pub write-a4-requires : goal.write-a4-requires
-write-a4-requires t c =
+pub write_kind-a4-requires : goal.write_kind-a4-requires
+write_kind-a4-requires t c =
     let parts = two_parts c.args.i c.requires.sound_up_to c.node_with-node.ensures c.args.style c.args.place c.requires.room c.in-Two.is c.join_brackets-on.ensures in
     let below = right c.args.i c.requires.sound_up_to c.node_with-node.ensures c.in-Two.is in
-    (omega (arith, below.0), (below.1, (c.kind_at-kb.ensures, part_room (go (go (go parts c.put_open-a1-in-Two.ensures) c.write-a2.ensures) c.put_separator-a3.ensures))))
+    (omega (arith, below.0), (below.1, (c.kind_at-kb.ensures, part_room (go (go (go parts c.put_open-a1-in-Two.ensures) c.write_kind-a2.ensures) c.put_separator-a3.ensures))))
 
 pub put_close-requires-in-Two : goal.put_close-requires-in-Two
 put_close-requires-in-Two t c =
     let parts = two_parts c.args.i c.requires.sound_up_to c.node_with-node.ensures c.args.style c.args.place c.requires.room c.in-Two.is c.join_brackets-on.ensures in
-    part_room (go (go (go (go parts c.put_open-a1-in-Two.ensures) c.write-a2.ensures) c.put_separator-a3.ensures) c.write-a4.ensures)
+    part_room (go (go (go (go parts c.put_open-a1-in-Two.ensures) c.write_kind-a2.ensures) c.put_separator-a3.ensures) c.write_kind-a4.ensures)
 
 pub returns-in-Two : goal.returns-in-Two
 returns-in-Two t c =
     let parts = two_parts c.args.i c.requires.sound_up_to c.node_with-node.ensures c.args.style c.args.place c.requires.room c.in-Two.is c.join_brackets-on.ensures in
-    finish (go (go (go (go parts c.put_open-a1-in-Two.ensures) c.write-a2.ensures) c.put_separator-a3.ensures) c.write-a4.ensures) c.put_close-in-Two.ensures
+    finish (go (go (go (go parts c.put_open-a1-in-Two.ensures) c.write_kind-a2.ensures) c.put_separator-a3.ensures) c.write_kind-a4.ensures) c.put_close-in-Two.ensures
 
 pub returns-in-Unknown : goal.returns-in-Unknown
 returns-in-Unknown t c = absurd (sound_unknown c.args.nodes.now c.args.store.now c.args.i c.requires.sound_up_to (sym c.node_with-node.ensures ∙ c.in-Unknown.is))
