@@ -9,7 +9,6 @@ use lib.Dec.{leb, ltb, eqb}
 use lib.ListN.{length, take, drop, set, get_or, length-set, length-drop}
 use lib.Seq.{take-suc-set}
 use borrow.Author.Tests.{lt-ltb, le-ltb, le-leb, lt-leb, leb-true, leb-false}
-use Rattle.text.specs.Booleans.{choose}
 use Rattle.text.proofs.Booleans.{choose_true, choose_false, choose_by}
 use Rattle.vectors.specs.Vectors.{find_of, word_of, hex_value, number_from, one_if}
 use Rattle.vectors.specs.Buffers.{Filled, filled, put, unhexed, appended, times, repeated, pieces_from, between, parts_from, more_of, kept_if, numbers_from}

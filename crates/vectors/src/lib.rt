@@ -1,5 +1,7 @@
 // Lines of test vectors. A program of the gate reads them on its standard input, one to a line, takes
 // a line's fields apart, and writes what came of each.
+#![tactic(auto)]
+
 ghost use Rattle.std.specs.Prelude.{◌≤◌, ◌≡◌, length, drop};
 ghost use Rattle.io.specs.Counts.{IsPrefixLen};
 ghost use Rattle.vectors.specs.Vectors.{find_of, line_end, field_of, word_of, hex_value, number_from, one_if, alone, mixed_of, sum_from};
