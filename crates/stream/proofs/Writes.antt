@@ -25,7 +25,7 @@ use Rattle.states.specs.declared.Feed.{Feed}
 use Rattle.steps.specs.declared.Given.{Given}
 use Rattle.steps.specs.declared.Given.TheVariants.{No, Yes}
 use Rattle.stream.specs.declared.Ran.TheVariants.{Stands, Refuses}
-use Rattle.states.specs.Machine.{step, finish}
+use Rattle.states.specs.Machine.{finish}
 use Rattle.states.specs.Utf.{utf_end}
 use Rattle.states.specs.Feed.{fits, stand_of, refusals, opened, reported, written, feed_of, feed_in, end_of, end_in}
 use Rattle.states.specs.Steps.{Step, Goes, Faults, over_at, step_of, given, ran_of, last_of, begin, fed_of, done_of}

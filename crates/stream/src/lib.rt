@@ -2,6 +2,8 @@
 // whose end is known.
 //
 // The entry points stand here and ask nothing of their callers.
+#![tactic(auto)]
+
 mod passes;
 
 ghost use Rattle.std.specs.Prelude.{◌≡◌};
