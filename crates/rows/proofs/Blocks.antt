@@ -1,5 +1,5 @@
 -- A block of camera lines: the lines of their records are the answers' lines; and an input in blocks is answered as a whole.
-use Prim.Native.Nat.{ℕ, zero, suc, ◌+◌, ◌*◌, ◌-◌, ◌/◌, ◌≤◌, ◌<◌}
+use Prim.Native.Nat.{ℕ, zero, suc, ◌+◌, ◌*◌, ◌/◌, ◌≤◌, ◌<◌}
 use mathlib.Core.Path.{◌≡◌, refl, sym, ap, subst, ◌∙◌}
 use mathlib.Core.Bool.{Bool, true, false}
 use mathlib.Core.List.{List, [], ◌∷◌, ◌++◌, append_assoc}
@@ -13,9 +13,7 @@ use Rattle.text.specs.Splice.{Wrote, fronted}
 use Rattle.text.proofs.Splices.{wrote_front}
 use Rattle.table.specs.Record.{root_at}
 use Rattle.replies.specs.declared.Answer.{Answer}
-use Rattle.replies.specs.declared.Answer.TheVariants as Answer
 use Rattle.links.specs.declared.Ready.{Ready}
-use Rattle.links.specs.declared.Ready.TheVariants as Ready
 use Rattle.replies.specs.declared.Row.{Row}
 use Rattle.replies.specs.declared.Lines.{Lines}
 use Rattle.replies.specs.declared.Lines.TheVariants as Ran
@@ -26,7 +24,6 @@ use Rattle.links.specs.Ready.{ready_of}
 use Rattle.matcher.specs.Lines.{lines, past, rows, row_size, lines_by, ran_over, lines_of, recorded, records_by, records_of}
 use Rattle.matcher.proofs.Blocks.{after_lines, past_inside, behind_lf}
 use Rattle.rows.specs.declared.Block.{Block}
-use Rattle.rows.specs.declared.Block.TheVariants as Block
 use Rattle.rows.specs.Rows.{row_line, row_refused, longest_line, row_from, record_lines, records_refused}
 use Rattle.rows.specs.Block.{answer_lines, refused_lines, most_lines, block_room, ran_block, refused_block, block_by, block_of, left_in, block_in, Inside, whole_size}
 

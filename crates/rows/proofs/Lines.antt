@@ -1,9 +1,9 @@
 -- The refusal's line in five parts: its length, and the parts in a row.
 use Prim.Native.Nat.{ℕ, ◌-◌}
 use mathlib.Core.Path.{◌≡◌, refl}
-use mathlib.Core.List.{List, [], ◌∷◌, ◌++◌}
+use mathlib.Core.List.{[], ◌∷◌, ◌++◌}
 use native.Mathlib.Omega.{arith}
-use lib.ListN.{length, length-append}
+use lib.ListN.{length-append}
 use Rattle.text.specs.Digits.{decimal}
 use Rattle.text.specs.Splice.{spent}
 use Rattle.forms.proofs.Rows.{row}

@@ -8,9 +8,9 @@ use lib.ListN.{length, drop, get_or, length-append}
 use lib.Seq.{drop-drop, get_or-drop}
 use borrow.Author.Tests.{le-leb, lt-leb}
 use Rattle.text.specs.Digits.{decimal}
-use Rattle.text.specs.Splice.{Room, Wrote}
+use Rattle.text.specs.Splice.{Wrote}
 use Rattle.text.specs.declared.Put.TheVariants as Put
-use Rattle.text.proofs.Splices.{wrote_then, wrote_none, wrote_length, wrote_front}
+use Rattle.text.proofs.Splices.{wrote_then, wrote_none, wrote_front}
 use Rattle.forms.proofs.Rows.{row}
 use Rattle.printer.proofs.Bounds.{decimal_short}
 use Rattle.rows.specs.Put.{PutFits}

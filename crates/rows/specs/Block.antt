@@ -4,9 +4,7 @@ use Rattle.text.specs.Booleans.{choose}
 use Rattle.text.specs.Splice.{fronted}
 use Rattle.table.specs.Record.{root_at}
 use Rattle.replies.specs.declared.Answer.{Answer}
-use Rattle.replies.specs.declared.Answer.TheVariants as Answer
 use Rattle.links.specs.declared.Ready.{Ready}
-use Rattle.links.specs.declared.Ready.TheVariants as Ready
 use Rattle.replies.specs.declared.Row.{Row}
 use Rattle.links.specs.Program.{program}
 use Rattle.matcher.specs.Answers.{line_of}

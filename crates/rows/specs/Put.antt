@@ -1,7 +1,6 @@
 -- What was put: bytes at the front of a lent output.
 use Rattle.std.specs.Prelude.{ℕ, ◌≤◌}
 use Rattle.text.specs.declared.Put.{Put}
-use Rattle.text.specs.declared.Put.TheVariants as Put
 
 -- what was put lies in an output of k bytes
 abbrev pub PutFits : Put → ℕ → Type 0

@@ -1,5 +1,7 @@
 // Lines that programs write, as bytes at the front of a lent output: a refusal's, those of camera lines'
 // answers, those of tokens. The entry points ask nothing of their callers.
+#![tactic(auto)]
+
 mod line;
 mod row;
 mod tokens;
