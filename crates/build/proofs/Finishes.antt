@@ -20,7 +20,6 @@ use Rattle.token.proofs.Table.{low}
 use Rattle.table.specs.Tree.{Span, Tree, count, size, stored, place_of, starts_at}
 use Rattle.table.specs.Record.{node_size}
 use Rattle.structure.specs.declared.Level.{Level}
-use Rattle.structure.specs.declared.Level.TheVariants as Level
 use Rattle.structure.specs.declared.Opening.TheVariants.{From}
 use Rattle.structure.specs.Answers.{unread, opening_of, tag_nodes, tag_bytes, predicates_end, predicates}
 use Rattle.structure.specs.Structure.{Parsed, got, next, prefixed, term, signed, node, posts, Run}

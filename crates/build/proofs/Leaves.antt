@@ -1,7 +1,7 @@
 -- Leaves in the buffers.
 use Prim.Native.Nat.{ℕ, ◌+◌, ◌-◌, ◌*◌, ◌≤◌, ◌<◌}
 use mathlib.Core.Path.{◌≡◌, refl, sym, ap, ◌∙◌}
-use mathlib.Core.Bool.{Bool, true, false}
+use mathlib.Core.Bool.{true, false}
 use mathlib.Core.List.{List}
 use native.Mathlib.Omega.{arith}
 use lib.ListN.{length}
@@ -19,7 +19,7 @@ use Rattle.table.specs.Tree.{Span, Atom, text, range, peek_slice, atom_stored, l
 use Rattle.table.specs.Record.{node_size}
 use Rattle.table.specs.Flat.{no_line, record_of}
 use Rattle.table.specs.Flat as Flat
-use Rattle.text.specs.Booleans.{choose, and}
+use Rattle.text.specs.Booleans.{choose}
 use Rattle.text.proofs.Booleans.{choose_false, choose_true, split}
 use Rattle.text.specs.Limits.{max_text}
 use Rattle.token.specs.Table.{toks, start, end, is, between, word}

@@ -25,7 +25,6 @@ use Rattle.structure.proofs.Fuel.{went, postfix_past}
 use Rattle.structure.proofs.Checks.{grown_signs}
 use Rattle.structure.proofs.Grammar.{posts_law}
 use Rattle.build.specs.declared.FoundPostfix.{FoundPostfix}
-use Rattle.build.specs.declared.FoundPostfix.TheVariants as FoundPostfix
 use Rattle.build.specs.Build.{SignsRoom, SignsPut, PostsRoom, PostsPut, Accepted, suffix_of, chosen_end, chosen_of, ChoiceRoom}
 use Rattle.records.specs.Records.{written, most, Over}
 use Rattle.records.proofs.Patches.{spanned, length_written}

@@ -14,20 +14,19 @@ use Rattle.text.proofs.Splices.{wrote_none}
 use Rattle.text.proofs.Booleans.{choose_false, choose_true}
 use Rattle.text.specs.Limits.{max_text}
 use Rattle.token.specs.Table.{toks, kind, start, end, is, between, label}
-use Rattle.token.proofs.Table.{low, spans}
+use Rattle.token.proofs.Table.{spans}
 use Rattle.table.specs.declared.Op.TheVariants.{NodeTag}
 use Rattle.table.specs.declared.Node.TheVariants.{One}
 use Rattle.table.specs.Tree.{Span, node_tag, Tree, stored, place_of, starts_at}
 use Rattle.table.specs.Flat.{no_line, record_of, flat}
 use Rattle.structure.specs.declared.Level.{Level}
-use Rattle.structure.specs.declared.Level.TheVariants as Level
 use Rattle.structure.specs.Answers.{tag_nodes}
 use Rattle.structure.specs.Structure.{Parsed, got, refused, next, prefixed, in_tag, term, signed, Run}
 use Rattle.structure.proofs.Steps.{sees, misses, inside_is, next_good, want_true, want_got}
 use Rattle.structure.proofs.Sizes.{count_one, size_one}
 use Rattle.structure.proofs.Grammar.{term_law}
 use Rattle.build.specs.declared.Placed.{Placed}
-use Rattle.build.specs.Build.{TreeRoom, Built, Opened, bracketed, labelled, tag_text, past_tag, term_start, TagRoom, Tied, tag_count}
+use Rattle.build.specs.Build.{Built, Opened, bracketed, labelled, tag_text, past_tag, term_start, TagRoom, Tied, tag_count}
 use Rattle.records.specs.Records.{written, most, Over, StartMoved}
 use Rattle.build.proofs.Parts.{label_is, start_low}
 use Rattle.records.proofs.Patches.{spanned, length_written}

@@ -12,11 +12,9 @@ use Rattle.text.specs.Digits.{decimal_of}
 use Rattle.text.specs.Utf8.{char_of}
 use Rattle.text.specs.declared.Decimal.{Decimal}
 use Rattle.text.specs.declared.Sequence.{Sequence}
-use Rattle.text.specs.declared.Sequence.TheVariants as Sequence
 use Rattle.text.proofs.Booleans.{choose_false, choose_true}
 use Rattle.literal.specs.Escapes.{escape_of}
 use Rattle.literal.specs.declared.Escape.{Escape}
-use Rattle.literal.specs.declared.Escape.TheVariants as Escape
 use Rattle.token.specs.Table.{toks, kind, start, end, is, between, word}
 use Rattle.table.specs.declared.Unary.TheVariants.{Opt, Rep, RepOnce, RepExact, RepMin, RepMax, RepMinMax}
 use Rattle.structure.specs.Values.{value_of, negated, number, is_integer, integer_of, integer, opening, literal_bytes, raw_char, char_by, character}
@@ -24,7 +22,6 @@ use Rattle.structure.specs.Structure.{want, Postfix, post, not_post, from_number
 use Rattle.structure.proofs.Steps as Steps
 use Rattle.structure.proofs.Steps.{sees, misses, want_true, want_false}
 use Rattle.build.specs.declared.FoundPostfix.{FoundPostfix}
-use Rattle.build.specs.declared.FoundPostfix.TheVariants as FoundPostfix
 use Rattle.build.specs.Build.{Accepted, suffix_of}
 
 pub negated_is : (n : ℕ) → (n ≡ 0 → ⊥) → 4294967295 - (n - 1) ≡ negated n

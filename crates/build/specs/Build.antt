@@ -2,7 +2,6 @@
 use Rattle.std.specs.Prelude.{ℕ, ◌+◌, ◌-◌, ◌*◌, ◌≤◌, ◌<◌, ◌≡◌, Bool, true, false, List, [], ltb, length}
 use Rattle.std.proofs.lemmas.List.Edits.{sets}
 use Rattle.text.specs.declared.Scan.{Scan}
-use Rattle.text.specs.declared.Scan.TheVariants as Scan
 use Rattle.literal.specs.Escapes.{bad_escape}
 use Rattle.table.specs.Tree.{Span, text, Tree, leaf, count, size, stored, place_of, starts_at}
 use Rattle.table.specs.Record.{node_size}
@@ -18,14 +17,12 @@ use Rattle.structure.specs.Structure.{Parsed, got, term, signed, posts, Run, Pos
 use Rattle.structure.specs.Answers.{predicates, tag_nodes}
 use Rattle.structure.specs.declared.Refusal.{Refusal}
 use Rattle.structure.specs.declared.Level.{Level}
-use Rattle.structure.specs.declared.Level.TheVariants as Level
 use Rattle.text.specs.Booleans.{choose}
 use Rattle.text.specs.Splice.{Wrote}
 use Rattle.token.specs.Table.{start, is, label, word}
 use Rattle.build.specs.declared.Placed.{Placed}
 use Rattle.build.specs.declared.PutPostfixes.{PutPostfixes}
 use Rattle.build.specs.declared.FoundPostfix.{FoundPostfix}
-use Rattle.build.specs.declared.FoundPostfix.TheVariants as FoundPostfix
 
 -- m is a tree, its records fit the table from the index `used` on, its texts the store from `free` on
 pub record TreeRoom (m : Parsed) (table store : List ℕ) (used free : ℕ) : Type 0 where

@@ -1,6 +1,8 @@
 // The building pass: a text that is good in structure and values is read again and written as records.
 //
 // It carries over the tree building of pest_meta's parser.rs. `inner` has what the reader calls.
+#![tactic(auto)]
+
 pub mod inner;
 
 use table::Unary;
