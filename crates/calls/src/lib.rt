@@ -8,6 +8,8 @@
 // For each call its number, its place and the records are written, and a semicolon. CHANGED stands before
 // that where a refused call changed the list, or a good one what isn't behind the records of the calls before
 // or is behind its own. At the end stand the records that the list holds.
+#![tactic(auto)]
+
 use states::{Call, Feed};
 
 // Between calls: the state, the list's room, the text's records so far, and the most that a call reported.
