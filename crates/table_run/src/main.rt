@@ -1,5 +1,7 @@
 // Runs the check of whole tables on the vectors of its standard input: each way in which a node or a
 // rule can be false. It writes each vector with the answer's number and place.
+#![tactic(auto)]
+
 use table::TableCheck;
 use table::inner::layout::{NODE_SIZE, RULE_SIZE};
 
