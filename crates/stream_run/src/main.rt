@@ -1,3 +1,5 @@
+#![tactic(auto)]
+
 // Runs the entry points of tokens as they arrive on the vectors of its standard input, and writes each
 // with its answers. A line is calls over one state and one list; crates/calls says how they are written.
 fn run_line(line: &[u8]) {
