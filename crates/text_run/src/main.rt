@@ -1,4 +1,6 @@
 // Runs the entry points of `text` on the vectors of its standard input, and writes each with its answer.
+#![tactic(auto)]
+
 use text::{Decimal, Encoded, Put, Scan, Sequence, Value, Word};
 
 // c BYTES PLACE
