@@ -9,14 +9,12 @@ use lib.Dec.{leb, eqb}
 use lib.ListN.{length, take, length-take}
 use lib.Seq.{take_all}
 use borrow.Author.Tests.{le-leb, lt-leb}
-use Rattle.text.specs.Booleans.{choose, and, or}
+use Rattle.text.specs.Booleans.{choose, or}
 use Rattle.text.specs.Splice.{fronted}
 use Rattle.text.specs.Utf8.{first_bad}
 use Rattle.text.specs.declared.Scan.{Scan}
-use Rattle.text.specs.declared.Scan.TheVariants as Scan
 use Rattle.token.specs.Lists.{tokens_of, filled_of}
 use Rattle.token.specs.declared.Filled.{Filled}
-use Rattle.token.specs.declared.Filled.TheVariants as Filled
 use Rattle.token.proofs.Lists.{few}
 use Rattle.token.proofs.Table.{flat_length}
 use Rattle.token.proofs.Fills.{used, filled_all, filled_none, filled_over}
@@ -28,13 +26,11 @@ use Rattle.table.proofs.Rules.{length_nodes}
 use Rattle.structure.specs.declared.Edition.{Edition}
 use Rattle.structure.specs.declared.Level.{Level}
 use Rattle.structure.specs.declared.Fault.{Fault}
-use Rattle.structure.specs.declared.Fault.TheVariants as Fault
 use Rattle.structure.specs.declared.Refusal.{Refusal}
 use Rattle.structure.specs.declared.Why.{Why}
 use Rattle.structure.specs.Refusals.{because}
 use Rattle.structure.specs.declared.Why.TheVariants.{TooLong, NotUtf8, NoToken, NotAllowed, TooDeep, Over, Zero, PeekRange, NotScalar, NotPlain, Above, RulesRoom, NodesRoom, StoreRoom}
 use Rattle.structure.specs.declared.Counted.{Counted}
-use Rattle.structure.specs.declared.Counted.TheVariants as Counted
 use Rattle.structure.specs.Values.{faults}
 use Rattle.structure.specs.Structure.{Ruled, rules, unruled, grammar}
 use Rattle.structure.specs.Answers.{summaries}
@@ -45,9 +41,7 @@ use Rattle.token.specs.Table.{token_size, flat, room_of, toks, is, Lent}
 use Rattle.structure.proofs.Fine.{sound_characters}
 use Rattle.structure.proofs.Stores.{stored_fits}
 use Rattle.reader.specs.declared.Reading.{Reading}
-use Rattle.reader.specs.declared.Reading.TheVariants as Reading
 use Rattle.reader.specs.declared.Attempt.{Attempt}
-use Rattle.reader.specs.declared.Attempt.TheVariants as Attempt
 use Rattle.reader.proofs.Counts.{Counts, judged_counts}
 use Rattle.reader.proofs.Lines.{lines_fronted}
 use Rattle.reader.specs.Lines.{line_in, with_lines}

@@ -6,10 +6,8 @@ use native.Mathlib.Omega.{arith}
 use lib.Dec.{leb}
 use lib.ListN.{length}
 use borrow.Author.Tests.{leb-true}
-use Rattle.text.specs.Booleans.{choose}
 use Rattle.text.specs.Utf8.{first_bad}
 use Rattle.text.specs.declared.Scan.{Scan}
-use Rattle.text.specs.declared.Scan.TheVariants as Scan
 use Rattle.text.proofs.Booleans.{split}
 use Rattle.text.specs.Limits.{max_text}
 use Rattle.token.specs.Lists.{tokens_of}
@@ -19,12 +17,10 @@ use Rattle.structure.specs.declared.Level.{Level}
 use Rattle.structure.specs.declared.Why.{Why}
 use Rattle.structure.specs.declared.Why.TheVariants.{NotUtf8, NoToken}
 use Rattle.structure.specs.declared.Fault.{Fault}
-use Rattle.structure.specs.declared.Fault.TheVariants as Fault
 use Rattle.structure.specs.Values.{faults}
 use Rattle.structure.specs.Structure.{Ruled, rules, unruled, grammar}
 use Rattle.build.specs.Rules.{ruled_of, rules_read}
 use Rattle.reader.specs.declared.Reading.{Reading}
-use Rattle.reader.specs.declared.Reading.TheVariants as Reading
 use Rattle.reader.specs.Read.{room_by, faulty, checked_by, refused_by, ruled_by, judged_of, listed_of, read_of}
 
 pub record Counts (edition : Edition) (level : Level) (s : List ℕ) (n r b x y z : ℕ) : Type 0 where

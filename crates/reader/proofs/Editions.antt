@@ -10,13 +10,12 @@ use Rattle.text.specs.Booleans.{choose}
 use Rattle.text.specs.Limits.{max_text}
 use Rattle.text.specs.Utf8.{first_bad}
 use Rattle.text.specs.declared.Scan.{Scan}
-use Rattle.text.specs.declared.Scan.TheVariants as Scan
 use Rattle.token.specs.Lists.{tokens_of}
 use Rattle.table.specs.Tree.{Span, Rule}
 use Rattle.structure.specs.declared.Edition.{Edition}
 use Rattle.structure.specs.declared.Edition.TheVariants.{First}
 use Rattle.structure.specs.declared.Level.{Level}
-use Rattle.structure.specs.declared.Why.TheVariants.{TooLong, NotUtf8, NoToken, Above}
+use Rattle.structure.specs.declared.Why.TheVariants.{NotUtf8, NoToken, Above}
 use Rattle.structure.specs.declared.Fault.{Fault}
 use Rattle.structure.specs.Refusals.{fault_by}
 use Rattle.structure.specs.Values.{faults}

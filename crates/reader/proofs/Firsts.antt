@@ -12,7 +12,6 @@ use Rattle.text.specs.Booleans.{among}
 use Rattle.text.specs.Limits.{max_text}
 use Rattle.text.specs.Utf8.{first_bad}
 use Rattle.text.specs.declared.Scan.{Scan}
-use Rattle.text.specs.declared.Scan.TheVariants as Scan
 use Rattle.text.proofs.Booleans.{choose_by}
 use Rattle.token.specs.Lists.{tokens_of}
 use Rattle.table.specs.Tree.{Span, Rule}
@@ -22,7 +21,6 @@ use Rattle.structure.specs.declared.Why.{Why}
 use Rattle.structure.specs.declared.Why.TheVariants.{TooLong, NotUtf8, NoToken, RulesRoom, NodesRoom, StoreRoom}
 use Rattle.structure.specs.declared.Refusal.{Refusal}
 use Rattle.structure.specs.declared.Fault.{Fault}
-use Rattle.structure.specs.declared.Fault.TheVariants as Fault
 use Rattle.structure.specs.Values.{faults}
 use Rattle.structure.specs.Structure.{Ruled, rules, unruled, grammar}
 use Rattle.structure.specs.Counts.{counted_rules}
@@ -32,7 +30,6 @@ use Rattle.structure.proofs.Judged.{first_wrong}
 use Rattle.structure.proofs.Fair.{sound_counted}
 use Rattle.build.specs.Rules.{ruled_of, rules_read}
 use Rattle.reader.specs.declared.Reading.{Reading}
-use Rattle.reader.specs.declared.Reading.TheVariants as Reading
 use Rattle.reader.specs.Read.{number_of, room_by, faulty, checked_by, refused_by, ruled_by, judged_of, listed_of, read_of}
 use Rattle.reader.proofs.Counts.{read_counts}
 

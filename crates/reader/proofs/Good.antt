@@ -21,7 +21,6 @@ use Rattle.structure.proofs.Fine.{sound_fine}
 use Rattle.structure.proofs.Stores.{stored_fits}
 use Rattle.build.specs.Rules.{rules_read}
 use Rattle.reader.specs.declared.Reading.{Reading}
-use Rattle.reader.specs.declared.Reading.TheVariants as Reading
 use Rattle.reader.specs.Read.{room_for_nodes, room_for_rules, read_of, left_in, Leaves}
 use Rattle.reader.specs.Lines.{line_in}
 use Rattle.reader.proofs.Counts.{read_text, read_counts}

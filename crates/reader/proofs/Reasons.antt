@@ -9,7 +9,6 @@ use lib.ListN.{length}
 use Rattle.text.specs.Limits.{max_text}
 use Rattle.text.specs.Utf8.{first_bad}
 use Rattle.text.specs.declared.Scan.{Scan}
-use Rattle.text.specs.declared.Scan.TheVariants as Scan
 use Rattle.token.specs.Lists.{tokens_of}
 use Rattle.text.proofs.Booleans.{choose_by}
 use Rattle.table.specs.Tree.{Span, Rule}
@@ -20,12 +19,10 @@ use Rattle.structure.specs.declared.Why.{Why}
 use Rattle.structure.specs.declared.Why.TheVariants.{TooLong, NotUtf8, NoToken, NotAllowed, TooDeep, Over, Zero, PeekRange, NotScalar, NotPlain, Above, RulesRoom, NodesRoom, StoreRoom}
 use Rattle.structure.specs.declared.Refusal.{Refusal}
 use Rattle.structure.specs.declared.Fault.{Fault}
-use Rattle.structure.specs.declared.Fault.TheVariants as Fault
 use Rattle.structure.specs.Values.{faults}
 use Rattle.structure.specs.Structure.{Ruled, rules, unruled, grammar}
 use Rattle.structure.proofs.Reasons.{OfStructure, OfValues, grammar_why, faults_why}
 use Rattle.reader.specs.declared.Reading.{Reading}
-use Rattle.reader.specs.declared.Reading.TheVariants as Reading
 use Rattle.reader.specs.Read.{room_by, faulty, checked_by, refused_by, ruled_by, judged_of, listed_of, read_of, number_of}
 
 -- 12, 10 and 11

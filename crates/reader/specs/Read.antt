@@ -4,7 +4,6 @@ use Rattle.text.specs.Booleans.{choose}
 use Rattle.text.specs.Splice.{fronted}
 use Rattle.text.specs.Utf8.{first_bad}
 use Rattle.text.specs.declared.Scan.{Scan}
-use Rattle.text.specs.declared.Scan.TheVariants as Scan
 use Rattle.text.specs.Limits.{max_nodes, max_rules, max_text}
 use Rattle.token.specs.Lists.{tokens_of}
 use Rattle.table.specs.Tree.{Span, Rule, counts, rules_stored}
@@ -13,11 +12,8 @@ use Rattle.table.specs.Flat.{nodes_of, records_of}
 use Rattle.structure.specs.declared.Edition.{Edition}
 use Rattle.structure.specs.declared.Level.{Level}
 use Rattle.structure.specs.declared.Fault.{Fault}
-use Rattle.structure.specs.declared.Fault.TheVariants as Fault
 use Rattle.reader.specs.declared.Reading.{Reading}
-use Rattle.reader.specs.declared.Reading.TheVariants as Reading
 use Rattle.reader.specs.declared.Attempt.{Attempt}
-use Rattle.reader.specs.declared.Attempt.TheVariants as Attempt
 use Rattle.structure.specs.declared.Why.{Why}
 use Rattle.structure.specs.declared.Why.TheVariants.{TooLong, NotUtf8, NoToken, NotAllowed, TooDeep, Over, Zero, PeekRange, NotScalar, NotPlain, Above, RulesRoom, NodesRoom, StoreRoom}
 use Rattle.structure.specs.Refusals.{because}

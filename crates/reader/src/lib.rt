@@ -1,6 +1,7 @@
 // The reader: from a lent text to tables, at two levels.
 //
 // It carries over the tree building of pest_meta's parser.rs.
+#![tactic(auto)]
 
 pub mod inner;
 

@@ -1,0 +1,68 @@
+use native.Mathlib.Omega.{arith}
+use Rattle.text.specs.Limits.{max_text}
+use Rattle.reader.proofs.Answers.{tried_all, listed_done, listed_again}
+use Rattle.reader.proofs.inner.listings.+read_listed.Goals as goal
+
+clauses_answer_left : {A B : Type 0} → A × B → record { answer : A; left : B }
+clauses_answer_left h = record { answer = h.0; left = h.1 }
+
+-- a table of 1536 rows
+pub try_small-small-requires : goal.try_small-small-requires
+try_small-small-requires t c = record {
+  t_value = c.requires.t_value;
+  text_len_bound = c.requires.text_len_bound;
+}
+
+pub returns-in-Done : goal.returns-in-Done
+returns-in-Done t c = clauses_answer_left (listed_done 1536 _ _ _ _ _ _ _ _ _ c.try_small-small.ensures.answer c.try_small-small.ensures.left c.in-Done.is)
+
+pub read_listed-requires : goal.read_listed-requires
+read_listed-requires t c = (omega (arith, c.if-room-le1536.true), (c.requires.t_value, c.requires.text_len_bound))
+
+pub returns-in-Full : goal.returns-in-Full
+returns-in-Full t c = clauses_answer_left (listed_again _ _ _ _ _ _ _ _ _ _ _ _ c.try_small-small.ensures.left c.in-Full.is c.read_listed.ensures.answer c.read_listed.ensures.left)
+
+-- a table of 4096 rows
+pub try_middle-middle-requires : goal.try_middle-middle-requires
+try_middle-middle-requires t c = record {
+  t_value = c.requires.t_value;
+  text_len_bound = c.requires.text_len_bound;
+}
+
+pub returns-in-Done-middle : goal.returns-in-Done-middle
+returns-in-Done-middle t c = clauses_answer_left (listed_done 4096 _ _ _ _ _ _ _ _ _ c.try_middle-middle.ensures.answer c.try_middle-middle.ensures.left c.in-Done-middle.is)
+
+pub read_listed-requires-in-Full-middle : goal.read_listed-requires-in-Full-middle
+read_listed-requires-in-Full-middle t c = (omega (arith, c.if-room-le4096.true), (c.requires.t_value, c.requires.text_len_bound))
+
+pub returns-in-Full-middle : goal.returns-in-Full-middle
+returns-in-Full-middle t c = clauses_answer_left (listed_again _ _ _ _ _ _ _ _ _ _ _ _ c.try_middle-middle.ensures.left c.in-Full-middle.is c.read_listed-in-Full-middle.ensures.answer c.read_listed-in-Full-middle.ensures.left)
+
+-- a table of 12288 rows
+pub try_wide-wide-requires : goal.try_wide-wide-requires
+try_wide-wide-requires t c = record {
+  t_value = c.requires.t_value;
+  text_len_bound = c.requires.text_len_bound;
+}
+
+pub returns-in-Done-wide : goal.returns-in-Done-wide
+returns-in-Done-wide t c = clauses_answer_left (listed_done 12288 _ _ _ _ _ _ _ _ _ c.try_wide-wide.ensures.answer c.try_wide-wide.ensures.left c.in-Done-wide.is)
+
+pub read_listed-requires-in-Full-wide : goal.read_listed-requires-in-Full-wide
+read_listed-requires-in-Full-wide t c = (omega (arith, c.if-room-le12288.true), (c.requires.t_value, c.requires.text_len_bound))
+
+pub returns-in-Full-wide : goal.returns-in-Full-wide
+returns-in-Full-wide t c = clauses_answer_left (listed_again _ _ _ _ _ _ _ _ _ _ _ _ c.try_wide-wide.ensures.left c.in-Full-wide.is c.read_listed-in-Full-wide.ensures.answer c.read_listed-in-Full-wide.ensures.left)
+
+-- the largest
+pub try_large-large-requires : goal.try_large-large-requires
+try_large-large-requires t c = record {
+  t_value = c.requires.t_value;
+  text_len_bound = c.requires.text_len_bound;
+}
+
+pub returns-in-Done-large : goal.returns-in-Done-large
+returns-in-Done-large t c = clauses_answer_left (listed_done max_text _ _ _ _ _ _ _ _ _ c.try_large-large.ensures.answer c.try_large-large.ensures.left c.in-Done-large.is)
+
+pub returns-in-Full-large : goal.returns-in-Full-large
+returns-in-Full-large t c = clauses_answer_left (absurd (tried_all max_text _ _ _ _ _ _ c.requires.text_len_bound c.try_large-large.ensures.answer c.in-Full-large.is))
