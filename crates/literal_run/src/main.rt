@@ -2,6 +2,8 @@
 //
 // A line is an operation, a number and bytes. Behind a small letter the bytes are the rest of the line as
 // it stands, behind a capital they are in hex.
+#![tactic(auto)]
+
 use literal::{Escape, Formatted, Quote, Unescaped};
 
 fn write_place(what: &[u8], place: usize) {
