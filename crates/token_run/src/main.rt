@@ -3,6 +3,8 @@
 //
 // A line is an operation, a number and bytes. Behind a small letter the bytes are the rest of the line as
 // it stands, behind a capital they are in hex.
+#![tactic(auto)]
+
 use token::inner::listing::TOKEN_SIZE;
 use token::{Filled, Listed};
 

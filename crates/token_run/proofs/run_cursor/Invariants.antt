@@ -1,0 +1,11 @@
+-- Nothing has to hold from turn to turn. Where the second call gives a token, the cursor stands further on and inside the text (`two_on`):
+-- so what is left of the text falls. Any other answer is the last.
+use Prim.Native.Nat.{◌-◌}
+use lib.ListN.{length}
+use Rattle.token_run.proofs.run_cursor.Given as goal
+
+abbrev pub invariant-loop-at : goal.invariant-loop-at
+invariant-loop-at l = Unit {0}
+
+abbrev pub decreases-loop-at : goal.decreases-loop-at
+decreases-loop-at l = length l.bytes - l.at
