@@ -12,15 +12,12 @@ use Rattle.structure.specs.declared.Level.TheVariants.{Tagged}
 use Rattle.structure.specs.declared.Refusal.{Refusal}
 use Rattle.build.specs.Rules.{rules_read}
 use Rattle.reader.specs.declared.Reading.{Reading}
-use Rattle.reader.specs.declared.Reading.TheVariants as Reading
 use Rattle.reader.specs.Read as Read
 use Rattle.reader.specs.Lines.{line_in}
 use Rattle.printer.specs.declared.Printed.{Printed}
-use Rattle.printer.specs.declared.Printed.TheVariants as Printed
 use Rattle.printer.specs.Answers as Printer
 use Rattle.forms.specs.declared.Style.{Style}
 use Rattle.show.specs.declared.Answer.{Answer}
-use Rattle.show.specs.declared.Answer.TheVariants as Answer
 use Rattle.show.specs.Desk.{reading, printing, printed_text, printed, answer_of, answer_in}
 use Rattle.show.proofs.Fronts.{Promised, fronts, by_read, by_refused}
 

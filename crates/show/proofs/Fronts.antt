@@ -20,7 +20,6 @@ use Rattle.structure.specs.declared.Why.{Why}
 use Rattle.structure.specs.declared.Refusal.{Refusal}
 use Rattle.build.specs.Rules.{rules_read}
 use Rattle.reader.specs.declared.Reading.{Reading}
-use Rattle.reader.specs.declared.Reading.TheVariants as Reading
 use Rattle.reader.specs.Read.{refused_by, room_for_nodes, room_for_rules, read_of, left_in, refusal, number_of, numbered, reported, Leaves}
 use Rattle.reader.specs.Lines.{line_in}
 use Rattle.reader.proofs.Answers.{numbered_one}

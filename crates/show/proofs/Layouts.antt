@@ -11,14 +11,11 @@ use Rattle.structure.specs.declared.Level.TheVariants.{Tagged}
 use Rattle.structure.specs.declared.Refusal.{Refusal}
 use Rattle.build.specs.Rules.{rules_read}
 use Rattle.reader.specs.declared.Reading.{Reading}
-use Rattle.reader.specs.declared.Reading.TheVariants as Reading
 use Rattle.reader.specs.Read.{room_for_nodes, room_for_rules, read_of, number_of, reported}
 use Rattle.reader.specs.Lines.{line_in}
 use Rattle.reader.proofs.Counts.{read_counts}
 use Rattle.replies.specs.declared.Found.{Found}
-use Rattle.replies.specs.declared.Found.TheVariants as Found
 use Rattle.show.specs.declared.Layout.{Layout}
-use Rattle.show.specs.declared.Layout.TheVariants as Layout
 use Rattle.show.specs.Layout.{refused_layout, layout_by, layout_in, layout_of}
 use Rattle.show.proofs.Fronts.{Promised, fronts, by_read, by_refused}
 

@@ -14,16 +14,12 @@ use Rattle.text.specs.Splice.{fronted}
 use Rattle.text.proofs.Booleans.{split}
 use Rattle.table.specs.Tree.{rules_stored}
 use Rattle.table.specs.Flat.{records_of}
-use Rattle.table.specs.Check.{tables}
-use Rattle.table.specs.declared.TableCheck.TheVariants as Table
 use Rattle.table.specs.declared.Named.{Named}
-use Rattle.table.specs.declared.Named.TheVariants as Named
 use Rattle.table.specs.Names.{rule_named}
 use Rattle.structure.specs.declared.Edition.TheVariants.{First}
 use Rattle.structure.specs.declared.Level.TheVariants.{Tagged}
 use Rattle.build.specs.Rules.{rules_read}
 use Rattle.reader.specs.declared.Reading.{Reading}
-use Rattle.reader.specs.declared.Reading.TheVariants as Reading
 use Rattle.reader.specs.Read as Read
 use Rattle.reader.proofs.Good.{read_good}
 use Rattle.reader.proofs.Reasons.{first_numbers}
@@ -31,7 +27,6 @@ use Rattle.forms.specs.declared.Style.{Style}
 use Rattle.printer.specs.Answers as Printer
 use Rattle.matcher.specs.Sought.{found_by, found_of}
 use Rattle.show.specs.declared.Answer.{Answer}
-use Rattle.show.specs.declared.Answer.TheVariants as Answer
 use Rattle.show.specs.declared.Layout.TheVariants as Layout
 use Rattle.show.specs.declared.Shown.TheVariants.{Text}
 use Rattle.show.specs.Desk.{reading, printing, printed, answer_of, shown_by, desk_of, left_by, desk_in, printed_text, Tellable, LineWritten}

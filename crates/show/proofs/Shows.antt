@@ -1,6 +1,6 @@
 -- What is shown lies in the output: the printed text as its report says, the refusal's line as it was put.
 use Prim.Native.Nat.{ℕ, ◌≤◌}
-use mathlib.Core.Path.{◌≡◌, refl, sym, ap, subst, ◌∙◌}
+use mathlib.Core.Path.{◌≡◌, refl, sym, subst, ◌∙◌}
 use mathlib.Core.Bool.{Bool, true, false}
 use mathlib.Core.List.{List}
 use native.Mathlib.Omega.{arith}
@@ -9,7 +9,6 @@ use lib.ListN.{length}
 use borrow.Author.Tests.{leb-true}
 use Rattle.text.specs.Booleans.{choose}
 use Rattle.text.specs.declared.Put.{Put}
-use Rattle.text.specs.declared.Put.TheVariants as Put
 use Rattle.table.specs.Tree.{rules_stored}
 use Rattle.table.specs.declared.TableCheck.{TableCheck}
 use Rattle.table.specs.declared.TableCheck.TheVariants as Table
@@ -21,9 +20,8 @@ use Rattle.build.specs.Rules.{rules_read}
 use Rattle.forms.specs.declared.Style.{Style}
 use Rattle.printer.specs.Answers as Printer
 use Rattle.show.specs.declared.Answer.{Answer}
-use Rattle.show.specs.declared.Answer.TheVariants as Answer
 use Rattle.show.specs.declared.Shown.{Shown}
-use Rattle.show.specs.declared.Shown.TheVariants.{Text, Refused, NoRoom}
+use Rattle.show.specs.declared.Shown.TheVariants.{Text, Refused}
 use Rattle.rows.specs.Line.{refusal_line, refusal_put, refusal_in}
 use Rattle.show.specs.Shown.{Fits, refused_by}
 use Rattle.show.specs.Desk.{reading, printing, printed, answer_of, answer_in, shown_by, desk_of, left_by, desk_in}

@@ -13,7 +13,6 @@ use Rattle.build.specs.Rules as Built
 use Rattle.forms.specs.declared.Style.{Style}
 use Rattle.printer.specs.Answers as Answers
 use Rattle.show.specs.declared.Answer.{Answer}
-use Rattle.show.specs.declared.Answer.TheVariants as Answer
 use Rattle.show.specs.declared.Shown.{Shown}
 use Rattle.show.specs.declared.Shown.TheVariants.{Text}
 use Rattle.rows.specs.Line.{refusal_put, refusal_in}

@@ -11,7 +11,6 @@ use Rattle.build.specs.Rules as Built
 use Rattle.replies.specs.declared.Answer.TheVariants as Answer
 use Rattle.replies.specs.declared.Row.{Row}
 use Rattle.replies.specs.declared.Found.{Found}
-use Rattle.replies.specs.declared.Found.TheVariants as Found
 use Rattle.replies.specs.Replies.{numbered}
 use Rattle.matcher.specs.Sought.{found_of}
 use Rattle.show.specs.declared.Layout.{Layout}

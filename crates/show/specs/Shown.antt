@@ -1,7 +1,6 @@
 -- What is shown: bytes at the front of a lent output.
 use Rattle.std.specs.Prelude.{ℕ, ◌≤◌}
 use Rattle.text.specs.declared.Put.{Put}
-use Rattle.text.specs.declared.Put.TheVariants as Put
 use Rattle.show.specs.declared.Shown.{Shown}
 use Rattle.show.specs.declared.Shown.TheVariants.{Text, Refused, NoRoom}
 

@@ -1,5 +1,7 @@
 // What programs do with a layout: all that the desk is to write, at the front of a lent output; and a layout's
 // tables with the rule of a name. The entry points ask nothing of their callers.
+#![tactic(auto)]
+
 ghost use Rattle.std.specs.Prelude.{◌≡◌, length};
 ghost use Rattle.show.specs.Shown.{refused_by};
 ghost use Rattle.printer.specs.Answers.{numbered as printNumbered};
