@@ -1,2 +1,4 @@
 // Answers in numbers, for the C interface. `inner` has them.
+#![tactic(auto)]
+
 pub mod inner;
