@@ -39,7 +39,6 @@ use Rattle.structure.proofs.Judged.{each_right}
 use Rattle.reader.specs.Lines.{line_in}
 use Rattle.build.specs.Rules.{rules_read}
 use Rattle.reader.specs.declared.Reading.{Reading}
-use Rattle.reader.specs.declared.Reading.TheVariants as Reading
 use Rattle.reader.specs.Read.{refused_by, read_of, listed_of, judged_of}
 use Rattle.reader.proofs.Counts.{read_counts}
 use Rattle.reader.proofs.Firsts.{read_counted}

@@ -28,7 +28,6 @@ use Rattle.printer.specs.Answers.{table_text}
 use Rattle.structure.specs.declared.Edition.{Edition}
 use Rattle.structure.specs.declared.Level.{Level}
 use Rattle.structure.specs.declared.Fault.{Fault}
-use Rattle.structure.specs.declared.Fault.TheVariants as Fault
 use Rattle.structure.specs.declared.Refusal.{Refusal}
 use Rattle.structure.specs.declared.Why.{Why}
 use Rattle.structure.specs.declared.Why.TheVariants.{TooDeep}
@@ -36,7 +35,6 @@ use Rattle.structure.specs.Structure.{rules, unruled, grammar}
 use Rattle.structure.specs.Values.{faults}
 use Rattle.structure.proofs.Reasons.{OfValues, faults_why}
 use Rattle.reader.specs.declared.Reading.{Reading}
-use Rattle.reader.specs.declared.Reading.TheVariants as Reading
 use Rattle.reader.specs.Read.{room_by, faulty, judged_of, listed_of, read_of}
 use Rattle.promises.specs.Open.{most_open, Limited}
 use Rattle.promises.specs.Styled.{marked_rule, marked_rules}

@@ -1,5 +1,5 @@
 -- The descent on the tokens of a marked tree that has brackets enough comes to `whole` of it, at either level.
-use Prim.Native.Nat.{ℕ, ◌+◌, ◌-◌, ◌≤◌, ◌<◌}
+use Prim.Native.Nat.{ℕ, ◌+◌, ◌-◌, ◌≤◌}
 use mathlib.Core.Path.{◌≡◌, refl, sym, ap, ◌∙◌, subst}
 use mathlib.Core.Bool.{Bool, true, false}
 use mathlib.Core.Option.{Option, none, some}
@@ -16,15 +16,12 @@ use Rattle.table.specs.declared.Join.{Join}
 use Rattle.table.specs.declared.Join.TheVariants.{Seq, Choice}
 use Rattle.table.specs.declared.Unary.{Unary}
 use Rattle.table.specs.declared.Unary.TheVariants.{PosPred, NegPred, Opt, Rep, RepOnce, RepExact, RepMin, RepMax, RepMinMax, Push}
-use Rattle.table.specs.Tree.{Span, Atom, text, range, peek_slice, Wrap, plain, node_tag, Tree, leaf, one, two, Nowhere, aside, place_of, placed, ends_at, starts_at}
+use Rattle.table.specs.Tree.{Span, Atom, text, range, peek_slice, plain, node_tag, Tree, leaf, one, two, Nowhere, aside, place_of, placed, ends_at, starts_at}
 use Rattle.table.specs.Check.{fine_atom, fine_wrap, fine}
 use Rattle.table.specs.Regroup.{untagged}
 use Rattle.table.proofs.Regroups.{aside_placed}
-use Rattle.forms.specs.declared.Place.{Place}
-use Rattle.forms.specs.declared.Place.TheVariants.{Alone, Prefixed, Operand, LeftOf, RightOf}
 use Rattle.forms.specs.declared.Form.{Form}
-use Rattle.forms.specs.declared.Form.TheVariants as Form
-use Rattle.forms.specs.Printing.{unary_form, wrap_form, under}
+use Rattle.forms.specs.Printing.{unary_form, under}
 use Rattle.structure.specs.declared.Level.{Level}
 use Rattle.structure.specs.declared.Level.TheVariants.{Tagged, Plain}
 use Rattle.structure.specs.Tokens.{spells}
@@ -32,7 +29,7 @@ use Rattle.structure.specs.Structure.{Parsed, got, refused, next, join, closed, 
 use Rattle.structure.proofs.Steps.{next_good, want_true, opened_false}
 use Rattle.structure.proofs.Grammar.{expr_law, chain_law, term_law, signed_law, node_law, posts_law}
 use Rattle.structure.proofs.Cycle.{finished}
-use Rattle.promises.specs.Pieces.{Piece, tok, closes, enclosed, atom_pieces, unary_before, unary_after, join_kind, separator, pieces, Stand}
+use Rattle.promises.specs.Pieces.{Piece, tok, closes, enclosed, atom_pieces, unary_before, unary_after, separator, pieces, Stand}
 use Rattle.structure.specs.Counts.{unary_counts, atom_counts, counted}
 use Rattle.promises.specs.Round.{sight}
 use Rattle.promises.proofs.Values.{yes, no, spells_by, label_is}
@@ -41,7 +38,7 @@ use Rattle.promises.proofs.Shapes.{cut, stand_as, Begins, begins_atom, begin_by}
 use Rattle.promises.proofs.Shapes as Shapes
 use Rattle.forms.specs.Levels.{own}
 use Rattle.promises.specs.Marked.{unary_depth, depth, least, stands, Fits, put, back, whole}
-use Rattle.promises.proofs.Backs.{back_two, back_free, back_put, goes_seq, goes_choice, enclosed_none, Closes, rooted_leaf, rooted_one, rooted_two}
+use Rattle.promises.proofs.Backs.{back_free, back_put, goes_seq, goes_choice, enclosed_none, Closes, rooted_leaf, rooted_one, rooted_two}
 
 -- ---- what a level sees of a tree
 
@@ -169,8 +166,8 @@ module _ (level : Level) (s : List ℕ) where
 
   -- ---- steps of the descent
 
-  pub ends_at : (n k : ℕ) → kind s n ≡ k → among (2 ∷ 4 ∷ 12 ∷ 13 ∷ 14 ∷ []) k ≡ false → Ends s n
-  ends_at n k e h = ap (among (2 ∷ 4 ∷ 12 ∷ 13 ∷ 14 ∷ [])) e ∙ h
+  pub ends_at_lem : (n k : ℕ) → kind s n ≡ k → among (2 ∷ 4 ∷ 12 ∷ 13 ∷ 14 ∷ []) k ≡ false → Ends s n
+  ends_at_lem n k e h = ap (among (2 ∷ 4 ∷ 12 ∷ 13 ∷ 14 ∷ [])) e ∙ h
 
   chain-ends : (o : ℕ) (c : Option (Tree Span)) (l : Tree Span) (m k : ℕ) → kind s m ≡ k → eqb k 10 ≡ false → eqb k 11 ≡ false → Run level s (chain o c l m) ≡ got (closed c l) m
   chain-ends o c l m k e h g = chain_law level s o c l m ∙ choose_false (is s m 10) _ _ (no s m k 10 e h) ∙ choose_false (is s m 11) _ _ (no s m k 11 e g)
@@ -253,7 +250,7 @@ module _ (level : Level) (s : List ℕ) where
         → among (2 ∷ 4 ∷ 12 ∷ 13 ∷ 14 ∷ []) k ≡ false → Reads (Run level s (expr o at)) (f none) n
     unfolding closed
     expr-by f g o at n k h l e p q i =
-        let r = g o at n h l (ends_at n k e i) none none tt in
+        let r = g o at n h l (ends_at_lem n k e i) none none tt in
         record { tree = closed r.choices r.last; reads = expr_law level s o at ∙ r.goes ∙ chain-ends o r.choices r.last n k e p q; same = r.same }
 
     -- in brackets
@@ -468,7 +465,7 @@ module _ (level : Level) (s : List ℕ) where
     good-seqs lx ly = good-seq (two false Seq x y) refl
         (λ o at n h d i c acc a m.
         let w = cut s (pieces x) (separator Seq ++ pieces y) at n (stand_as s (enclosed_none _) at n h) in
-        let p = gx.seq_of lx o at w.0 w.1 (omega arith) (ends_at w.0 10 w.2.0 refl) c acc a m in
+        let p = gx.seq_of lx o at w.0 w.1 (omega arith) (ends_at_lem w.0 10 w.2.0 refl) c acc a m in
         seq-then p w.2.0 (gy.seq_of ly o (w.0 + 1) n w.2.2 (omega arith) i c (some p.tree) (some (back Seq a x)) p.same))
 
     good-choices : Good (two false Choice x y)
@@ -476,7 +473,7 @@ module _ (level : Level) (s : List ℕ) where
     good-choices = good-choice (two false Choice x y) refl
         (λ o at n h d i acc a m.
         let w = cut s (pieces x) (separator Choice ++ pieces y) at n (stand_as s (enclosed_none _) at n h) in
-        let p = gx.choice_of o at w.0 w.1 (omega arith) (ends_at w.0 11 w.2.0 refl) acc a m in
+        let p = gx.choice_of o at w.0 w.1 (omega arith) (ends_at_lem w.0 11 w.2.0 refl) acc a m in
         choice-then p w.2.0 (gy.choice_of o (w.0 + 1) n w.2.2 (omega arith) i (some (closed p.choices p.last)) (some (back Choice a x)) p.same))
 
   -- ---- every tree
@@ -506,5 +503,5 @@ module _ (level : Level) (s : List ℕ) where
       let r = expr-by (pieces m) (depth m) (λ a. back Choice a m) g 0 at n 3 h (omega arith) e refl refl refl in
       record {
         read = record { tree = r.tree; reads = r.reads; same = r.same ∙ ap (sight level) (back_free Choice m) };
-        first = (g 0 at n h (omega arith) (ends_at n 3 e refl) none none tt).first;
+        first = (g 0 at n h (omega arith) (ends_at_lem n 3 e refl) none none tt).first;
       }

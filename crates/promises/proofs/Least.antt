@@ -1,16 +1,16 @@
 -- Every call that reads a tree passes at least as many `(` as the tree's short text has there: by induction over the descent.
-use Prim.Native.Nat.{ℕ, zero, suc, ◌+◌, ◌-◌, ◌≤◌, ◌<◌}
+use Prim.Native.Nat.{ℕ, zero, suc, ◌+◌, ◌-◌, ◌≤◌}
 use mathlib.Core.Path.{◌≡◌, refl, sym, ap, ◌∙◌}
 use mathlib.Core.Bool.{Bool, true, false}
-use mathlib.Core.List.{List, [], ◌∷◌}
+use mathlib.Core.List.{List}
 use mathlib.Core.Option.{Option, none, some}
 use native.Mathlib.Omega.{arith}
 use Rattle.text.specs.Booleans.{choose}
 use Rattle.text.specs.Words.{push}
 use Rattle.text.proofs.Booleans.{split}
-use Rattle.token.specs.Table.{toks, start, end, is, word, label}
+use Rattle.token.specs.Table.{start, end, is, word, label}
 use Rattle.token.specs.Tokens.{push_literal}
-use Rattle.table.specs.Tree.{Span, Atom, text, range, peek_slice, plain, node_tag, Tree, leaf, one, two, place_of, ends_at, starts_at}
+use Rattle.table.specs.Tree.{Span, Atom, text, range, peek_slice, plain, Tree, leaf, one, ends_at, starts_at}
 use Rattle.table.specs.declared.Join.TheVariants.{Seq, Choice}
 use Rattle.table.specs.declared.Unary.{Unary}
 use Rattle.table.specs.declared.Unary.TheVariants.{PosPred, NegPred, Opt, Rep, RepOnce, RepExact, RepMin, RepMax, RepMinMax, Push}
@@ -19,19 +19,17 @@ use Rattle.table.specs.declared.End.TheVariants.{Open, At}
 use Rattle.forms.specs.declared.Place.{Place}
 use Rattle.forms.specs.declared.Place.TheVariants.{Alone, Prefixed, Operand, LeftOf, RightOf}
 use Rattle.forms.specs.declared.Form.TheVariants as Form
-use Rattle.forms.specs.Printing.{atom_form, unary_form, under}
+use Rattle.forms.specs.Printing.{unary_form}
 use Rattle.structure.specs.declared.Level.{Level}
 use Rattle.structure.specs.declared.Level.TheVariants.{Tagged, Plain}
 use Rattle.structure.specs.Tokens.{across, spells}
-use Rattle.structure.specs.Values.{number, is_integer, integer, string, character}
+use Rattle.structure.specs.Values.{is_integer, integer, string, character}
 use Rattle.structure.specs.Structure.{Parsed, got, refused, next, want, join, closed, prefixed, postfixed, in_tag, post, from_number, from_comma, postfix_at, slice_to, slice, pushed, ranged, slices, leaf_at, Call, expr, term, signed, node, chain, posts, body, place, weight, run, Run}
 use Rattle.structure.proofs.Steps.{no_tree, next_got, want_got, want_post, opened_got, posts_by_lem}
-use Rattle.structure.proofs.Fuel.{postfix_past, leaf_went}
-use Rattle.promises.specs.Open.{one?}
+use Rattle.structure.proofs.Fuel.{postfix_past}
 use Rattle.forms.specs.Printing.{brackets}
-use Rattle.forms.specs.Levels.{asked}
 use Rattle.promises.specs.Styled.{marked}
-use Rattle.promises.specs.Marked.{atom_depth, unary_depth, opens}
+use Rattle.promises.specs.Marked.{atom_depth, opens}
 use Rattle.promises.specs.Fewest.{opens_to, need}
 use Rattle.promises.proofs.Needs.{need_more, need_one, need_placed, opens_step, opens_here, opens_more}
 

@@ -10,7 +10,6 @@ use borrow.Author.Tests.{le-leb}
 use Rattle.text.specs.Limits.{max_text}
 use Rattle.text.specs.Utf8.{first_bad}
 use Rattle.text.specs.declared.Scan.{Scan}
-use Rattle.text.specs.declared.Scan.TheVariants as Scan
 use Rattle.text.proofs.Booleans.{choose_by}
 use Rattle.token.specs.Lists.{tokens_of, past_last}
 use Rattle.token.specs.Faults.{FaultFrom}

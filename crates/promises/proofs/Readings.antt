@@ -12,7 +12,7 @@ use borrow.Author.Tests.{le-leb}
 use Rattle.text.specs.Splice.{fronted}
 use Rattle.text.proofs.Booleans.{choose_by}
 use Rattle.table.specs.Tree.{Tree, leaf, one, two, Rule, Nowhere, aside, aside_rule, counts, rules_stored, Same}
-use Rattle.table.specs.Record.{node_size, rule_size, rules_of}
+use Rattle.table.specs.Record.{node_size, rule_size}
 use Rattle.table.specs.Flat.{nodes_of, records_of}
 use Rattle.table.proofs.Rules.{length_nodes, length_records, flat_back}
 use Rattle.table.proofs.Regroups.{items_aside, rules_counts, rules_store}
@@ -23,7 +23,6 @@ use Rattle.structure.specs.declared.Why.TheVariants.{NotPlain}
 use Rattle.reader.specs.Lines.{line_in}
 use Rattle.build.specs.Rules.{rules_read}
 use Rattle.reader.specs.declared.Reading.{Reading}
-use Rattle.reader.specs.declared.Reading.TheVariants as Reading
 use Rattle.reader.specs.Read.{room_by, read_of, left_in, Leaves}
 use Rattle.reader.proofs.Counts.{read_counts}
 use Rattle.reader.proofs.Reasons.{OfRoom}

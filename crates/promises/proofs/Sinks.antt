@@ -15,16 +15,14 @@ use Rattle.text.specs.Words.{begins, push}
 use Rattle.text.proofs.Booleans.{and_true, choose_false, choose_true}
 use Rattle.token.specs.Table.{toks, kind, start, is}
 use Rattle.token.specs.Tokens.{push_literal}
-use Rattle.table.specs.declared.Join.{Join}
 use Rattle.table.specs.declared.Join.TheVariants.{Seq, Choice}
 use Rattle.table.specs.declared.Unary.{Unary}
 use Rattle.table.specs.declared.Unary.TheVariants.{PosPred, NegPred, Opt, Rep, RepOnce, RepExact, RepMin, RepMax, RepMinMax, Push}
 use Rattle.table.specs.declared.Sort.TheVariants.{Str, Insens, Ident, PushLiteral}
-use Rattle.table.specs.Tree.{Span, Atom, text, range, peek_slice, Wrap, plain, node_tag, Tree, leaf, one, two, Nowhere, Rule}
+use Rattle.table.specs.Tree.{Span, Atom, text, range, peek_slice, plain, node_tag, Tree, leaf, one, two, Nowhere, Rule}
 use Rattle.table.specs.Check.{fine_wrap, fine, fine_rule, fine_rules}
 use Rattle.table.specs.Check as Check
 use Rattle.forms.specs.declared.Form.{Form}
-use Rattle.forms.specs.declared.Form.TheVariants as Form
 use Rattle.forms.specs.Printing.{unary_form, under}
 use Rattle.structure.specs.declared.Level.{Level}
 use Rattle.structure.specs.declared.Refusal.{Refusal}
@@ -45,7 +43,7 @@ use Rattle.promises.proofs.Shapes.{cut, stand_as, Begins, begin_by}
 use Rattle.promises.proofs.Shapes as Shapes
 use Rattle.promises.proofs.Backs.{enclosed_none, Closes, rooted_leaf, rooted_one, rooted_two}
 use Rattle.promises.proofs.Depths.{Rises, open_most, past_open, past_other, rises_tree, rises_mark, rises_rule}
-use Rattle.promises.proofs.Descent.{Matches, grown, Good, every, unbefore, ends_at, chain_seq, chain_choice, pos_law, neg_law, alone}
+use Rattle.promises.proofs.Descent.{Matches, grown, Good, every, unbefore, ends_at_lem, chain_seq, chain_choice, pos_law, neg_law, alone}
 use Rattle.promises.proofs.Rules.{braced, rule_on, marked, named, rule_opens, rule_of_lem, rules_on, grammar_is}
 
 -- d more are within the limit, or not
@@ -271,7 +269,7 @@ module _ (level : Level) (s : List ℕ) where
         let w = cut s (pieces x) (separator Seq ++ pieces y) at n (stand_as s (enclosed_none _) at n h) in
         by_side o (depth x)
         (λ l.
-        let p = gx.seq_of lx o at w.0 w.1 l (ends_at level s w.0 10 w.2.0 refl) c acc a m in
+        let p = gx.seq_of lx o at w.0 w.1 l (ends_at_lem level s w.0 10 w.2.0 refl) c acc a m in
         let z = sinks-past s 10 w.2.0 refl refl (sinks-over s ((rises_tree s x).by at w.0 w.1) l (omega (arith, k.over)) k) in
         (p.first, deep-by s (p.goes ∙ chain_seq level s o c p.tree w.0 w.2.0) (fy.seq_of ly o (w.0 + 1) n w.2.2 z c (some p.tree) (some (back Seq a x)) p.same).1))
         (λ l. fx.seq_of lx o at w.0 w.1 (sinks-as s l k) c acc a m))
@@ -283,7 +281,7 @@ module _ (level : Level) (s : List ℕ) where
         let w = cut s (pieces x) (separator Choice ++ pieces y) at n (stand_as s (enclosed_none _) at n h) in
         by_side o (depth x)
         (λ l.
-        let p = gx.choice_of o at w.0 w.1 l (ends_at level s w.0 11 w.2.0 refl) acc a m in
+        let p = gx.choice_of o at w.0 w.1 l (ends_at_lem level s w.0 11 w.2.0 refl) acc a m in
         let c = some (closed p.choices p.last) in
         let z = sinks-past s 11 w.2.0 refl refl (sinks-over s ((rises_tree s x).by at w.0 w.1) l (omega (arith, k.over)) k) in
         (p.first, deep-by s (p.goes ∙ chain_choice level s o p.choices p.last w.0 w.2.0) (fy.choice_of o (w.0 + 1) n w.2.2 z c (some (back Choice a x)) p.same).1))

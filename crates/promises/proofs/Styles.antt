@@ -1,18 +1,17 @@
 -- What each style's marks come to: enough brackets, the same leaves, and the tree that is read back.
-use Prim.Native.Nat.{ℕ, ◌+◌, ◌≤◌, max}
+use Prim.Native.Nat.{◌≤◌}
 use mathlib.Core.Path.{◌≡◌, refl, sym, ap, ◌∙◌}
-use mathlib.Core.Bool.{Bool, true, false, not}
-use mathlib.Core.Option.{Option, none, some}
+use mathlib.Core.Bool.{Bool, false}
+use mathlib.Core.Option.{none, some}
 use mathlib.Core.List.{List, [], ◌∷◌, map}
-use native.Mathlib.Omega.{arith}
 use lib.Dec.{leb}
 use Rattle.structure.specs.declared.Level.{Level}
 use Rattle.text.specs.Booleans.{and, or}
 use Rattle.table.specs.declared.Join.{Join}
 use Rattle.table.specs.declared.Join.TheVariants.{Seq, Choice}
-use Rattle.table.specs.Tree.{Atom, Wrap, Tree, leaf, one, two, Rule, Nowhere, aside, rule_by, aside_rule}
-use Rattle.table.specs.Check.{is_name, fine_atom, fine_wrap, fine, fine_rule, fine_rules}
-use Rattle.table.specs.Regroup.{same_join, is_join, joined, regroup, links}
+use Rattle.table.specs.Tree.{Wrap, Tree, leaf, one, two, Rule, Nowhere, aside, rule_by, aside_rule}
+use Rattle.table.specs.Check.{is_name, fine_wrap, fine, fine_rule, fine_rules}
+use Rattle.table.specs.Regroup.{is_join, joined, regroup, links}
 use Rattle.table.proofs.Regroups.{regroup_leaf, regroup_one, regroup_two, links_same, links_last}
 use Rattle.forms.specs.declared.Place.{Place}
 use Rattle.forms.specs.declared.Place.TheVariants.{Alone, LeftOf, RightOf}
@@ -24,7 +23,7 @@ use Rattle.forms.specs.declared.Style.{Style}
 use Rattle.forms.specs.declared.Style.TheVariants.{Full, Short}
 use Rattle.promises.specs.Styled.{marked, marked_rule, marked_rules}
 use Rattle.promises.specs.Marked.{least, stands, Fits, FitRules, goes_on, back, whole}
-use Rattle.promises.proofs.Enough.{height, enough}
+use Rattle.promises.proofs.Enough.{enough}
 use Rattle.promises.proofs.Backs.{back_two, back_free, back_put}
 
 module _ {P : Type 0} (v : Style) where

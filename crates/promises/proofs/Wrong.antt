@@ -193,7 +193,7 @@ module _ (p : Program) (m : Meets p) where
   pub short_as_full : ((t : Tables) (o : List ℕ) → (p.print Short t o).output ≡ (p.print Full t o).output) → ⊥
   short_as_full same =
       let e = ap (λ (o : List ℕ). get_or o 6 0) (same (tables labelled) twenty) in
-      let n : ◌≡◌ {A = ℕ} 35 40 = sym (printed Short labelled 6 35 printings.label-short) ∙ e ∙ printed Full labelled 6 40 printings.label-full in
+      let n : ◌≡◌ {A = ℕ} 35 40 = sym (printed Short labelled 6 35 printings.label_short) ∙ e ∙ printed Full labelled 6 40 printings.label-full in
       omega arith
 
   -- a short text without brackets

@@ -1,5 +1,5 @@
 -- Marked trees: how deep their brackets are, the levels of the grammar, brackets enough, how many there are, and what is read back.
-use Rattle.std.specs.Prelude.{ℕ, ◌+◌, ◌≤◌, max, Bool, true, false, not, List, [], ◌∷◌}
+use Rattle.std.specs.Prelude.{ℕ, ◌+◌, ◌≤◌, max, Bool, false, not, List, [], ◌∷◌}
 use Rattle.std.proofs.Math.Option.{Option, none, some}
 use Rattle.text.specs.Booleans.{choose, and}
 use Rattle.table.specs.declared.Join.{Join}

@@ -1,7 +1,7 @@
 -- Programs that read and print, as functions of what they are lent, and what it is for one of them to meet the promises.
 use Rattle.std.specs.Prelude.{ℕ, ◌*◌, ◌≡◌, List, map, length, take}
 use contract.Lifetimes.{Lfts}
-use Rattle.std.specs.Borrow.{Bor}
+use Rattle.std.specs.Borrow.{Bor, MutBor}
 use denote.Triple.Entry.{Args}
 use denote.Triple.Clauses.{at_exit}
 use Rattle.table.specs.Tree.{Span, Tree, Rule, Nowhere, aside, rules_stored}
@@ -50,7 +50,7 @@ pub record Program : Type 0 where
   pub read : Edition → Level → List ℕ → Tables → Readout
   pub print : Style → Tables → List ℕ → Printout
 
--- references to tables, and what they refer to
+-- shared references to tables, and what they refer to
 pub record Lent : Type 0 where
   pub nodes : Bor (List ℕ)
   pub rules : Bor (List ℕ)
@@ -59,15 +59,24 @@ pub record Lent : Type 0 where
 abbrev pub held_by : Lent → Tables
 held_by l = record { nodes = l.nodes.now; rules = l.rules.now; store = l.store.now }
 
+-- references to tables that a call may change
+pub record LentMut : Type 0 where
+  pub nodes : MutBor (List ℕ)
+  pub rules : MutBor (List ℕ)
+  pub store : MutBor (List ℕ)
+
+abbrev pub held_by_mut : LentMut → Tables
+held_by_mut l = record { nodes = l.nodes.now; rules = l.rules.now; store = l.store.now }
+
 -- what a caller of `reader::read` learns, of an answer and of what the lent tables are left at
-abbrev pub Reads : Edition → Level → Bor (List ℕ) → Lent → Readout → Type 0
+abbrev pub Reads : Edition → Level → Bor (List ℕ) → LentMut → Readout → Type 0
 Reads edition level text lent o =
     (κs : Lfts 4) →
     let a : Args read-ended.signature κs = (text, (edition, (level, (lent.nodes, (lent.rules, (lent.store, tt)))))) in
     ReadLearnt κs a o.answer (at_exit read-ended κs a (tt, (tt, (tt, (o.left.nodes, (o.left.rules, (o.left.store, tt)))))))
 
 -- what a caller of `printer::print` learns, of an answer and of what the lent output is left at
-abbrev pub Prints : Style → Lent → Bor (List ℕ) → Printout → Type 0
+abbrev pub Prints : Style → Lent → MutBor (List ℕ) → Printout → Type 0
 Prints style lent out o =
     (κs : Lfts 4) →
     let a : Args print-ended.signature κs = (style, (lent.nodes, (lent.rules, (lent.store, (out, tt))))) in
@@ -75,8 +84,8 @@ Prints style lent out o =
 
 -- a program that meets the promises: every call of it is as a caller of `read` or `print` learns
 pub record Meets (p : Program) : Type 0 where
-  pub reads : (edition : Edition) (level : Level) (text : Bor (List ℕ)) (lent : Lent) → Reads edition level text lent (p.read edition level text.now (held_by lent))
-  pub prints : (style : Style) (lent : Lent) (out : Bor (List ℕ)) → Prints style lent out (p.print style (held_by lent) out.now)
+  pub reads : (edition : Edition) (level : Level) (text : Bor (List ℕ)) (lent : LentMut) → Reads edition level text lent (p.read edition level text.now (held_by_mut lent))
+  pub prints : (style : Style) (lent : Lent) (out : MutBor (List ℕ)) → Prints style lent out (p.print style (held_by lent) out.now)
 
 -- the program that the definitions are
 abbrev pub defined : Program
