@@ -11,6 +11,8 @@
 // place of the next line and the refused lines; of a layout `no rule`, or `not read` with a number and a place.
 // Then the bytes put, and how many bytes of the whole output behind them still stand at what was there before;
 // then of more than 300 bytes a sum, and of others, on lines of their own, all.
+#![tactic(auto)]
+
 use forms::Style;
 use replies::Row;
 use rows::Block;
