@@ -1,5 +1,7 @@
 // Runs the line matcher on the vectors of its standard input. It writes each vector with the answer in
 // numbers: the refusal's number and place, 1 for a match, its length, the steps.
+#![tactic(auto)]
+
 use replies::{Answer, Found, Lines};
 use table::inner::layout::NODE_SIZE;
 
