@@ -1,5 +1,7 @@
 // What the programs that run vectors share: a text is read and tables are printed with a part of each buffer
 // lent, and what is answered is told in numbers.
+#![tactic(auto)]
+
 ghost use Rattle.std.specs.Prelude.{◌≤◌};
 
 use forms::Style;
