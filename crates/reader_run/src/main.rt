@@ -3,6 +3,8 @@
 // many times, and what in hex. It is written again with what came of it: number, place, the nodes,
 // rules and store bytes used, how many numbers or bytes of each whole buffer still stand at what was
 // there before, then what was used of each (of the longer ones a sum).
+#![tactic(auto)]
+
 use structure::{Edition, Level};
 use table::inner::layout::{NODE_SIZE, RULE_SIZE};
 
