@@ -3,6 +3,8 @@
 //
 // Each function answers every input and asks nothing of its caller but memory that is as the types
 // say. include/flascjuvan.h declares them for C.
+#![tactic(auto)]
+
 ghost use Rattle.std.specs.Prelude.{◌≡◌, length};
 ghost use Rattle.token.specs.Lister.{lister};
 ghost use Rattle.forms.specs.declared.Style.TheVariants.{Full, Short};
