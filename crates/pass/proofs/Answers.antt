@@ -18,16 +18,13 @@ use Rattle.forms.specs.declared.Style.{Style}
 use Rattle.structure.specs.declared.Edition.{Edition}
 use Rattle.structure.specs.declared.Level.{Level}
 use Rattle.printer.specs.declared.Printed.{Printed}
-use Rattle.printer.specs.declared.Printed.TheVariants as Printed
 use Rattle.printer.specs.Answers.{table_text, answer_by, room_of, print_of, print_in}
 use Rattle.printer.proofs.Answers.{print_fits, print_length}
 use Rattle.reader.specs.declared.Reading.{Reading}
-use Rattle.reader.specs.declared.Reading.TheVariants as Reading
 use Rattle.reader.specs.Read.{room_for_nodes, room_for_rules, read_of, left_in}
 use Rattle.reader.specs.Lines.{line_in}
 use Rattle.build.specs.Rules.{rules_read}
 use Rattle.pass.specs.declared.Passed.{Passed}
-use Rattle.pass.specs.declared.Passed.TheVariants as Passed
 use Rattle.pass.specs.Pass.{back_by, pass_by, pass_of, text_in, new_in, numbered, reported, Passes}
 
 -- ---- the printed text

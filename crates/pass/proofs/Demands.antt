@@ -1,11 +1,10 @@
 -- Demand 3 of a pass: its answer is the definition's, and the theorems of `promises` say what that is for printable tables whose numbers
 -- are of 32 bits.
 use Prim.Native.Nat.{ℕ, ◌≤◌}
-use mathlib.Core.Path.{◌≡◌, refl, sym, ap, ◌∙◌}
-use mathlib.Core.Bool.{Bool, true, false}
+use mathlib.Core.Path.{◌≡◌, sym, ap, ◌∙◌}
+use mathlib.Core.Bool.{true, false}
 use mathlib.Core.List.{List}
 use native.Mathlib.Omega.{arith}
-use lib.Dec.{leb}
 use lib.ListN.{length}
 use borrow.Author.Tests.{le-leb}
 use Rattle.table.specs.Record.{rules_of}
@@ -14,17 +13,14 @@ use Rattle.structure.specs.declared.Edition.{Edition}
 use Rattle.structure.specs.declared.Level.{Level}
 use Rattle.structure.specs.declared.Level.TheVariants.{Tagged, Plain}
 use Rattle.structure.specs.declared.Why.TheVariants.{NotPlain}
-use Rattle.printer.specs.declared.Printed.TheVariants as Printed
 use Rattle.printer.specs.Answers.{table_text, room_of, print_of}
 use Rattle.printer.specs.Bounds.{Narrow}
 use Rattle.reader.specs.declared.Reading.{Reading}
-use Rattle.reader.specs.declared.Reading.TheVariants as Reading
 use Rattle.reader.specs.Read.{room_for_nodes, room_for_rules, refused_by, read_of, left_in}
 use Rattle.promises.specs.Round.{Ordered, Printable, ReadAs}
 use Rattle.promises.proofs.Styles.{marked_asides}
 use Rattle.promises.proofs.Round.{tagged, plain, plain_refused}
 use Rattle.pass.specs.declared.Passed.{Passed}
-use Rattle.pass.specs.declared.Passed.TheVariants as Passed
 use Rattle.pass.specs.Pass.{back_by, pass_of, new_in, Passes, barred, rules_back, pushes_at, Demand}
 
 -- only a reading is passed on as one

@@ -11,11 +11,9 @@ use Rattle.structure.specs.declared.Level.TheVariants.{Tagged, Plain}
 use Rattle.structure.specs.declared.Why.TheVariants.{NotPlain}
 use Rattle.structure.specs.Refusals.{because}
 use Rattle.printer.specs.declared.Printed.{Printed}
-use Rattle.printer.specs.declared.Printed.TheVariants as Printed
 use Rattle.printer.specs.Answers as Printer
 use Rattle.printer.specs.Answers.{table_text, print_of, print_in}
 use Rattle.reader.specs.declared.Reading.{Reading}
-use Rattle.reader.specs.declared.Reading.TheVariants as Reading
 use Rattle.reader.specs.Read as Reader
 use Rattle.reader.specs.Read.{room_for_nodes, room_for_rules, room_by, read_of}
 use Rattle.reader.specs.Lines.{line_in}
@@ -24,7 +22,6 @@ use Rattle.promises.specs.Pieces.{rules_pieces, first_push_literal}
 use Rattle.promises.specs.Styled.{marked_rules}
 use Rattle.promises.specs.Round.{Ordered, holds_push_literal, seen, rules_left, Printable, ReadAs}
 use Rattle.pass.specs.declared.Passed.{Passed}
-use Rattle.pass.specs.declared.Passed.TheVariants as Passed
 
 -- what the reader says of a text of k bytes
 abbrev pub back_by : ℕ → Reading → Passed

@@ -2,6 +2,7 @@
 //
 // `pass` asks nothing of its callers. That what is printed is read back is promised of it with no premise on how wide numbers are: a
 // lent table has none of more than 32 bits.
+#![tactic(auto)]
 
 ghost use Rattle.pass.specs.Pass.{Passes, Demand};
 
