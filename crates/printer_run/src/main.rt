@@ -2,6 +2,8 @@
 // number, its place, the bytes used, how many bytes of the output behind those were left alone, and
 // on lines of its own the text. A small letter at a line's front asks for the full text, a capital for the
 // short one.
+#![tactic(auto)]
+
 ghost use Rattle.std.specs.Prelude.{◌≤◌};
 ghost use Rattle.io.specs.Counts.{IsPrefixLen};
 
