@@ -1,7 +1,7 @@
 -- What it is for a contract to decide a call: its result, and what is left behind each `&mut`.
 use Rattle.std.specs.Prelude.{◌≡◌}
 use seplogic.Ra.Ura.{Ura}
-use base.Logic.{SProp, ent}
+use base.Logic.{ent}
 use contract.Monad.{conj, fact}
 use contract.Lifetimes.{Lfts}
 use denote.Triple.Entry.{Args, Res}
