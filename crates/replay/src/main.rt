@@ -18,6 +18,8 @@
 //   each call; the list's records.
 //
 // The input is read in blocks of 65,536 bytes, and no line lies in two of them: empty lines fill a block up.
+#![tactic(auto)]
+
 ghost use Rattle.std.specs.Prelude.{◌≤◌, ◌+◌, length};
 ghost use Rattle.io.specs.Counts.{IsPrefixLen};
 
