@@ -4,7 +4,11 @@
 // What one read gives is a packet, so nothing waits for a buffer to fill. What a packet adds to the list of
 // tokens is the promise of `stream::feed_packet`, and what is written of it that of `rows::token_lines`; the rest
 // moves bytes. The list has room for every text, so 14 is never given.
+#![tactic(auto)]
+
 use states::{Call, Feed};
+use std::io::Read;
+use std::rt::Env;
 use text::{Put, limits};
 use token::inner::listing::TOKEN_SIZE;
 
@@ -32,33 +36,33 @@ fn fresh() -> Feed {
 }
 
 // Writes bytes, and says whether that went well.
-fn write(out: &[u8]) -> bool {
+fn write(rt: &impl Env, out: &[u8]) -> bool {
     if io::write_all(1, out) {
         return true;
     }
-    program::fail(b"arrive", b": standard output could not be written\n");
+    program::fail(rt, b"arrive", b": standard output could not be written\n");
     false
 }
 
 // Writes the line of a refusal.
-fn refuse(number: usize, place: usize) {
+fn refuse(rt: &impl Env, number: usize, place: usize) {
     let mut out = [0u8; 64];
     let put = rows::refusal(number as u64, place as u64, &mut out);
     let Put::Wrote(n) = put else {
-        program::fail(b"arrive", b": the refusal has no room\n");
+        program::fail(rt, b"arrive", b": the refusal has no room\n");
         return;
     };
-    if write(&out[..n]) {
-        program::tell(b'1');
+    if write(rt, &out[..n]) {
+        program::tell(rt, b'1');
     }
 }
 
 // Writes the lines of a list's records from one on up to another. A packet has 1,024 bytes at most, so it ends
 // 1,025 tokens at most, and their lines have room.
-fn write_new(list: &[u32], from: usize, to: usize) -> bool {
+fn write_new(rt: &impl Env, list: &[u32], from: usize, to: usize) -> bool {
     let mut out = [0u8; 33825];
     if list.len() / 3 < to {
-        program::fail(b"arrive", b": the list is too short\n");
+        program::fail(rt, b"arrive", b": the list is too short\n");
         return false;
     }
     if to <= from {
@@ -66,52 +70,51 @@ fn write_new(list: &[u32], from: usize, to: usize) -> bool {
     }
     let put = rows::token_lines(&list[3 * from..3 * to], &mut out);
     let Put::Wrote(n) = put else {
-        program::fail(b"arrive", b": the tokens have no room\n");
+        program::fail(rt, b"arrive", b": the tokens have no room\n");
         return false;
     };
-    write(&out[..n])
+    write(rt, &out[..n])
 }
 
 // Writes what a call gave behind the records before, or its refusal; and says whether the text goes on.
-fn write_call(call: Call, before: usize, list: &[u32]) -> bool {
+fn write_call(rt: &impl Env, call: Call, before: usize, list: &[u32]) -> bool {
     if call.number != 0 {
-        refuse(call.number, call.place);
+        refuse(rt, call.number, call.place);
         return false;
     }
-    write_new(list, before, call.records)
+    write_new(rt, list, before, call.records)
 }
 
 // Reads once, and feeds what has come; or ends the text where nothing more comes.
-fn take_turn(state: Feed, list: &mut [u32]) -> Turn {
+fn take_turn(rt: &impl Env, input: &mut impl Read, state: Feed, list: &mut [u32]) -> Turn {
     let mut packet = [0u8; 1024];
-    let got = libc::read(0, &mut packet);
-    if got < 0 {
-        program::fail(b"arrive", b": standard input could not be read\n");
+    let Ok(n) = input.read(&mut packet) else {
+        program::fail(rt, b"arrive", b": standard input could not be read\n");
         return Turn::Ended;
-    }
-    let n = io::count(got, &packet);
+    };
     if n == 0 {
         let last = stream::feed_end(state, list);
-        if write_call(last, state.count, list) {
-            program::tell(b'0');
+        if write_call(rt, last, state.count, list) {
+            program::tell(rt, b'0');
         }
         return Turn::Ended;
     }
     let call = stream::feed_packet(state, &packet[..n], list);
-    if write_call(call, state.count, list) {
+    if write_call(rt, call, state.count, list) {
         let next = call.next;
         return Turn::Goes(next);
     }
     Turn::Ended
 }
 
-fn main() {
+fn main(rt: HostRuntime) {
     let mut list = [0u32; TOKEN_SIZE * limits::TEXT];
+    let mut input = rt.stdin();
     let mut state = fresh();
     // a proved loop has to end: no run uses up its turns
     let mut turns = u64::MAX;
     while turns > 0 {
-        let turn = take_turn(state, &mut list);
+        let turn = take_turn(&rt, &mut input, state, &mut list);
         let Turn::Goes(next) = turn else {
             return;
         };
