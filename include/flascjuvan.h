@@ -3,8 +3,8 @@
  *
  * Ten functions over lent memory. None of them allocates, keeps anything between calls (what there is to keep of a text
  * that arrives, its caller keeps), reads or writes a file, or fails to return; any number of threads may call them at
- * once. Each is proved to answer every input as the rules say (crates/exports/src/lib.rt has the promises). What no proof
- * can see is this side of the call, so see to it that
+ * once. Each is proved to answer every input as the rules say (crates/exports_c/src/lib.rt has the promises). What no
+ * proof can see is this side of the call, so see to it that
  *
  *   - each pointer is aligned and points to as many elements as the length behind it says (elements, not bytes);
  *     with a length of 0 nothing is read or written, but the pointer should still not be null: lend any object;

@@ -6,6 +6,7 @@
 
 use std::env;
 use std::ffi::OsString;
+use std::fs::read_dir;
 use std::path::{Path, PathBuf};
 use std::process::{exit, Command};
 
@@ -43,8 +44,11 @@ fn named(dir: OsString) -> PathBuf {
 
 /// Runs scripts/native-lib, and gives the folder that it writes to.
 fn made(root: &Path) -> PathBuf {
-    for part in ["crates", "crates.txt", "scripts/native-lib", "scripts/proving", "scripts/module"] {
+    for part in ["crates.txt", "scripts/native-lib", "scripts/proving"] {
         println!("cargo:rerun-if-changed={}", root.join(part).display());
+    }
+    for source in sources(&root.join("crates")) {
+        println!("cargo:rerun-if-changed={}", source.display());
     }
     let script = root.join("scripts/native-lib");
     match Command::new(&script).status() {
@@ -52,6 +56,17 @@ fn made(root: &Path) -> PathBuf {
         Ok(_) => fail("scripts/native-lib made no library; it says why above"),
         Err(why) => fail(&format!("{} could not be run: {why}", script.display())),
     }
+}
+
+/// The folders of each crate's sources. Beside them lies what proving keeps, which changes with every run.
+fn sources(crates: &Path) -> Vec<PathBuf> {
+    let found = match read_dir(crates) {
+        Ok(found) => found,
+        Err(why) => fail(&format!("{} could not be read: {why}", crates.display())),
+    };
+    let folders = found.flatten().map(|entry| entry.path());
+    let parts = folders.flat_map(|folder| ["src", "specs", "proofs"].map(|part| folder.join(part)));
+    parts.filter(|part| part.is_dir()).collect()
 }
 
 /// The folder that pkg-config knows.
