@@ -93,13 +93,13 @@ module _ (ns st : List ℕ) (i : ℕ) where
   -- it is
   module _ {fs : List ℕ} (f : Firsts ns fs i) where
     -- so that a right child has an entry
-    pub right_in : (one two : ℕ) → Told ns st i one two → {x : ℕ} → x ≡ choose (eqb two 1) (λ u. q) (λ u. p) → (x + 1) * one ≡ i * one → {n : ℕ} → i < n → q * two < n
-    right_in zero zero t d n l = omega arith
-    right_in zero (suc two) t d n l = absurd t
-    right_in (suc zero) zero t d n l = omega arith
-    right_in (suc zero) (suc zero) t d n l = omega arith
-    right_in (suc zero) (suc (suc two)) t d n l = absurd t
-    right_in (suc (suc one)) two t d n l = absurd t
+    pub right_in : (one two : ℕ) → Told ns st i one two → {x : ℕ} → x ≡ choose (eqb two 1) (λ u. q) (λ u. p) → (x + 1) * one ≡ i * one → {n : ℕ} → i ≤ n → 0 < n → q * two < n
+    right_in zero zero t d n l z = omega arith
+    right_in zero (suc two) t d n l z = absurd t
+    right_in (suc zero) zero t d n l z = omega arith
+    right_in (suc zero) (suc zero) t d n l z = omega arith
+    right_in (suc zero) (suc (suc two)) t d n l z = absurd t
+    right_in (suc (suc one)) two t d n l z = absurd t
 
     -- the left child does not stand just before the right child's first node
     pub left_out : (one two : ℕ) → Told ns st i one two → {x : ℕ} → x ≡ choose (eqb two 1) (λ u. q) (λ u. p) → (x + 1) * one ≡ i * one → {w : ℕ} → w ≡ get_or fs (q * two) 0 → ((p + 1) * two ≡ w * two → ⊥) → Nowhere ≡ verdict ns st i
@@ -113,15 +113,15 @@ module _ (ns st : List ℕ) (i : ℕ) where
     left_out (suc (suc one)) two t d n v h = absurd t
 
     -- it does, so that it has an entry too
-    pub left_in : (one two : ℕ) → Told ns st i one two → {x : ℕ} → x ≡ choose (eqb two 1) (λ u. q) (λ u. p) → (x + 1) * one ≡ i * one → {w : ℕ} → w ≡ get_or fs (q * two) 0 → (p + 1) * two ≡ w * two → {n : ℕ} → i < n → p * one < n
-    left_in zero zero t d n v h l = omega arith
-    left_in zero (suc two) t d n v h l = absurd t
-    left_in (suc zero) zero t d n v h l = omega arith
-    left_in (suc zero) (suc zero) t d n v h l =
+    pub left_in : (one two : ℕ) → Told ns st i one two → {x : ℕ} → x ≡ choose (eqb two 1) (λ u. q) (λ u. p) → (x + 1) * one ≡ i * one → {w : ℕ} → w ≡ get_or fs (q * two) 0 → (p + 1) * two ≡ w * two → {n : ℕ} → i ≤ n → 0 < n → p * one < n
+    left_in zero zero t d n v h l z = omega arith
+    left_in zero (suc two) t d n v h l z = absurd t
+    left_in (suc zero) zero t d n v h l z = omega arith
+    left_in (suc zero) (suc zero) t d n v h l z =
         let e : q * 1 ≡ q = omega arith in
         omega (arith, v, h, ap (λ y. get_or fs y 0) e, f.at q (omega arith), first_le ns q)
-    left_in (suc zero) (suc (suc two)) t d n v h l = absurd t
-    left_in (suc (suc one)) two t d n v h l = absurd t
+    left_in (suc zero) (suc (suc two)) t d n v h l z = absurd t
+    left_in (suc (suc one)) two t d n v h l z = absurd t
 
     -- and the node is not false
     pub told_first : (one two : ℕ) → Told ns st i one two → {x : ℕ} → x ≡ choose (eqb two 1) (λ u. q) (λ u. p) → (x + 1) * one ≡ i * one → {w : ℕ} → w ≡ get_or fs (q * two) 0 → (p + 1) * two ≡ w * two

@@ -4,4 +4,5 @@ pub mod characters;
 pub mod checks;
 pub mod heavy;
 pub mod layout;
+pub mod light;
 pub mod names;

@@ -132,11 +132,11 @@ fn check_by(nodes: &[u32], rules: &[u32], store: &[u8], firsts: &mut [u16]) -> T
     ensures { result ≡ tables nodes.now rules.now store.now }
 {
     let t = text::inner::classes::classes();
-    let node = inner::checks::lowest_node(&t, nodes, store, firsts);
+    let node = inner::light::lowest_node(&t, nodes, store, firsts);
     if let Scan::StopsAt(i) = node {
         return TableCheck::Node(i);
     }
-    let rule = inner::checks::lowest_rule(&t, nodes, rules, store, firsts);
+    let rule = inner::light::lowest_rule(&t, nodes, rules, store, firsts);
     if let Scan::StopsAt(k) = rule {
         return TableCheck::Rule(k);
     }

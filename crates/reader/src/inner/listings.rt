@@ -30,7 +30,7 @@ fn try_small(
     list_and_read(t, text, &mut tokens, edition, level, nodes, rules, store)
 }
 
-fn try_middle(
+fn try_medium(
     t: &[u8; 256],
     text: &[u8],
     edition: Edition,
@@ -48,7 +48,7 @@ fn try_middle(
     list_and_read(t, text, &mut tokens, edition, level, nodes, rules, store)
 }
 
-fn try_wide(
+fn try_middle(
     t: &[u8; 256],
     text: &[u8],
     edition: Edition,
@@ -113,8 +113,8 @@ pub fn read_listed(
         }
     }
     if room <= 4096 {
-        let middle = try_middle(t, text, edition, level, nodes, rules, store);
-        match middle {
+        let medium = try_medium(t, text, edition, level, nodes, rules, store);
+        match medium {
             Attempt::Done(reading) => {
                 return reading;
             }
@@ -124,8 +124,8 @@ pub fn read_listed(
         }
     }
     if room <= 12288 {
-        let wide = try_wide(t, text, edition, level, nodes, rules, store);
-        match wide {
+        let middle = try_middle(t, text, edition, level, nodes, rules, store);
+        match middle {
             Attempt::Done(reading) => {
                 return reading;
             }

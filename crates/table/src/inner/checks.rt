@@ -1,16 +1,14 @@
 // The parts of the check of whole tables.
-ghost use Rattle.std.specs.Prelude.{◌≡◌, ◌+◌, ◌*◌, ◌≤◌, ◌<◌, true, false, ltb, length, get_or};
+ghost use Rattle.std.specs.Prelude.{◌≡◌, ◌+◌, ◌*◌, ◌≤◌, ◌<◌, true, false, length, get_or};
 ghost use Rattle.text.specs.Booleans.{choose};
 ghost use Rattle.text.specs.Classes.{classes};
 ghost use Rattle.text.specs.declared.Scan.TheVariants.{Through};
-ghost use Rattle.text.specs.Limits.{max_nodes, max_store};
+ghost use Rattle.text.specs.Limits.{max_nodes};
 ghost use Rattle.table.specs.declared.Leaf.TheVariants.{Text, Range};
 ghost use Rattle.table.specs.declared.Op.TheVariants.{NodeTag};
-ghost use Rattle.table.specs.declared.Node.TheVariants.{Tip};
-ghost use Rattle.table.specs.Record.{node_size, rule_size, nodes_in, rules_in, node_at, name_length};
+ghost use Rattle.table.specs.Record.{node_size, rule_size, nodes_in, rules_in};
 ghost use Rattle.table.specs.Children as Kids;
 ghost use Rattle.table.specs.Children.{Told, Limits};
-ghost use Rattle.table.specs.Heavy.{long, text_length, lightly};
 ghost use Rattle.table.specs.Check.{shaped, in_store, is_utf8, may_name, may_tag, is_name, is_label, fine_text, good_leaf, good_op, good_at, begin_at, good_root, good_rule, lowest, verdict, Firsts};
 
 use super::layout::{NODE_SIZE, RULE_SIZE};
@@ -102,7 +100,7 @@ fn fine_text(t: &[u8; 256], sort: Sort, s: &[u8]) -> bool
     }
 }
 
-fn good_text(t: &[u8; 256], store: &[u8], sort: Sort, p: usize, n: usize) -> bool
+pub(crate) fn good_text(t: &[u8; 256], store: &[u8], sort: Sort, p: usize, n: usize) -> bool
     requires { t.now ≡ classes }
     ensures { result ≡ good_leaf store.now (Text sort p n) }
 {
@@ -124,7 +122,7 @@ fn good_tag(t: &[u8; 256], store: &[u8], p: usize, n: usize) -> bool
     false
 }
 
-fn good_leaf(t: &[u8; 256], store: &[u8], leaf: Leaf) -> bool
+pub(crate) fn good_leaf(t: &[u8; 256], store: &[u8], leaf: Leaf) -> bool
     requires { t.now ≡ classes }
     ensures { result ≡ good_leaf store.now leaf }
 {
@@ -140,7 +138,7 @@ fn good_leaf(t: &[u8; 256], store: &[u8], leaf: Leaf) -> bool
     }
 }
 
-fn good_op(t: &[u8; 256], store: &[u8], op: Op) -> bool
+pub(crate) fn good_op(t: &[u8; 256], store: &[u8], op: Op) -> bool
     requires { t.now ≡ classes }
     ensures { result ≡ good_op store.now op }
 {
@@ -156,18 +154,20 @@ pub(crate) fn wide(x: u16) -> usize
     x as usize
 }
 
+// From here on, but for what `light` shares, are the checks over a full table, kept as they are promised; `light` and `heavy` do the same faster.
+
 // The first node of node i's subtree, unless the node is false; `firsts` has those of the nodes
 // before it, so that none is looked for again.
-pub(crate) fn first_of(
+fn first_of(
     t: &[u8; 256],
     nodes: &[u32],
     store: &[u8],
-    firsts: &[u16],
+    firsts: &[u16; limits::NODES],
     i: usize,
 ) -> First
     requires t_value { t.now ≡ classes }
     requires i_in_bounds { node_size * (i + 1) ≤ length nodes.now }
-    requires i_in_bounds_2 { i < length firsts.now }
+    requires i_le_max_nodes { i ≤ max_nodes }
     requires firsts { Firsts nodes.now firsts.now i }
     ensures { result ≡ verdict nodes.now store.now i }
 {
@@ -206,7 +206,7 @@ pub(crate) fn first_of(
     }
 }
 
-fn pick(on: bool, x: usize, y: usize) -> usize
+pub(crate) fn pick(on: bool, x: usize, y: usize) -> usize
     ensures { result ≡ choose on (λ u. x) (λ u. y) }
 {
     if on { x } else { y }
@@ -217,14 +217,14 @@ const ONES: [u8; 20] = [0, 0, 0, 0, 0, 0, 1, 1, 1, 1, 1, 1, 1, 1, 1, 1, 1, 1, 0,
 const TWOS: [u8; 20] = [0, 0, 0, 0, 0, 0, 0, 0, 1, 1, 0, 0, 0, 0, 0, 0, 0, 0, 0, 0];
 
 // By kind, 1 where there is a child and no text.
-fn ones() -> [u8; 20]
+pub(crate) fn ones() -> [u8; 20]
     ensures { result ≡ Kids.ones }
 {
     ONES
 }
 
 // By kind, 1 where there are two children.
-fn twos() -> [u8; 20]
+pub(crate) fn twos() -> [u8; 20]
     ensures { result ≡ Kids.twos }
 {
     TWOS
@@ -232,7 +232,7 @@ fn twos() -> [u8; 20]
 
 // By kind, what p + q is below where p, q and the children alone tell whether a node is false. In a
 // store of ASCII any part is UTF-8, so that a string has only to end in time.
-fn limits(string: usize) -> [usize; 20]
+pub(crate) fn limits(string: usize) -> [usize; 20]
     ensures { result ≡ Kids.limits string }
 {
     [
@@ -266,11 +266,11 @@ fn first_flat(
     two: usize,
     nodes: &[u32],
     store: &[u8],
-    firsts: &[u16],
+    firsts: &[u16; limits::NODES],
     i: usize,
 ) -> First
     requires i_in_bounds { node_size * (i + 1) ≤ length nodes.now }
-    requires i_in_bounds_2 { i < length firsts.now }
+    requires i_le_max_nodes { i ≤ max_nodes }
     requires firsts { Firsts nodes.now firsts.now i }
     requires told { Told nodes.now store.now i one two }
     ensures { result ≡ verdict nodes.now store.now i }
@@ -288,82 +288,33 @@ fn first_flat(
     First::At(wide(firsts[p * one]) * one + i * (1 - one))
 }
 
-// The same for a leaf with a text.
-fn first_text(t: &[u8; 256], sort: Sort, nodes: &[u32], store: &[u8], i: usize) -> First
+// The same for a name.
+fn first_name(t: &[u8; 256], nodes: &[u32], store: &[u8], i: usize) -> First
     requires t_value { t.now ≡ classes }
     requires i_in_bounds { node_size * (i + 1) ≤ length nodes.now }
-    requires i_value { node_at nodes.now i ≡ Tip (Text sort (get_or nodes.now (node_size * i + 3) 0) (get_or nodes.now (node_size * i + 4) 0)) }
+    requires i_value { get_or nodes.now (node_size * i) 0 ≡ 4 }
     ensures { result ≡ verdict nodes.now store.now i }
 {
     let b = NODE_SIZE * i;
-    if good_text(t, store, sort, nodes[b + 3] as usize, nodes[b + 4] as usize) {
+    if good_text(
+        t,
+        store,
+        Sort::Ident,
+        nodes[b + 3] as usize,
+        nodes[b + 4] as usize,
+    ) {
         return First::At(i);
     }
     First::Nowhere
 }
 
-fn wide_byte(x: u8) -> usize
+pub(crate) fn wide_byte(x: u8) -> usize
     ensures { result ≡ x }
 {
     x as usize
 }
 
-// The most bytes of a text that is gone over for each node that names it.
-const LONG: u32 = 64;
-
-// The length of a node's text.
-fn text_length(kind: u32, q: u32, r: u32) -> u32
-    ensures { result ≡ text_length kind q r }
-{
-    match kind {
-        kind::STR => q,
-        kind::INSENS => q,
-        kind::IDENT => q,
-        kind::PUSH_LITERAL => q,
-        kind::NODE_TAG => r,
-        _ => 0,
-    }
-}
-
-// The same for a node whose text is not long, by its kind: a leaf with a text needs no more than that.
-fn first_short(
-    t: &[u8; 256],
-    kind: u32,
-    nodes: &[u32],
-    store: &[u8],
-    firsts: &[u16],
-    i: usize,
-) -> First
-    requires t_value { t.now ≡ classes }
-    requires i_in_bounds { node_size * (i + 1) ≤ length nodes.now }
-    requires kind_value { kind ≡ get_or nodes.now (node_size * i) 0 }
-    requires i_in_bounds_2 { i < length firsts.now }
-    requires firsts { Firsts nodes.now firsts.now i }
-    ensures { result ≡ verdict nodes.now store.now i }
-{
-    match kind {
-        kind::STR => first_text(t, Sort::Str, nodes, store, i),
-        kind::INSENS => first_text(t, Sort::Insens, nodes, store, i),
-        kind::IDENT => first_text(t, Sort::Ident, nodes, store, i),
-        kind::PUSH_LITERAL => first_text(t, Sort::PushLiteral, nodes, store, i),
-        _ => first_of(t, nodes, store, firsts, i),
-    }
-}
-
-// Whether p + q is below the limit of a kind.
-fn is_flat(limit: &[usize; 20], kind: u32, p: u32, q: u32) -> bool
-    requires { length limit.now ≡ 20 }
-    ensures { result ≡ ltb (p + q) (get_or limit.now kind 0) }
-{
-    if kind < 20 {
-        let sum = p as usize + q as usize;
-        return sum < limit[kind as usize];
-    }
-    false
-}
-
-// The same for any node, the shorter way where it may be taken; but a long text that would be gone over is
-// left to `heavy`, by the answer `Nowhere`.
+// The same for any node: the shorter way where it may be taken.
 fn first_at(
     t: &[u8; 256],
     one: &[u8; 20],
@@ -371,7 +322,7 @@ fn first_at(
     limit: &[usize; 20],
     nodes: &[u32],
     store: &[u8],
-    firsts: &[u16],
+    firsts: &[u16; limits::NODES],
     i: usize,
 ) -> First
     requires t_value { t.now ≡ classes }
@@ -379,35 +330,42 @@ fn first_at(
     requires two_value { two.now ≡ Kids.twos }
     requires limits { Limits store.now limit.now }
     requires i_in_bounds { node_size * (i + 1) ≤ length nodes.now }
-    requires i_in_bounds_2 { i < length firsts.now }
+    requires i_le_max_nodes { i ≤ max_nodes }
     requires firsts { Firsts nodes.now firsts.now i }
-    ensures { result ≡ lightly nodes.now store.now limit.now i }
+    ensures { result ≡ verdict nodes.now store.now i }
 {
     let b = NODE_SIZE * i;
     let kind = nodes[b];
-    if is_flat(limit, kind, nodes[b + 3], nodes[b + 4]) {
+    if kind < 20 {
         let k = kind as usize;
-        return first_flat(
-            wide_byte(one[k]),
-            wide_byte(two[k]),
-            nodes,
-            store,
-            firsts,
-            i,
-        );
+        let sum = nodes[b + 3] as usize + nodes[b + 4] as usize;
+        if sum < limit[k] {
+            return first_flat(
+                wide_byte(one[k]),
+                wide_byte(two[k]),
+                nodes,
+                store,
+                firsts,
+                i,
+            );
+        }
     }
-    if LONG < text_length(kind, nodes[b + 4], nodes[b + 5]) {
-        return First::Nowhere;
+    if kind == kind::IDENT {
+        return first_name(t, nodes, store, i);
     }
-    first_short(t, kind, nodes, store, firsts, i)
+    first_of(t, nodes, store, firsts, i)
 }
 
 // The lowest false node. If there is none, `firsts` has the first node of each.
-pub(crate) fn lowest_node(t: &[u8; 256], nodes: &[u32], store: &[u8], firsts: &mut [u16]) -> Scan
+pub(crate) fn lowest_node(
+    t: &[u8; 256],
+    nodes: &[u32],
+    store: &[u8],
+    firsts: &mut [u16; limits::NODES],
+) -> Scan
     requires t_value { t.now ≡ classes }
-    requires store_len_bound { length store.now ≤ max_store }
     requires nodes_bound { nodes_in nodes.now ≤ max_nodes }
-    requires nodes_in_bounds { nodes_in nodes.now ≤ length firsts.old }
+    requires firsts_len { length firsts.old ≡ max_nodes }
     ensures value { result ≡ lowest (good_at nodes.now store.now) (nodes_in nodes.now) }
     ensures firsts { result ≡ Through → Firsts nodes.now firsts.new (nodes_in nodes.now) }
 {
@@ -419,7 +377,7 @@ pub(crate) fn lowest_node(t: &[u8; 256], nodes: &[u32], store: &[u8], firsts: &m
     while i < n {
         let f = first_at(t, &one, &two, &limit, nodes, store, firsts, i);
         let First::At(x) = f else {
-            return super::heavy::lowest_from(t, nodes, store, firsts, i);
+            return Scan::StopsAt(i);
         };
         firsts[i] = x as u16;
         i += 1;
@@ -440,8 +398,14 @@ pub(crate) fn begin_at(rules: &[u32], k: usize) -> usize
 }
 
 // The root is a node, and its tree begins where it should.
-pub(crate) fn good_root(nodes: &[u32], rules: &[u32], firsts: &[u16], k: usize, root: usize) -> bool
-    requires nodes_in_bounds { nodes_in nodes.now ≤ length firsts.now }
+fn good_root(
+    nodes: &[u32],
+    rules: &[u32],
+    firsts: &[u16; limits::NODES],
+    k: usize,
+    root: usize,
+) -> bool
+    requires nodes_bound { nodes_in nodes.now ≤ max_nodes }
     requires k_in_bounds { rule_size * k ≤ length rules.now }
     requires firsts { Firsts nodes.now firsts.now (nodes_in nodes.now) }
     ensures { result ≡ good_root nodes.now (begin_at rules.now k) root }
@@ -457,11 +421,11 @@ fn good_rule(
     nodes: &[u32],
     rules: &[u32],
     store: &[u8],
-    firsts: &[u16],
+    firsts: &[u16; limits::NODES],
     k: usize,
 ) -> bool
     requires t_value { t.now ≡ classes }
-    requires nodes_in_bounds { nodes_in nodes.now ≤ length firsts.now }
+    requires nodes_bound { nodes_in nodes.now ≤ max_nodes }
     requires k_in_bounds { rule_size * (k + 1) ≤ length rules.now }
     requires firsts { Firsts nodes.now firsts.now (nodes_in nodes.now) }
     ensures { result ≡ good_rule nodes.now rules.now store.now k }
@@ -476,34 +440,22 @@ fn good_rule(
     good_root(nodes, rules, firsts, k, head.root)
 }
 
-fn is_long_name(rules: &[u32], k: usize) -> bool
-    requires { rule_size * (k + 1) ≤ length rules.now }
-    ensures { result ≡ ltb long (name_length rules.now k) }
-{
-    let head = super::layout::head_at(rules, k);
-    (LONG as usize) < head.length
-}
-
 // The lowest false rule.
 pub(crate) fn lowest_rule(
     t: &[u8; 256],
     nodes: &[u32],
     rules: &[u32],
     store: &[u8],
-    firsts: &[u16],
+    firsts: &[u16; limits::NODES],
 ) -> Scan
     requires t_value { t.now ≡ classes }
-    requires store_len_bound { length store.now ≤ max_store }
-    requires nodes_in_bounds { nodes_in nodes.now ≤ length firsts.now }
+    requires nodes_bound { nodes_in nodes.now ≤ max_nodes }
     requires firsts { Firsts nodes.now firsts.now (nodes_in nodes.now) }
     ensures { result ≡ lowest (good_rule nodes.now rules.now store.now) (rules_in rules.now) }
 {
     let m = rules.len() / RULE_SIZE;
     let mut k = 0;
     while k < m {
-        if is_long_name(rules, k) {
-            return super::heavy::lowest_rule_from(t, nodes, rules, store, firsts, k);
-        }
         if !good_rule(t, nodes, rules, store, firsts, k) {
             return Scan::StopsAt(k);
         }

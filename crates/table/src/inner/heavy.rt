@@ -10,8 +10,9 @@ ghost use Rattle.table.specs.Record.{node_size, rule_size, nodes_in, rules_in};
 ghost use Rattle.table.specs.Check.{fine_text, good_leaf, good_op, good_at, good_rule, lowest, verdict, Firsts};
 ghost use Rattle.table.specs.Heavy.{Known};
 
-use super::checks::{first_of, good_root, is_inside, may_name, may_tag, wide};
+use super::checks::{is_inside, may_name, may_tag, wide};
 use super::layout::{NODE_SIZE, RULE_SIZE, head_at, node_at};
+use super::light::{first_of, good_root};
 use crate::{First, Leaf, Node, Op, Sort};
 use known::inner::runs::{fill_runs, word_part};
 use known::inner::stops::{fill_stops, is_part};

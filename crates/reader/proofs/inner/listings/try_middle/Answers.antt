@@ -1,4 +1,4 @@
--- A table of 12288 numbers has 4096 rows; what `list_and_read` ensures for so many is handed on.
+-- A table of 36864 numbers has 12288 rows; what `list_and_read` ensures for so many is handed on.
 use borrow.Author.Rules.{rules}
 use Rattle.reader.proofs.inner.listings.try_middle.Goals as goal
 

@@ -46,10 +46,10 @@ pub overflow_mul-q : goal.overflow_mul-q
 overflow_mul-q c = omega (arith, c.shared_slice_known-1.given (node_size * c.args.i + 4), small (get_or c.args.nodes.now (node_size * c.args.i + 4) 0) c.args.two (told_low c.args.nodes.now c.args.store.now c.args.i c.args.one c.args.two c.requires.told).1)
 
 pub offset_bounds-firsts-q : goal.offset_bounds-firsts-q
-offset_bounds-firsts-q c = omega (arith, right_in c.args.nodes.now c.args.store.now c.args.i c.requires.firsts c.args.one c.args.two c.requires.told c.pick-last.ensures c.if-last-one.false c.requires.i_in_bounds_2)
+offset_bounds-firsts-q c = omega (arith, right_in c.args.nodes.now c.args.store.now c.args.i c.requires.firsts c.args.one c.args.two c.requires.told c.pick-last.ensures c.if-last-one.false c.requires.i_le_max_nodes (omega arith))
 
 pub bounds-firsts-q : goal.bounds-firsts-q
-bounds-firsts-q c = omega (arith, right_in c.args.nodes.now c.args.store.now c.args.i c.requires.firsts c.args.one c.args.two c.requires.told c.pick-last.ensures c.if-last-one.false c.requires.i_in_bounds_2)
+bounds-firsts-q c = omega (arith, right_in c.args.nodes.now c.args.store.now c.args.i c.requires.firsts c.args.one c.args.two c.requires.told c.pick-last.ensures c.if-last-one.false c.requires.i_le_max_nodes (omega arith))
 
 pub overflow_mul-wide : goal.overflow_mul-wide
 overflow_mul-wide c = omega (arith, c.wide.ensures, small c.wide.result c.args.two (told_low c.args.nodes.now c.args.store.now c.args.i c.args.one c.args.two c.requires.told).1)
@@ -61,10 +61,10 @@ pub overflow_mul-p-2 : goal.overflow_mul-p-2
 overflow_mul-p-2 c = omega (arith, c.shared_slice_known-1.given (node_size * c.args.i + 3), small (get_or c.args.nodes.now (node_size * c.args.i + 3) 0) c.args.one (told_low c.args.nodes.now c.args.store.now c.args.i c.args.one c.args.two c.requires.told).0)
 
 pub offset_bounds-firsts-p : goal.offset_bounds-firsts-p
-offset_bounds-firsts-p c = omega (arith, left_in c.args.nodes.now c.args.store.now c.args.i c.requires.firsts c.args.one c.args.two c.requires.told c.pick-last.ensures c.if-last-one.false c.wide.ensures c.if-p-two.false c.requires.i_in_bounds_2)
+offset_bounds-firsts-p c = omega (arith, left_in c.args.nodes.now c.args.store.now c.args.i c.requires.firsts c.args.one c.args.two c.requires.told c.pick-last.ensures c.if-last-one.false c.wide.ensures c.if-p-two.false c.requires.i_le_max_nodes (omega arith))
 
 pub bounds-firsts-p : goal.bounds-firsts-p
-bounds-firsts-p c = omega (arith, left_in c.args.nodes.now c.args.store.now c.args.i c.requires.firsts c.args.one c.args.two c.requires.told c.pick-last.ensures c.if-last-one.false c.wide.ensures c.if-p-two.false c.requires.i_in_bounds_2)
+bounds-firsts-p c = omega (arith, left_in c.args.nodes.now c.args.store.now c.args.i c.requires.firsts c.args.one c.args.two c.requires.told c.pick-last.ensures c.if-last-one.false c.wide.ensures c.if-p-two.false c.requires.i_le_max_nodes (omega arith))
 
 pub overflow_mul-result : goal.overflow_mul-result
 overflow_mul-result c = omega (arith, c.wide-2.ensures, small c.wide-2.result c.args.one (told_low c.args.nodes.now c.args.store.now c.args.i c.args.one c.args.two c.requires.told).0)

@@ -13,7 +13,7 @@ returns-then-head-gt4 c = sym (rule_mark_out c.args.nodes.now c.args.rules.now c
 
 pub good_root-requires : goal.good_root-requires
 good_root-requires c = record {
-  nodes_in_bounds = c.requires.nodes_in_bounds;
+  nodes_bound = c.requires.nodes_bound;
   k_in_bounds = omega arith;
   firsts = c.requires.firsts;
 }

@@ -8,23 +8,10 @@ use Rattle.table.proofs.inner.checks.lowest_rule.Goals as goal
 pub loop-k-init : goal.loop-k-init
 loop-k-init c = (omega arith, lowest_none (good_rule c.args.nodes.now c.args.rules.now c.args.store.now))
 
-pub lowest_rule_from-requires : goal.lowest_rule_from-requires
-lowest_rule_from-requires c = record {
-  t_value = c.requires.t_value;
-  store_len_bound = c.requires.store_len_bound;
-  nodes_in_bounds = c.requires.nodes_in_bounds;
-  firsts = c.requires.firsts;
-  from_bound = omega arith;
-  from_value = c.loop-k.invariant.1;
-}
-
-pub returns-then-is_long_name : goal.returns-then-is_long_name
-returns-then-is_long_name c = c.lowest_rule_from.ensures
-
 pub good_rule-requires : goal.good_rule-requires
 good_rule-requires c = record {
   t_value = c.requires.t_value;
-  nodes_in_bounds = c.requires.nodes_in_bounds;
+  nodes_bound = c.requires.nodes_bound;
   k_in_bounds = omega arith;
   firsts = c.requires.firsts;
 }

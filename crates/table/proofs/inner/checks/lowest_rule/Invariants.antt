@@ -1,5 +1,4 @@
--- The invariant: k is at most m, and no rule below k is false; m - k falls. So the first rule that fails is the lowest (`lowest_bad`), and
--- from a long name on `lowest_rule_from` finds it.
+-- The invariant: k is at most m, and no rule below k is false; m - k falls. So the first rule that fails is the lowest (`lowest_bad`).
 use Rattle.table.specs.Check.{good_rule, lowest}
 use Rattle.text.specs.declared.Scan.TheVariants.{Through}
 use mathlib.Core.Path.{◌≡◌}

@@ -4,7 +4,7 @@ use lib.Dec.{ltb}
 use Rattle.table.specs.declared.Head.{Head}
 use Rattle.table.specs.Record.{head_at}
 use Rattle.table.specs.Heavy.{long}
-use Rattle.table.proofs.inner.checks.is_long_name.Goals as goal
+use Rattle.table.proofs.inner.light.is_long_name.Goals as goal
 
 pub returns : goal.returns
 unfolding head_at

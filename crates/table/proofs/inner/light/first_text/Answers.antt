@@ -4,7 +4,7 @@ use mathlib.Core.Path.{sym, ◌∙◌}
 use native.Mathlib.Omega.{arith}
 use Rattle.table.specs.Record.{node_size}
 use Rattle.table.proofs.Verdicts.{verdict_tip, verdict_tip_out}
-use Rattle.table.proofs.inner.checks.first_text.Goals as goal
+use Rattle.table.proofs.inner.light.first_text.Goals as goal
 
 pub overflow_cast-nodes : goal.overflow_cast-nodes
 overflow_cast-nodes c = omega (arith, c.shared_slice_known-3-1.given (node_size * c.args.i + 3))

@@ -1,7 +1,7 @@
 -- Four kinds are leaves with a text (`str_at` and its like in Ascii); every other goes to `first_of`.
 use mathlib.Core.Path.{sym, ◌∙◌}
 use Rattle.table.proofs.Ascii.{str_at, insens_at, ident_at, push_at}
-use Rattle.table.proofs.inner.checks.first_short.Goals as goal
+use Rattle.table.proofs.inner.light.first_short.Goals as goal
 
 pub first_text-requires : goal.first_text-requires
 first_text-requires c = record {

@@ -2,7 +2,7 @@
 use Rattle.table.specs.Heavy.{text_length}
 use Rattle.table.proofs.Light.{text_none}
 use mathlib.Core.Path.{sym}
-use Rattle.table.proofs.inner.checks.text_length.Goals as goal
+use Rattle.table.proofs.inner.light.text_length.Goals as goal
 
 pub returns-in-1 : goal.returns-in-1
 unfolding text_length

@@ -1,0 +1,41 @@
+use Rattle.table.proofs.Lowest.{lowest_none, lowest_more, lowest_bad}
+use Rattle.table.specs.Check.{good_rule, lowest}
+use native.Mathlib.Omega.{arith}
+use mathlib.Core.Path.{◌≡◌, sym, ap, ◌∙◌}
+use Rattle.table.specs.Record.{rules_in}
+use Rattle.table.proofs.inner.light.lowest_rule.Goals as goal
+
+pub loop-k-init : goal.loop-k-init
+loop-k-init c = (omega arith, lowest_none (good_rule c.args.nodes.now c.args.rules.now c.args.store.now))
+
+pub lowest_rule_from-requires : goal.lowest_rule_from-requires
+lowest_rule_from-requires c = record {
+  t_value = c.requires.t_value;
+  store_len_bound = c.requires.store_len_bound;
+  nodes_in_bounds = c.requires.nodes_in_bounds;
+  firsts = c.requires.firsts;
+  from_bound = omega arith;
+  from_value = c.loop-k.invariant.1;
+}
+
+pub returns-then-is_long_name : goal.returns-then-is_long_name
+returns-then-is_long_name c = c.lowest_rule_from.ensures
+
+pub good_rule-requires : goal.good_rule-requires
+good_rule-requires c = record {
+  t_value = c.requires.t_value;
+  nodes_in_bounds = c.requires.nodes_in_bounds;
+  k_in_bounds = omega arith;
+  firsts = c.requires.firsts;
+}
+
+pub returns-then-not-good_rule : goal.returns-then-not-good_rule
+returns-then-not-good_rule c = sym (lowest_bad (good_rule c.args.nodes.now c.args.rules.now c.args.store.now) _ _ c.loop-k-test.true c.loop-k.invariant.1 (sym c.good_rule.ensures ∙ c.if-not-good_rule.true))
+
+pub loop-k-preserved : goal.loop-k-preserved
+loop-k-preserved c = (omega arith, lowest_more (good_rule c.args.nodes.now c.args.rules.now c.args.store.now) _ c.loop-k.invariant.1 (sym c.good_rule.ensures ∙ c.if-not-good_rule.false))
+
+pub returns : goal.returns
+returns c =
+    let e : c.loop-k.k ≡ rules_in c.args.rules.now = omega arith in
+    sym (ap (lowest (good_rule c.args.nodes.now c.args.rules.now c.args.store.now)) (sym e) ∙ c.loop-k.invariant.1)
