@@ -24,17 +24,15 @@
 //!
 //! [`read`], [`print`](fn@print), [`print_short`], [`tokens`] and matching run on the caller's stack, and so does
 //! whatever shows a grammar or a tree, since the printer writes it. Have 2 MB of stack free. Threads of these sizes
-//! were seen to be enough on 64-bit ARM:
+//! were seen to be enough on x86-64:
 //!
 //! | for | stack |
 //! |---|---|
-//! | reading up to 2,048 bytes and 100 brackets inside one another; tokens of any text | 128 KB |
-//! | reading 65,536 bytes and 16,384 tokens | 160 KB |
-//! | reading more tokens than that | 590 KB |
-//! | reading 1,024 brackets inside one another | 1,000 KB |
-//! | both | 1,430 KB |
-//! | printing 4,096 nodes inside one another | 920 KB |
-//! | matching with 1,024 visits inside one another | 400 KB |
+//! | tokens of any text | 32 KB |
+//! | reading any text with up to 100 brackets inside one another | 900 KB |
+//! | reading 1,024 brackets inside one another | 1,640 KB |
+//! | printing 4,096 nodes inside one another | 480 KB |
+//! | matching with 1,024 visits inside one another | 330 KB |
 //!
 //! So a thread as Rust makes them, of 2 MiB, is enough if little of it is in use. Where too little is free, the process
 //! is ended as by any other overflow of a stack in Rust: the library touches each page of a frame in order, so it meets
