@@ -269,7 +269,7 @@ module _ {level : Level} {s : List ℕ} {o at used free : ℕ} {table store stor
               let e₂ = head_low s from first r.from head.short d.short.0 in
               record {
                 tree = finished x;
-                read = trailed.3 ∙ ap (got (finished x)) (sym h.next_is_lem);
+                read = trailed.3 ∙ ap (got (finished x)) (sym h.next_is);
                 used_is = omega arith;
                 free_is = omega arith;
                 from_is = b ∙ head_is s from first x r.from (signed_end s from first head.signs).from h.from_is;

@@ -260,7 +260,7 @@ module _ (s table : List ℕ) (at used from to : ℕ) (short : length s ≤ max_
               let c = ap (count {P = Span}) a in
               let d = w.used_is in
               record {
-                next_is_lem = b;
+                next_is = b;
                 used_is = omega arith;
                 from_is = w.from_is ∙ ap (λ (τ : Tree Span). (place_of τ).start) a;
                 to_is = w.to_is ∙ ap (λ (τ : Tree Span). (place_of τ).stop) a;

@@ -94,7 +94,7 @@ pub record PostsRoom (s table : List ℕ) (at used from to : ℕ) : Type 0 where
 
 -- the records of postfixes that make the tree v of t
 pub record Trails (t v : Tree Span) (n used from : ℕ) (table : List ℕ) (r : PutPostfixes) (table' : List ℕ) : Type 0 where
-  pub next_is_lem : r.next ≡ n
+  pub next_is : r.next ≡ n
   pub used_is : r.used + count t ≡ used + count v
   pub from_is : from ≡ (place_of v).start
   pub to_is : r.to ≡ (place_of v).stop

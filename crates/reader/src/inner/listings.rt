@@ -1,6 +1,6 @@
 // Tables of four sizes for a text's tokens: 1536, 4096, 12288 and 65536 rows. A local table is cleared at each
 // call, so that a size too large costs time, and each size has a function of its own, so that a small text
-// needs little stack.
+// needs little stack. The compiler is told to leave them so.
 ghost use Rattle.std.specs.Prelude.{◌≡◌, ◌≤◌, length};
 ghost use Rattle.text.specs.Classes.{classes};
 ghost use Rattle.text.specs.Limits.{max_text};
@@ -12,6 +12,7 @@ use structure::{Edition, Level, Why};
 use text::limits;
 use token::inner::listing::TOKEN_SIZE;
 
+#[inline(never)]
 fn try_small(
     t: &[u8; 256],
     text: &[u8],
@@ -30,6 +31,7 @@ fn try_small(
     list_and_read(t, text, &mut tokens, edition, level, nodes, rules, store)
 }
 
+#[inline(never)]
 fn try_medium(
     t: &[u8; 256],
     text: &[u8],
@@ -48,6 +50,7 @@ fn try_medium(
     list_and_read(t, text, &mut tokens, edition, level, nodes, rules, store)
 }
 
+#[inline(never)]
 fn try_middle(
     t: &[u8; 256],
     text: &[u8],
@@ -66,6 +69,7 @@ fn try_middle(
     list_and_read(t, text, &mut tokens, edition, level, nodes, rules, store)
 }
 
+#[inline(never)]
 fn try_large(
     t: &[u8; 256],
     text: &[u8],
