@@ -1,14 +1,15 @@
 -- Laws of runs of bytes: what a loop's turn does to what is left of a text.
 use Prim.Native.Nat.{ℕ, zero, suc, ◌+◌, ◌≤◌, ◌<◌}
-use mathlib.Core.Path.{◌≡◌, refl, ap, ◌∙◌}
-use mathlib.Core.Bool.{Bool, true, false}
+use mathlib.Core.Path.{◌≡◌, refl, ap, sym, ◌∙◌}
+use mathlib.Core.Bool.{Bool, true, false, true≢false}
+use mathlib.Core.Logic.{⊎_elim}
 use mathlib.Core.List.{List, [], ◌∷◌}
 use native.Mathlib.Nat.{add-zero}
 use native.Mathlib.Omega.{arith}
 use lib.Dec.{eqb}
 use lib.ListN.{length, get_or, drop}
 use lib.Seq.{drop-drop}
-use Rattle.text.proofs.Tests.{at_byte, at_end}
+use Rattle.text.proofs.Tests.{at_byte, at_end, lt_or_ge}
 use borrow.Author.Tests.{eq-eqb, ne_eqb}
 use Rattle.text.specs.Booleans.{next_is}
 use Rattle.text.proofs.Booleans.{choose_by}
@@ -90,3 +91,26 @@ pub drop_next : (s : List ℕ) (i : ℕ) → drop 1 (drop (i + 1) s) ≡ drop (i
 drop_next s i =
     let e : (i + 1) + 1 ≡ i + 2 = omega arith in
     drop-drop 1 (i + 1) s ∙ ap (λ (n : ℕ). drop n s) e
+
+-- what is known of a window of 16 bytes of which k were looked at: b says whether all of these are above CR
+pub record Looked (s : List ℕ) (at k : ℕ) (b : Bool) : Type 0 where
+  pub inside : k ≤ 16
+  pub yes : b ≡ true → Plain k s at
+  pub no : b ≡ false → Plain 16 s at → ⊥
+
+pub looked_none : (s : List ℕ) (at : ℕ) → Looked s at 0 true
+looked_none s at = record { inside = omega arith; yes = λ e. record { above = λ k l. absurd (omega arith) }; no = λ e p. true≢false e }
+
+pub looked_low : (s : List ℕ) (at k : ℕ) (b : Bool) → Looked s at k b → k < 16 → get_or s (at + k) 0 ≤ 13 → Looked s at (k + 1) false
+looked_low s at k b w l h =
+    record { inside = omega arith; yes = λ e. absurd (true≢false (sym e)); no = λ e p. omega (arith, p.above k l, h) }
+
+pub looked_high : (s : List ℕ) (at k : ℕ) (b : Bool) → Looked s at k b → k < 16 → 13 < get_or s (at + k) 0 → Looked s at (k + 1) b
+looked_high s at k b w l h =
+    record {
+      inside = omega arith;
+      yes = λ e. record {
+        above = λ j m. ⊎_elim (λ n. (w.yes e).above j n) (λ n. let z : j ≡ k = omega arith in rw z h) (lt_or_ge j k);
+      };
+      no = w.no;
+    }

@@ -66,6 +66,7 @@ pub fn token_at(t: &[u8; 256], s: &[u8], at: usize) -> Token
 }
 
 // Past spaces and LF.
+#[tactic(auto, using(crate::proofs::Places::at_space, crate::proofs::Places::at_feed))]
 fn past_spaces(s: &[u8], at: usize) -> usize
     ensures { token_at s.now result ≡ token_at s.now at }
 {

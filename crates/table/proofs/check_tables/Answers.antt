@@ -10,11 +10,8 @@ returns-then-not-is_shaped c = sym (tables_shape c.args.nodes.now c.args.rules.n
 pub check_small-requires : goal.check_small-requires
 check_small-requires c = record {
   store_value = sym c.is_shaped.ensures ∙ c.if-not-is_shaped.false;
-  nodes_bound = omega (arith, c.if-nodes-le256.true);
+  nodes_bound = omega arith;
 }
-
-pub returns-then-nodes-le256 : goal.returns-then-nodes-le256
-returns-then-nodes-le256 c = c.check_small.ensures
 
 pub check_large-requires : goal.check_large-requires
 check_large-requires c =

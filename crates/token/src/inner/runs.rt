@@ -81,6 +81,7 @@ fn line_ends(s: &[u8], i: usize) -> bool
 
 // Whether the bytes of the window at a place are all above CR, so that no line ends there. It looks at
 // each, and a processor at all at once.
+#[tactic(auto, using(crate::proofs::Runs::looked_none, crate::proofs::Runs::looked_low, crate::proofs::Runs::looked_high))]
 fn is_plain(s: &[u8], at: usize) -> bool
     requires { at + 16 ≤ length s.now }
     ensures plain { result ≡ true → Plain 16 s.now at }
