@@ -11,8 +11,8 @@
  *   - `answer` and `state` point to as many numbers as their declarations say;
  *   - what is written (not const) overlaps nothing else that is lent to the same call, and no other thread touches it
  *     until the call returns;
- *   - 2 MB of stack are free (the most that was seen to be needed: 1,610 KB to read rules of 1,024 brackets inside one
- *     another, 800 KB to read any text, 460 KB to print tables 4,096 nodes deep, 310 KB to run a rule 1,024 visits deep).
+ *   - 2 MB of stack are free (the most that was seen to be needed: 1,470 KB to read rules of 1,024 brackets inside one
+ *     another, 28 KB to read a short text, 460 KB to print tables 4,096 nodes deep, 310 KB to run a rule 1,024 visits deep).
  *
  * Every function writes all of `answer`. answer[0] is a number of enum flascjuvan_refusal, answer[1] its place. A place
  * counts bytes of the text from 0; an index counts records. After any number but 0 every lent buffer is as it was,
