@@ -103,6 +103,13 @@ pub byte_is : (q b : ℕ) → bare_byte q b ≡ and (within 0x20 0x7e b) (and (n
 byte_is q b =
     ⊎_elim (λ h. rw (lt-ltb b 0x80 h, bare_ascii b (omega arith))) (λ h. rw (le-ltb b 0x80 h, within_high 0x20 0x7e b (omega arith))) (lt_or_ge b 0x80)
 
+-- a byte above 0x7e prints nothing bare, and no character above U+024F is bare
+pub byte_high : (q b : ℕ) → 126 < b → false ≡ bare_byte q b
+byte_high q b h = rw (byte_is q b, within_high 0x20 0x7e b h)
+
+pub bare_high : (c : ℕ) → 591 < c → false ≡ bare c
+bare_high c h = rw (within_high 0x20 0x7e c (omega arith), within_high 0xa1 0x24f c h)
+
 bare_shown : (q b : ℕ) → bare_byte q b ≡ true → (shown q b ≡ b ∷ []) × (b < 0x80)
 unfolding show_of
 bare_shown q b d =

@@ -29,6 +29,7 @@ fn hex_count(c: u32) -> usize
 }
 
 // Whether a character prints bare. ASCII is told first, by as many tests as ASCII alone would take.
+#[tactic(auto, using(crate::proofs::Printed::bare_high))]
 fn prints_bare(c: u32) -> bool
     ensures { result ≡ bare c }
 {
@@ -69,6 +70,7 @@ fn show_of(q: u8, c: u32) -> Show
 }
 
 // Whether a byte is the whole of a character that prints bare: then it is not decoded.
+#[tactic(auto, using(crate::proofs::Printed::byte_high))]
 fn is_bare(q: u8, b: u8) -> bool
     ensures { result ≡ bare_byte q b }
 {

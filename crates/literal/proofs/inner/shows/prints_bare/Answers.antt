@@ -1,4 +1,5 @@
--- Below U+00A1 the tests are those of ASCII (`bare_ascii`); behind it, those of the range, and last of U+00AD.
+-- Below U+00A1 the tests are those of ASCII (`bare_ascii`); behind it, those of the range, and last of U+00AD. What
+-- `bare_high` says the check finds by itself.
 use native.Mathlib.Omega.{arith}
 use Rattle.text.proofs.Tests.{within_low, within_high, within_yes}
 use Rattle.literal.proofs.Printed.{bare_ascii}
@@ -13,8 +14,5 @@ returns-then-c-lt127 c = let x = c.args.c in rw (bare_ascii x (omega arith), wit
 pub returns-then-c-lt161 : goal.returns-then-c-lt161
 returns-then-c-lt161 c = let x = c.args.c in rw (bare_ascii x c.if-c-lt161.true, within_high 0x20 0x7e x (omega arith))
 
-pub returns-then-c-gt591 : goal.returns-then-c-gt591
-returns-then-c-gt591 c = let x = c.args.c in rw (within_high 0x20 0x7e x (omega arith), within_high 0xa1 0x24f x c.if-c-gt591.true)
-
 pub returns : goal.returns
-returns c = let x = c.args.c in rw (within_high 0x20 0x7e x (omega arith), within_yes 0xa1 0x24f x c.if-c-lt161.false c.if-c-gt591.false)
+returns c = let x = c.args.c in rw (within_high 0x20 0x7e x (omega arith), within_yes 0xa1 0x24f x c.if-c-lt161.false (omega arith))
