@@ -6,7 +6,7 @@ use Prim.Native.Nat.{ℕ, zero, suc, ◌+◌, ◌%◌, ◌≤◌, ◌<◌}
 use native.Mathlib.Omega.{arith}
 use lib.Dec.{leb, ltb, eqb}
 use lib.ListN.{length}
-use borrow.Author.Tests.{le-leb, eq-eqb, ne_eqb, leb-true, ltb-true, eqb-true}
+use borrow.Author.Tests.{le-leb, lt-leb, eq-eqb, ne_eqb, leb-true, ltb-true, eqb-true}
 use Rattle.table.specs.Tree.{Span, Rule, below, count, counts, rules_stored}
 use Rattle.table.specs.Record.{node_size, rule_size, nodes_in, rules_in, tree_at, first_at, name_offset, name_length, name_at, mark_at, root_at, name_span, rule_row_at, rule_at, rules_from, rules_of}
 use Rattle.table.specs.Flat.{nodes_of, records_of, rule_row, RulesLie, Alike}
@@ -118,6 +118,11 @@ module _ {ns rs st : List ℕ} (v : Valid ns rs st) where
       }
 
 -- ---- the check of whole tables
+
+-- more nodes than the limit are no table
+pub over_nodes : (ns rs st : List ℕ) → length ns % node_size ≡ 0 → length rs % rule_size ≡ 0 → max_nodes < nodes_in ns → false ≡ shaped ns rs st
+unfolding shaped
+over_nodes ns rs st p q l = rw (eq-eqb (length ns % node_size) 0 p, eq-eqb (length rs % rule_size) 0 q, lt-leb (nodes_in ns) max_nodes l)
 
 pub shaped_few : (ns rs st : List ℕ) → shaped ns rs st ≡ true → nodes_in ns ≤ max_nodes
 unfolding shaped

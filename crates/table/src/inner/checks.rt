@@ -16,6 +16,7 @@ use crate::{First, Leaf, Node, Op, Sort, kind};
 use text::{Scan, Word, limits};
 
 // Whole records, no more than the limits.
+#[tactic(auto, using(crate::proofs::Tables::over_nodes))]
 pub(crate) fn is_shaped(nodes: &[u32], rules: &[u32], store: &[u8]) -> bool
     ensures { result ≡ shaped nodes.now rules.now store.now }
 {
