@@ -10,16 +10,16 @@ pub returns-then-text-i-eq10 : goal.returns-then-text-i-eq10
 returns-then-text-i-eq10 c = let e = ends_lf _ _ _ c.loop-i.invariant.1 (omega arith) c.if-text-i-eq10.true in (e.stop, e.next)
 
 pub returns-then-text-e-eq10 : goal.returns-then-text-e-eq10
-returns-then-text-e-eq10 c = let e = ends_crlf _ _ _ c.loop-i.invariant.1 (omega arith) c.if-text-i-eq10.false c.if-text-i-eq13.true (omega arith) c.if-text-e-eq10.true in (e.stop, e.next)
+returns-then-text-e-eq10 c = let e = ends_crlf _ _ _ c.loop-i.invariant.1 (omega arith) c.if-text-i-eq10.false (omega arith) (omega arith) c.if-text-e-eq10.true in (e.stop, e.next)
 
 pub loop-i-preserved-else-text-e-eq10 : goal.loop-i-preserved-else-text-e-eq10
-loop-i-preserved-else-text-e-eq10 c = (c.loop-i.invariant.0, before_cr _ _ _ c.loop-i.invariant.1 (omega arith) c.if-text-i-eq10.false c.if-text-i-eq13.true (omega arith) c.if-text-e-eq10.false)
+loop-i-preserved-else-text-e-eq10 c = (c.loop-i.invariant.0, before_cr _ _ _ c.loop-i.invariant.1 (omega arith) c.if-text-i-eq10.false (omega arith) (omega arith) c.if-text-e-eq10.false)
 
 pub loop-i-preserved-else-e-n : goal.loop-i-preserved-else-e-n
-loop-i-preserved-else-e-n c = (c.loop-i.invariant.0, before_last _ _ _ c.loop-i.invariant.1 (omega arith) c.if-text-i-eq10.false c.if-text-i-eq13.true (omega arith))
+loop-i-preserved-else-e-n c = (c.loop-i.invariant.0, before_last _ _ _ c.loop-i.invariant.1 (omega arith) c.if-text-i-eq10.false (omega arith) (omega arith))
 
 pub loop-i-preserved : goal.loop-i-preserved
-loop-i-preserved c = (c.loop-i.invariant.0, before_byte _ _ _ c.loop-i.invariant.1 (omega arith) c.if-text-i-eq10.false c.if-text-i-eq13.false)
+loop-i-preserved c = (c.loop-i.invariant.0, before_byte _ _ _ c.loop-i.invariant.1 (omega arith) c.if-text-i-eq10.false (λ e. omega arith))
 
 pub returns : goal.returns
 returns c = let e = ends_text _ _ _ c.loop-i.invariant.1 (omega arith) in (e.stop, e.next)
