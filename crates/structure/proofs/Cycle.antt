@@ -4,12 +4,13 @@ use mathlib.Core.Path.{◌≡◌, refl, sym, ap, ◌∙◌}
 use mathlib.Core.Bool.{Bool, true, false}
 use mathlib.Core.List.{List}
 use mathlib.Core.Option.{Option, none, some}
-use mathlib.Core.Logic.{◌⊎◌, inl, inr}
+use mathlib.Core.Logic.{◌⊎◌, inl, inr, ⊎_elim}
 use native.Mathlib.Omega.{arith}
 use lib.ListN.{length}
 use borrow.Author.Tests.{le-leb, lt-leb}
 use Rattle.text.specs.Booleans.{choose}
 use Rattle.text.proofs.Booleans.{choose_false, choose_true}
+use Rattle.text.proofs.Tests.{lt_or_ge}
 use Rattle.text.specs.Limits.{max_open, max_text}
 use Rattle.token.specs.Table.{toks, kind, start, is}
 use Rattle.table.specs.Tree.{Span, Tree, count, size, starts_at}
@@ -79,7 +80,14 @@ module _ (level : Level) (s : List ℕ) (w : length s ≤ max_text) where
 
 -- ---- an expression
 
-module _ (level : Level) (s : List ℕ) (w : length s ≤ max_text) (o at : ℕ) where
+-- `~` or `|` stands at an index
+abbrev pub Joins : ℕ → Type 0
+Joins x = (x ≡ 10) ⊎ (x ≡ 11)
+
+pub joins_by : (x : ℕ) → 10 ≤ x → x ≤ 11 → Joins x
+joins_by x l m = ⊎_elim (λ h. inl (omega arith)) (λ h. inr (omega arith)) (lt_or_ge x 11)
+
+module _ (level : Level) (s : List ℕ) (o at : ℕ) where
   -- what was read of a chain, with its nodes and bytes
   pub record ChainInv (i k b : ℕ) : Type 0 where
     pub ends : Ends s at i k b
@@ -92,22 +100,19 @@ module _ (level : Level) (s : List ℕ) (w : length s ≤ max_text) (o at : ℕ)
   pub expr_refused : (r : Checked) (x : Refusal) → r ≡ summary (Run level s (term o at)) → r ≡ Checked.Refused x → Checked.Refused x ≡ summary (Run level s (expr o at))
   expr_refused r x e q = sum_refused (expr_law level s o at ∙ next_bad _ _ (bad _ r x e q))
 
-  pub chain_start : (r : Checked) (n k b : ℕ) → r ≡ summary (Run level s (term o at)) → r ≡ Checked.Good n k b → ChainInv n k b
+  pub chain_start : length s ≤ max_text → (r : Checked) (n k b : ℕ) → r ≡ summary (Run level s (term o at)) → r ≡ Checked.Good n k b → ChainInv n k b
   unfolding closed
-  chain_start r n k b e q =
+  chain_start w r n k b e q =
       let (t, f, g, h) = good _ r n k b e q in
       record { ends = term_ends level s w o at r n k b e q; choices = none; last = t; read = expr_law level s o at ∙ next_good _ _ f; counts = g; sized = h }
 
-  -- `~` or `|` stands at an index
-  abbrev pub Joins : ℕ → Type 0
-  Joins x = (x ≡ 10) ⊎ (x ≡ 11)
+  -- neither stands there: the expression has ended
+  pub chain_done : (choices : Option (Tree Span)) (last : Tree Span) (p : ℕ) → Run level s (expr o at) ≡ Run level s (chain o choices last p) → (kind s p ≡ 10 → ⊥) → (kind s p ≡ 11 → ⊥)
+      → Checked.Good p (count (closed choices last)) (size (closed choices last)) ≡ summary (Run level s (expr o at))
+  chain_done choices last p i q r =
+      sum_got p _ _ (i ∙ chain_law level s o choices last p ∙ choose_false (is s p 10) _ _ (misses s p _ 10 refl q) ∙ choose_false (is s p 11) _ _ (misses s p _ 11 refl r)) refl refl refl
 
   module _ (x p k b : ℕ) (e : x ≡ kind s p) (i : ChainInv p k b) where
-    pub chain_done : (x ≡ 10 → ⊥) → (x ≡ 11 → ⊥) → Checked.Good p k b ≡ summary (Run level s (expr o at))
-    chain_done q r =
-        sum_got p k b
-        (i.read ∙ chain_law level s o i.choices i.last p ∙ choose_false (is s p 10) _ _ (misses s p x 10 e q) ∙ choose_false (is s p 11) _ _ (misses s p x 11 e r)) refl (sym i.counts) (sym i.sized)
-
     pub joint_in : Joins x → p < length (toks s)
     joint_in (inl q) = inside_is s p 10 (omega arith) (sees s p x 10 e q)
     joint_in (inr q) = inside_is s p 11 (omega arith) (sees s p x 11 e q)
@@ -141,8 +146,8 @@ module _ (level : Level) (s : List ℕ) (w : length s ≤ max_text) (o at : ℕ)
     pub chain_refused : Joins x → (r : Checked) (y : Refusal) → r ≡ summary (Run level s (term o (p + 1))) → r ≡ Checked.Refused y → Checked.Refused y ≡ summary (Run level s (expr o at))
     chain_refused j r y f q = sum_refused ((goes j).read ∙ next_bad _ _ (bad _ r y f q))
 
-    pub chain_more : Joins x → (r : Checked) (n k₂ b₂ : ℕ) → r ≡ summary (Run level s (term o (p + 1))) → r ≡ Checked.Good n k₂ b₂ → (p < n) × ChainInv n (k + k₂ + 1) (b + b₂)
-    chain_more j r n k₂ b₂ f q =
+    pub chain_more : length s ≤ max_text → Joins x → (r : Checked) (n k₂ b₂ : ℕ) → r ≡ summary (Run level s (term o (p + 1))) → r ≡ Checked.Good n k₂ b₂ → (p < n) × ChainInv n (k + k₂ + 1) (b + b₂)
+    chain_more w j r n k₂ b₂ f q =
         let g = goes j in
         let (t, h, c, d) = good _ r n k₂ b₂ f q in
         let l = term_ends level s w o (p + 1) r n k₂ b₂ f q in
@@ -160,8 +165,9 @@ module _ (level : Level) (s : List ℕ) (w : length s ≤ max_text) (o at : ℕ)
           },
         )
 
-  -- ---- a term
+-- ---- a term
 
+module _ (level : Level) (s : List ℕ) (w : length s ≤ max_text) (o at : ℕ) where
   pub term_untied : (r : Opening) → r ≡ opening_of level s at → r ≡ Untied → (y : Refusal) → y ≡ because NotAllowed (start s (at + 1)) → Checked.Refused y ≡ summary (Run level s (term o at))
   term_untied r e q y z = ap Checked.Refused z ∙ sum_refused ((was_untied level s at r e q).1 o)
 

@@ -110,6 +110,7 @@ pub fn bracket_of(text: &[u8], tokens: &[u32], at: usize) -> Bracket
 
 // Terms joined by `~` or `|`.
 #[cycle(check_expr_check_node_check_term)]
+#[tactic(auto, using(crate::proofs::Cycle::chain_done))]
 pub fn check_expr(text: &[u8], tokens: &[u32], level: Level, at: usize, deep: usize) -> Checked
     requires lent { Lent text.now tokens.now }
     requires deep_le_max_open { deep ≤ max_open }

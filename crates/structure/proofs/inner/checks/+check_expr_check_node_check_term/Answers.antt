@@ -1,55 +1,50 @@
-use Rattle.structure.proofs.Cycle.{expr_refused, chain_start, chain_done, joint_in, chain_more, chain_refused, term_untied, term_refused, term_unposted, term_sums, term_good, node_leaf, node_unopened, node_deep, node_refused, node_unclosed, node_sum, node_closed, falls_term, falls_node}
+use Rattle.structure.proofs.Cycle.{expr_refused, chain_start, joins_by, joint_in, chain_more, chain_refused, term_untied, term_refused, term_unposted, term_sums, term_good, node_leaf, node_unopened, node_deep, node_refused, node_unclosed, node_sum, node_closed, falls_term, falls_node}
 use Rattle.structure.proofs.Checks.{was_from, was_untied, was_open, was_unopened, signed_end}
 use native.Mathlib.Omega.{arith}
 use Prim.Native.Nat.{◌+◌}
-use mathlib.Core.Logic.{inl, inr}
 use Rattle.token.proofs.Table.{sizes}
 use Rattle.structure.proofs.Wants.{fewer}
 use Rattle.structure.proofs.inner.checks.+check_expr_check_node_check_term.Goals as goal
-use Rattle.structure.proofs.inner.checks.+check_expr_check_node_check_term.Goals.{check_expr-then-k-ne-TILDE+else-k-ne-BAR, check_expr-else-k-ne-TILDE}
 
 pub check_expr-check_term-requires : goal.check_expr-check_term-requires
 check_expr-check_term-requires t c = (omega arith, (c.requires.lent, c.requires.deep_le_max_open))
 
 pub check_expr-loop-level-init : goal.check_expr-loop-level-init
-check_expr-loop-level-init t c = (c.requires.lent.short, λ w. chain_start _ _ w _ _ _ _ _ _ c.check_term.ensures c.in-Good.is)
+check_expr-loop-level-init t c = chain_start _ _ _ _ c.requires.lent.short _ _ _ _ c.check_term.ensures c.in-Good.is
 
 pub check_expr-kind_at-k-requires : goal.check_expr-kind_at-k-requires
 check_expr-kind_at-k-requires t c = c.requires.lent
 
-pub check_expr-returns-then-k-ne-BAR : goal.check_expr-returns-then-k-ne-BAR
-check_expr-returns-then-k-ne-BAR t c = chain_done _ _ c.requires.lent.short _ _ _ _ _ _ c.kind_at-k.ensures (c.loop-level.invariant.1 c.requires.lent.short) c.if-k-ne-TILDE.true c.if-k-ne-BAR.true
-
 pub check_expr-overflow_add-i : goal.check_expr-overflow_add-i
-check_expr-overflow_add-i t c = let i = joint_in _ _ c.requires.lent.short _ _ _ _ _ _ c.kind_at-k.ensures (c.loop-level.invariant.1 c.requires.lent.short) (elim c.if-k-ne-TILDE.branch [ check_expr-then-k-ne-TILDE+else-k-ne-BAR w ↦ inr w.if-k-ne-BAR.false | check_expr-else-k-ne-TILDE w ↦ inl w.if-k-ne-TILDE.false ]) in let z = sizes _ _ c.requires.lent in omega arith
+check_expr-overflow_add-i t c = let i = joint_in _ _ _ _ _ _ _ _ c.kind_at-k.ensures c.loop-level.invariant (joins_by _ (omega arith) (omega arith)) in let z = sizes _ _ c.requires.lent in omega arith
 
 pub check_expr-check_term-requires-in-loop-level : goal.check_expr-check_term-requires-in-loop-level
 check_expr-check_term-requires-in-loop-level t c =
-    let i = joint_in _ _ c.requires.lent.short _ _ _ _ _ _ c.kind_at-k.ensures (c.loop-level.invariant.1 c.requires.lent.short) (elim c.if-k-ne-TILDE.branch [ check_expr-then-k-ne-TILDE+else-k-ne-BAR w ↦ inr w.if-k-ne-BAR.false | check_expr-else-k-ne-TILDE w ↦ inl w.if-k-ne-TILDE.false ]) in
-    let e = (c.loop-level.invariant.1 c.requires.lent.short).ends.on in
+    let i = joint_in _ _ _ _ _ _ _ _ c.kind_at-k.ensures c.loop-level.invariant (joins_by _ (omega arith) (omega arith)) in
+    let e = c.loop-level.invariant.ends.on in
     let f = fewer c.args.text.now c.args.at (c.loop-level.i + 1) (omega arith) (omega arith) in
     (omega arith, (c.requires.lent, c.requires.deep_le_max_open))
 
 pub check_expr-returns-in-Refused-check_term : goal.check_expr-returns-in-Refused-check_term
-check_expr-returns-in-Refused-check_term t c = chain_refused _ _ c.requires.lent.short _ _ _ _ _ _ c.kind_at-k.ensures (c.loop-level.invariant.1 c.requires.lent.short) (elim c.if-k-ne-TILDE.branch [ check_expr-then-k-ne-TILDE+else-k-ne-BAR w ↦ inr w.if-k-ne-BAR.false | check_expr-else-k-ne-TILDE w ↦ inl w.if-k-ne-TILDE.false ]) _ _ c.check_term-in-loop-level.ensures c.in-Refused-check_term.is
+check_expr-returns-in-Refused-check_term t c = chain_refused _ _ _ _ _ _ _ _ c.kind_at-k.ensures c.loop-level.invariant (joins_by _ (omega arith) (omega arith)) _ _ c.check_term-in-loop-level.ensures c.in-Refused-check_term.is
 
 pub check_expr-overflow_add-count : goal.check_expr-overflow_add-count
-check_expr-overflow_add-count t c = let i = chain_more _ _ c.requires.lent.short _ _ _ _ _ _ c.kind_at-k.ensures (c.loop-level.invariant.1 c.requires.lent.short) (elim c.if-k-ne-TILDE.branch [ check_expr-then-k-ne-TILDE+else-k-ne-BAR w ↦ inr w.if-k-ne-BAR.false | check_expr-else-k-ne-TILDE w ↦ inl w.if-k-ne-TILDE.false ]) _ _ _ _ c.check_term-in-loop-level.ensures c.in-Good-check_term.is in let e = i.1.ends in let a = e.few in let b = e.within in let d = e.small in let z = sizes _ _ c.requires.lent in omega arith
+check_expr-overflow_add-count t c = let i = chain_more _ _ _ _ _ _ _ _ c.kind_at-k.ensures c.loop-level.invariant c.requires.lent.short (joins_by _ (omega arith) (omega arith)) _ _ _ _ c.check_term-in-loop-level.ensures c.in-Good-check_term.is in let e = i.1.ends in let a = e.few in let b = e.within in let d = e.small in let z = sizes _ _ c.requires.lent in omega arith
 
 pub check_expr-overflow_add-count-in-Good-check_term : goal.check_expr-overflow_add-count-in-Good-check_term
-check_expr-overflow_add-count-in-Good-check_term t c = let i = chain_more _ _ c.requires.lent.short _ _ _ _ _ _ c.kind_at-k.ensures (c.loop-level.invariant.1 c.requires.lent.short) (elim c.if-k-ne-TILDE.branch [ check_expr-then-k-ne-TILDE+else-k-ne-BAR w ↦ inr w.if-k-ne-BAR.false | check_expr-else-k-ne-TILDE w ↦ inl w.if-k-ne-TILDE.false ]) _ _ _ _ c.check_term-in-loop-level.ensures c.in-Good-check_term.is in let e = i.1.ends in let a = e.few in let b = e.within in let d = e.small in let z = sizes _ _ c.requires.lent in omega arith
+check_expr-overflow_add-count-in-Good-check_term t c = let i = chain_more _ _ _ _ _ _ _ _ c.kind_at-k.ensures c.loop-level.invariant c.requires.lent.short (joins_by _ (omega arith) (omega arith)) _ _ _ _ c.check_term-in-loop-level.ensures c.in-Good-check_term.is in let e = i.1.ends in let a = e.few in let b = e.within in let d = e.small in let z = sizes _ _ c.requires.lent in omega arith
 
 pub check_expr-overflow_add-size : goal.check_expr-overflow_add-size
-check_expr-overflow_add-size t c = let i = chain_more _ _ c.requires.lent.short _ _ _ _ _ _ c.kind_at-k.ensures (c.loop-level.invariant.1 c.requires.lent.short) (elim c.if-k-ne-TILDE.branch [ check_expr-then-k-ne-TILDE+else-k-ne-BAR w ↦ inr w.if-k-ne-BAR.false | check_expr-else-k-ne-TILDE w ↦ inl w.if-k-ne-TILDE.false ]) _ _ _ _ c.check_term-in-loop-level.ensures c.in-Good-check_term.is in let e = i.1.ends in let a = e.few in let b = e.within in let d = e.small in let z = sizes _ _ c.requires.lent in omega arith
+check_expr-overflow_add-size t c = let i = chain_more _ _ _ _ _ _ _ _ c.kind_at-k.ensures c.loop-level.invariant c.requires.lent.short (joins_by _ (omega arith) (omega arith)) _ _ _ _ c.check_term-in-loop-level.ensures c.in-Good-check_term.is in let e = i.1.ends in let a = e.few in let b = e.within in let d = e.small in let z = sizes _ _ c.requires.lent in omega arith
 
 pub check_expr-loop-level-smaller : goal.check_expr-loop-level-smaller
-check_expr-loop-level-smaller t c = let i = chain_more _ _ c.requires.lent.short _ _ _ _ _ _ c.kind_at-k.ensures (c.loop-level.invariant.1 c.requires.lent.short) (elim c.if-k-ne-TILDE.branch [ check_expr-then-k-ne-TILDE+else-k-ne-BAR w ↦ inr w.if-k-ne-BAR.false | check_expr-else-k-ne-TILDE w ↦ inl w.if-k-ne-TILDE.false ]) _ _ _ _ c.check_term-in-loop-level.ensures c.in-Good-check_term.is in let j = i.0 in let e = i.1.ends.within in omega arith
+check_expr-loop-level-smaller t c = let i = chain_more _ _ _ _ _ _ _ _ c.kind_at-k.ensures c.loop-level.invariant c.requires.lent.short (joins_by _ (omega arith) (omega arith)) _ _ _ _ c.check_term-in-loop-level.ensures c.in-Good-check_term.is in let j = i.0 in let e = i.1.ends.within in omega arith
 
 pub check_expr-loop-level-preserved : goal.check_expr-loop-level-preserved
-check_expr-loop-level-preserved t c = (c.requires.lent.short, λ w. (chain_more _ _ w _ _ _ _ _ _ c.kind_at-k.ensures (c.loop-level.invariant.1 w) (elim c.if-k-ne-TILDE.branch [ check_expr-then-k-ne-TILDE+else-k-ne-BAR w ↦ inr w.if-k-ne-BAR.false | check_expr-else-k-ne-TILDE w ↦ inl w.if-k-ne-TILDE.false ]) _ _ _ _ c.check_term-in-loop-level.ensures c.in-Good-check_term.is).1)
+check_expr-loop-level-preserved t c = (chain_more _ _ _ _ _ _ _ _ c.kind_at-k.ensures c.loop-level.invariant c.requires.lent.short (joins_by _ (omega arith) (omega arith)) _ _ _ _ c.check_term-in-loop-level.ensures c.in-Good-check_term.is).1
 
 pub check_expr-returns : goal.check_expr-returns
-check_expr-returns t c = expr_refused _ _ c.requires.lent.short _ _ _ _ c.check_term.ensures c.in-Refused.is
+check_expr-returns t c = expr_refused _ _ _ _ _ _ c.check_term.ensures c.in-Refused.is
 
 pub check_node-bracket_of-bracket-requires : goal.check_node-bracket_of-bracket-requires
 check_node-bracket_of-bracket-requires t c = c.requires.lent
