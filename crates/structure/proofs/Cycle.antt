@@ -34,7 +34,7 @@ use Rattle.structure.proofs.Sizes.{most, Grown, grown_none, grown_starts, count_
 use Rattle.structure.proofs.Fuel.{Went, went, held, held_size}
 use Rattle.structure.proofs.Grammar.{expr_law, chain_law, signed_law}
 use Rattle.structure.proofs.Wants.{wanted_on, wanted_off, good, bad, sum_refused, sum_got, fewer, sinks}
-use Rattle.structure.proofs.Checks.{Opened, was_untied, grown_signs, tails_all, tails_bad, Bracketed, was_unopened, was_nothing, signed_end}
+use Rattle.structure.proofs.Checks.{Opened, was_untied, grown_signs, tails_all, tails_bad, Bracketed, was_open, was_unopened, was_nothing, signed_end}
 
 -- ---- a finished term
 
@@ -232,30 +232,29 @@ module _ (level : Level) (s : List ℕ) (w : length s ≤ max_text) (o at : ℕ)
   pub node_unopened : (a : Bracket) → a ≡ bracket_of s at → a ≡ Unopened → (y : Refusal) → y ≡ because NotAllowed (start s (at + 1)) → Checked.Refused y ≡ summary (Run level s (node o at))
   node_unopened a e q y z = ap Checked.Refused z ∙ sum_refused ((was_unopened level s at a e q).1 o)
 
-  module _ (p k : ℕ) (v : Bracketed level s at p k) where
-    pub node_deep : 1024 ≤ o → (y : Refusal) → y ≡ because TooDeep (start s p) → Checked.Refused y ≡ summary (Run level s (node o at))
-    node_deep h y z = ap Checked.Refused z ∙ sum_refused (v.same o ∙ opened_true o s p _ (le-leb max_open o h))
+  pub node_deep : (p k : ℕ) → bracket_of s at ≡ Bracket.Opens p k → 1024 ≤ o → Checked.Refused (because TooDeep (start s p)) ≡ summary (Run level s (node o at))
+  node_deep p k e h = sum_refused ((was_open level s at (bracket_of s at) p k refl e).same o ∙ opened_true o s p _ (le-leb max_open o h))
 
-    module _ (h : o < 1024) (r : Checked) (e : r ≡ summary (Run level s (expr (o + 1) (p + 1)))) where
-      pub node_refused : (x : Refusal) → r ≡ Checked.Refused x → Checked.Refused x ≡ summary (Run level s (node o at))
-      node_refused x q = sum_refused (v.same o ∙ opened_false o s p _ (lt-leb max_open o h) ∙ next_bad _ _ (bad _ r x e q))
+  module _ (p k : ℕ) (v : Bracketed level s at p k) (h : o < 1024) (r : Checked) (e : r ≡ summary (Run level s (expr (o + 1) (p + 1)))) where
+    pub node_refused : (x : Refusal) → r ≡ Checked.Refused x → Checked.Refused x ≡ summary (Run level s (node o at))
+    node_refused x q = sum_refused (v.same o ∙ opened_false o s p _ (lt-leb max_open o h) ∙ next_bad _ _ (bad _ r x e q))
 
-      module _ (n k₁ b₁ : ℕ) (q : r ≡ Checked.Good n k₁ b₁) (c : Wanted) (f : c ≡ wanted s n 7) where
-        pub node_unclosed : c ≡ Missing → (y : Refusal) → y ≡ because NotAllowed (start s n) → Checked.Refused y ≡ summary (Run level s (node o at))
-        node_unclosed g y z =
-            let (t, l, a, b) = good _ r n k₁ b₁ e q in
-            sum_refused (v.same o ∙ opened_false o s p _ (lt-leb max_open o h) ∙ next_good _ _ l ∙ wanted_off refused s n 7 _ c y f g z)
+    module _ (n k₁ b₁ : ℕ) (q : r ≡ Checked.Good n k₁ b₁) (c : Wanted) (f : c ≡ wanted s n 7) where
+      pub node_unclosed : c ≡ Missing → (y : Refusal) → y ≡ because NotAllowed (start s n) → Checked.Refused y ≡ summary (Run level s (node o at))
+      node_unclosed g y z =
+          let (t, l, a, b) = good _ r n k₁ b₁ e q in
+          sum_refused (v.same o ∙ opened_false o s p _ (lt-leb max_open o h) ∙ next_good _ _ l ∙ wanted_off refused s n 7 _ c y f g z)
 
-        pub node_sum : length (toks s) ≤ max_text → k₁ + k ≤ max_text
-        node_sum l =
-            let a = expr_ends level s w (o + 1) (p + 1) r n k₁ b₁ e q in
-            omega (arith, a.few, a.within, v.from, v.one)
+      pub node_sum : length (toks s) ≤ max_text → k₁ + k ≤ max_text
+      node_sum l =
+          let a = expr_ends level s w (o + 1) (p + 1) r n k₁ b₁ e q in
+          omega (arith, a.few, a.within, v.from, v.one)
 
-        pub node_closed : (z : ℕ) → c ≡ Here z → Checked.Good z (k₁ + k) b₁ ≡ summary (Run level s (node o at))
-        node_closed z g =
-            let (t, l, a, b) = good _ r n k₁ b₁ e q in
-            let y = v.grown t n in
-            sum_got {t = v.wrap t n} z (k₁ + k) b₁ (v.same o ∙ opened_false o s p _ (lt-leb max_open o h) ∙ next_good _ _ l ∙ wanted_on refused s n 7 _ c z f g) refl (omega arith) (omega arith)
+      pub node_closed : (z : ℕ) → c ≡ Here z → Checked.Good z (k₁ + k) b₁ ≡ summary (Run level s (node o at))
+      node_closed z g =
+          let (t, l, a, b) = good _ r n k₁ b₁ e q in
+          let y = v.grown t n in
+          sum_got {t = v.wrap t n} z (k₁ + k) b₁ (v.same o ∙ opened_false o s p _ (lt-leb max_open o h) ∙ next_good _ _ l ∙ wanted_on refused s n 7 _ c z f g) refl (omega arith) (omega arith)
 
 -- ---- what is unread falls along the cycle
 

@@ -186,6 +186,7 @@ fn check_term(text: &[u8], tokens: &[u32], level: Level, at: usize, deep: usize)
 
 // An expression in brackets, after PUSH or not; or a leaf.
 #[cycle(check_expr_check_node_check_term)]
+#[tactic(auto, using(crate::proofs::Cycle::node_deep))]
 fn check_node(text: &[u8], tokens: &[u32], level: Level, at: usize, deep: usize) -> Checked
     requires lent { Lent text.now tokens.now }
     requires deep_le_max_open { deep ≤ max_open }

@@ -1,4 +1,4 @@
-use Rattle.structure.proofs.Cycle.{expr_refused, chain_start, joins_by, joint_in, chain_more, chain_refused, term_untied, term_refused, term_unposted, term_sums, term_good, node_leaf, node_unopened, node_deep, node_refused, node_unclosed, node_sum, node_closed, falls_term, falls_node}
+use Rattle.structure.proofs.Cycle.{expr_refused, chain_start, joins_by, joint_in, chain_more, chain_refused, term_untied, term_refused, term_unposted, term_sums, term_good, node_leaf, node_unopened, node_refused, node_unclosed, node_sum, node_closed, falls_term, falls_node}
 use Rattle.structure.proofs.Checks.{was_from, was_untied, was_open, was_unopened, signed_end}
 use native.Mathlib.Omega.{arith}
 use Prim.Native.Nat.{◌+◌}
@@ -61,9 +61,6 @@ check_node-not_allowed-requires t c = c.requires.lent
 pub check_node-refused_at-requires : goal.check_node-refused_at-requires
 check_node-refused_at-requires t c = c.requires.lent
 
-pub check_node-returns-then-deep-ge-OPEN : goal.check_node-returns-then-deep-ge-OPEN
-check_node-returns-then-deep-ge-OPEN t c = node_deep _ _ c.requires.lent.short _ _ _ _ (was_open _ _ _ _ _ _ c.bracket_of-bracket.ensures c.in-Opens.is) c.if-deep-ge-OPEN.true _ c.refused_at.ensures
-
 pub check_node-overflow_add-open : goal.check_node-overflow_add-open
 check_node-overflow_add-open t c = let i = (was_open c.args.level _ _ _ _ _ c.bracket_of-bracket.ensures c.in-Opens.is).within in let z = sizes _ _ c.requires.lent in omega arith
 
@@ -80,10 +77,10 @@ pub check_node-not_allowed-requires-in_default : goal.check_node-not_allowed-req
 check_node-not_allowed-requires-in_default t c = c.requires.lent
 
 pub check_node-returns-in_default : goal.check_node-returns-in_default
-check_node-returns-in_default t c = node_unclosed _ _ c.requires.lent.short _ _ _ _ (was_open _ _ _ _ _ _ c.bracket_of-bracket.ensures c.in-Opens.is) c.if-deep-ge-OPEN.false _ c.check_expr.ensures _ _ _ c.in-Good.is _ c.expect-close.ensures c.in_default.is _ c.not_allowed-in_default.ensures
+check_node-returns-in_default t c = node_unclosed _ _ c.requires.lent.short _ _ _ _ (was_open _ _ _ _ _ _ c.bracket_of-bracket.ensures c.in-Opens.is) (omega arith) _ c.check_expr.ensures _ _ _ c.in-Good.is _ c.expect-close.ensures c.in_default.is _ c.not_allowed-in_default.ensures
 
 pub check_node-overflow_add-result : goal.check_node-overflow_add-result
-check_node-overflow_add-result t c = let i = node_sum _ _ c.requires.lent.short _ _ _ _ (was_open _ _ _ _ _ _ c.bracket_of-bracket.ensures c.in-Opens.is) c.if-deep-ge-OPEN.false _ c.check_expr.ensures _ _ _ c.in-Good.is _ c.expect-close.ensures (sizes _ _ c.requires.lent).1 in omega arith
+check_node-overflow_add-result t c = let i = node_sum _ _ c.requires.lent.short _ _ _ _ (was_open _ _ _ _ _ _ c.bracket_of-bracket.ensures c.in-Opens.is) (omega arith) _ c.check_expr.ensures _ _ _ c.in-Good.is _ c.expect-close.ensures (sizes _ _ c.requires.lent).1 in omega arith
 
 pub check_node-returns-in-Nothing : goal.check_node-returns-in-Nothing
 check_node-returns-in-Nothing t c = node_leaf _ _ c.requires.lent.short _ _ _ c.bracket_of-bracket.ensures c.in-Nothing.is _ c.check_leaf.ensures
@@ -92,10 +89,10 @@ pub check_node-returns-in-Unopened : goal.check_node-returns-in-Unopened
 check_node-returns-in-Unopened t c = node_unopened _ _ c.requires.lent.short _ _ _ c.bracket_of-bracket.ensures c.in-Unopened.is _ c.not_allowed.ensures
 
 pub check_node-returns-in-Refused : goal.check_node-returns-in-Refused
-check_node-returns-in-Refused t c = node_refused _ _ c.requires.lent.short _ _ _ _ (was_open _ _ _ _ _ _ c.bracket_of-bracket.ensures c.in-Opens.is) c.if-deep-ge-OPEN.false _ c.check_expr.ensures _ c.in-Refused.is
+check_node-returns-in-Refused t c = node_refused _ _ c.requires.lent.short _ _ _ _ (was_open _ _ _ _ _ _ c.bracket_of-bracket.ensures c.in-Opens.is) (omega arith) _ c.check_expr.ensures _ c.in-Refused.is
 
 pub check_node-returns-in-Here : goal.check_node-returns-in-Here
-check_node-returns-in-Here t c = node_closed _ _ c.requires.lent.short _ _ _ _ (was_open _ _ _ _ _ _ c.bracket_of-bracket.ensures c.in-Opens.is) c.if-deep-ge-OPEN.false _ c.check_expr.ensures _ _ _ c.in-Good.is _ c.expect-close.ensures _ c.in-Here.is
+check_node-returns-in-Here t c = node_closed _ _ c.requires.lent.short _ _ _ _ (was_open _ _ _ _ _ _ c.bracket_of-bracket.ensures c.in-Opens.is) (omega arith) _ c.check_expr.ensures _ _ _ c.in-Good.is _ c.expect-close.ensures _ c.in-Here.is
 
 pub check_term-tag_of-opening-requires : goal.check_term-tag_of-opening-requires
 check_term-tag_of-opening-requires t c = c.requires.lent
