@@ -201,13 +201,9 @@ pub listed_done : (m : ℕ) (edition : Edition) (level : Level) (s ns rs st ns�
     → AttemptLeaves level s t ns rs st ns₁ rs₁ st₁ → t ≡ Attempt.Done x → (x ≡ listed_of edition level s (room_for_nodes ns) (room_for_rules rs) (length st)) × Leaves level s x ns rs st ns₁ rs₁ st₁
 listed_done m edition level s ns rs st ns₁ rs₁ st₁ e w q = (tried_done m edition level s (room_for_nodes ns) (room_for_rules rs) (length st) e q, rw q at w)
 
--- or was full, and another followed
-pub listed_again : (edition : Edition) (level : Level) (s ns rs st ns₁ rs₁ st₁ ns₂ rs₂ st₂ : List ℕ) {t : Attempt} {x : Reading} → AttemptLeaves level s t ns rs st ns₁ rs₁ st₁ → t ≡ Attempt.Full
-    → x ≡ listed_of edition level s (room_for_nodes ns₁) (room_for_rules rs₁) (length st₁) → Leaves level s x ns₁ rs₁ st₁ ns₂ rs₂ st₂
-    → (x ≡ listed_of edition level s (room_for_nodes ns) (room_for_rules rs) (length st)) × Leaves level s x ns rs st ns₂ rs₂ st₂
-listed_again edition level s ns rs st ns₁ rs₁ st₁ ns₂ rs₂ st₂ w q e l =
-    let v : (ns₁ ≡ ns) × (rs₁ ≡ rs) × (st₁ ≡ st) = rw q at w in
-    (rw (v.0, v.1, v.2) at e, rw (v.0, v.1, v.2) at l)
+-- or was full, and all is as it was for the next
+pub full_kept : (level : Level) (s ns rs st ns₁ rs₁ st₁ : List ℕ) {t : Attempt} → AttemptLeaves level s t ns rs st ns₁ rs₁ st₁ → t ≡ Attempt.Full → (ns₁ ≡ ns) × (rs₁ ≡ rs) × (st₁ ≡ st)
+full_kept level s ns rs st ns₁ rs₁ st₁ w q = rw q at w
 
 module _ (s o₀ : List ℕ) (f : Filled) (e : f ≡ filled_of (room_of o₀) s) where
   pub list_and_read_full : (edition : Edition) (level : Level) (ns rs st : List ℕ) (n r b : ℕ) → f ≡ Filled.Full → (Attempt.Full ≡ attempt_of (room_of o₀) edition level s n r b) × AttemptLeaves level s Attempt.Full ns rs st ns rs st

@@ -90,6 +90,7 @@ fn try_large(
 
 // Reads a text of UTF-8 by a table for so many tokens, and by larger ones where that is full. No text
 // has more tokens than bytes.
+#[tactic(auto, using(crate::proofs::Answers::full_kept))]
 pub fn read_listed(
     t: &[u8; 256],
     text: &[u8],

@@ -1,6 +1,5 @@
-use native.Mathlib.Omega.{arith}
 use Rattle.text.specs.Limits.{max_text}
-use Rattle.reader.proofs.Answers.{tried_all, listed_done, listed_again}
+use Rattle.reader.proofs.Answers.{tried_all, listed_done}
 use Rattle.reader.proofs.inner.listings.+read_listed.Goals as goal
 
 clauses_answer_left : {A B : Type 0} → A × B → record { answer : A; left : B }
@@ -16,12 +15,6 @@ try_small-small-requires t c = record {
 pub returns-in-Done : goal.returns-in-Done
 returns-in-Done t c = clauses_answer_left (listed_done 1536 _ _ _ _ _ _ _ _ _ c.try_small-small.ensures.answer c.try_small-small.ensures.left c.in-Done.is)
 
-pub read_listed-requires : goal.read_listed-requires
-read_listed-requires t c = (omega (arith, c.if-room-le1536.true), (c.requires.t_value, c.requires.text_len_bound))
-
-pub returns-in-Full : goal.returns-in-Full
-returns-in-Full t c = clauses_answer_left (listed_again _ _ _ _ _ _ _ _ _ _ _ _ c.try_small-small.ensures.left c.in-Full.is c.read_listed.ensures.answer c.read_listed.ensures.left)
-
 -- a table of 4096 rows
 pub try_medium-medium-requires : goal.try_medium-medium-requires
 try_medium-medium-requires t c = record {
@@ -32,12 +25,6 @@ try_medium-medium-requires t c = record {
 pub returns-in-Done-medium : goal.returns-in-Done-medium
 returns-in-Done-medium t c = clauses_answer_left (listed_done 4096 _ _ _ _ _ _ _ _ _ c.try_medium-medium.ensures.answer c.try_medium-medium.ensures.left c.in-Done-medium.is)
 
-pub read_listed-requires-in-Full-medium : goal.read_listed-requires-in-Full-medium
-read_listed-requires-in-Full-medium t c = (omega (arith, c.if-room-le4096.true), (c.requires.t_value, c.requires.text_len_bound))
-
-pub returns-in-Full-medium : goal.returns-in-Full-medium
-returns-in-Full-medium t c = clauses_answer_left (listed_again _ _ _ _ _ _ _ _ _ _ _ _ c.try_medium-medium.ensures.left c.in-Full-medium.is c.read_listed-in-Full-medium.ensures.answer c.read_listed-in-Full-medium.ensures.left)
-
 -- a table of 12288 rows
 pub try_middle-middle-requires : goal.try_middle-middle-requires
 try_middle-middle-requires t c = record {
@@ -47,12 +34,6 @@ try_middle-middle-requires t c = record {
 
 pub returns-in-Done-middle : goal.returns-in-Done-middle
 returns-in-Done-middle t c = clauses_answer_left (listed_done 12288 _ _ _ _ _ _ _ _ _ c.try_middle-middle.ensures.answer c.try_middle-middle.ensures.left c.in-Done-middle.is)
-
-pub read_listed-requires-in-Full-middle : goal.read_listed-requires-in-Full-middle
-read_listed-requires-in-Full-middle t c = (omega (arith, c.if-room-le12288.true), (c.requires.t_value, c.requires.text_len_bound))
-
-pub returns-in-Full-middle : goal.returns-in-Full-middle
-returns-in-Full-middle t c = clauses_answer_left (listed_again _ _ _ _ _ _ _ _ _ _ _ _ c.try_middle-middle.ensures.left c.in-Full-middle.is c.read_listed-in-Full-middle.ensures.answer c.read_listed-in-Full-middle.ensures.left)
 
 -- the largest
 pub try_large-large-requires : goal.try_large-large-requires

@@ -1,4 +1,4 @@
--- A table that was full left all as it was, so that the answer of the next size is the answer (`listed_again`). 65536 less `room` falls at each call.
+-- A table that was full left all as it was, so that the answer of the next size is the answer (`full_kept`). 65536 less `room` falls at each call.
 -- The largest is never full, since no text has more tokens than bytes (`tried_all`).
 use Prim.Native.Nat.{◌-◌}
 use Rattle.text.specs.Limits.{max_text}
