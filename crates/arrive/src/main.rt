@@ -9,15 +9,12 @@
 use states::{Call, Feed};
 use std::io::Read;
 use std::rt::Env;
-use text::{Put, limits};
+use text::limits;
 use token::inner::listing::TOKEN_SIZE;
 
-// What to keep for the next packet; or the program is to end, and has told why.
+// The program is to end, and has told why.
 #[derive(Clone, Copy)]
-enum Turn {
-    Goes(Feed),
-    Ended,
-}
+struct Ended;
 
 // A stream of which nothing has come.
 fn fresh() -> Feed {
@@ -35,76 +32,76 @@ fn fresh() -> Feed {
     }
 }
 
-// Writes bytes, and says whether that went well.
-fn write(rt: &impl Env, out: &[u8]) -> bool {
+// Writes bytes.
+fn write(rt: &impl Env, out: &[u8]) -> Result<(), Ended> {
     if io::write_all(1, out) {
-        return true;
+        return Ok(());
     }
     program::fail(rt, b"arrive", b": standard output could not be written\n");
-    false
+    Err(Ended)
 }
 
-// Writes the line of a refusal.
-fn refuse(rt: &impl Env, number: usize, place: usize) {
+// Writes the line of a refusal, at which the program ends.
+fn refuse(rt: &impl Env, number: usize, place: usize) -> Result<(), Ended> {
     let mut out = [0u8; 64];
     let put = rows::refusal(number as u64, place as u64, &mut out);
-    let Put::Wrote(n) = put else {
+    let Some(n) = put else {
         program::fail(rt, b"arrive", b": the refusal has no room\n");
-        return;
+        return Err(Ended);
     };
-    if write(rt, &out[..n]) {
-        program::tell(rt, b'1');
-    }
+    write(rt, &out[..n])?;
+    program::tell(rt, b'1');
+    Err(Ended)
 }
 
 // Writes the lines of a list's records from one on up to another. A packet has 1,024 bytes at most, so it ends
 // 1,025 tokens at most, and their lines have room.
-fn write_new(rt: &impl Env, list: &[u32], from: usize, to: usize) -> bool {
+fn write_new(rt: &impl Env, list: &[u32], from: usize, to: usize) -> Result<(), Ended> {
     let mut out = [0u8; 33825];
     if list.len() / 3 < to {
         program::fail(rt, b"arrive", b": the list is too short\n");
-        return false;
+        return Err(Ended);
     }
     if to <= from {
-        return true;
+        return Ok(());
     }
     let put = rows::token_lines(&list[3 * from..3 * to], &mut out);
-    let Put::Wrote(n) = put else {
+    let Some(n) = put else {
         program::fail(rt, b"arrive", b": the tokens have no room\n");
-        return false;
+        return Err(Ended);
     };
     write(rt, &out[..n])
 }
 
-// Writes what a call gave behind the records before, or its refusal; and says whether the text goes on.
-fn write_call(rt: &impl Env, call: Call, before: usize, list: &[u32]) -> bool {
+// Writes what a call gave behind the records before, or its refusal.
+fn write_call(rt: &impl Env, call: Call, before: usize, list: &[u32]) -> Result<(), Ended> {
     if call.number != 0 {
-        refuse(rt, call.number, call.place);
-        return false;
+        return refuse(rt, call.number, call.place);
     }
     write_new(rt, list, before, call.records)
 }
 
-// Reads once, and feeds what has come; or ends the text where nothing more comes.
-fn take_turn(rt: &impl Env, input: &mut impl Read, state: Feed, list: &mut [u32]) -> Turn {
+// Reads once, and feeds what has come; or ends the text where nothing more comes. What to keep for the next packet.
+fn take_turn(
+    rt: &impl Env,
+    input: &mut impl Read,
+    state: Feed,
+    list: &mut [u32],
+) -> Result<Feed, Ended> {
     let mut packet = [0u8; 1024];
     let Ok(n) = input.read(&mut packet) else {
         program::fail(rt, b"arrive", b": standard input could not be read\n");
-        return Turn::Ended;
+        return Err(Ended);
     };
     if n == 0 {
         let last = stream::feed_end(state, list);
-        if write_call(rt, last, state.count, list) {
-            program::tell(rt, b'0');
-        }
-        return Turn::Ended;
+        write_call(rt, last, state.count, list)?;
+        program::tell(rt, b'0');
+        return Err(Ended);
     }
     let call = stream::feed_packet(state, &packet[..n], list);
-    if write_call(rt, call, state.count, list) {
-        let next = call.next;
-        return Turn::Goes(next);
-    }
-    Turn::Ended
+    write_call(rt, call, state.count, list)?;
+    Ok(call.next)
 }
 
 fn main(rt: HostRuntime) {
@@ -112,13 +109,10 @@ fn main(rt: HostRuntime) {
     let mut input = rt.stdin();
     let mut state = fresh();
     // a proved loop has to end: no run uses up its turns
-    let mut turns = u64::MAX;
-    while turns > 0 {
-        let turn = take_turn(&rt, &mut input, state, &mut list);
-        let Turn::Goes(next) = turn else {
+    for _turn in 0..u64::MAX {
+        let Ok(next) = take_turn(&rt, &mut input, state, &mut list) else {
             return;
         };
         state = next;
-        turns -= 1;
     }
 }

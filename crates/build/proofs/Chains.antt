@@ -1,9 +1,9 @@
 -- The steps of an expression's loop: the choices so far and the last sequence, in the buffers.
+use Rattle.std.specs.Prelude.{Option, Some, None}
 use Prim.Native.Nat.{ℕ, ◌+◌, ◌-◌, ◌*◌, ◌≤◌, ◌<◌}
 use mathlib.Core.Path.{◌≡◌, refl, sym, ap, ◌∙◌}
 use mathlib.Core.Bool.{Bool, true, false}
 use mathlib.Core.List.{List}
-use mathlib.Core.Option.{Option, none, some}
 use native.Mathlib.Omega.{arith}
 use lib.ListN.{length}
 use lib.Seq.{sets}
@@ -38,46 +38,46 @@ pub record Both (c l : Tree Span) (table store : List ℕ) (used free : ℕ) (tb
   pub second : Laid l table₁ store₁ (used + count c) (free + size c) tbl st
 
 abbrev pub Held : Option (Tree Span) → Tree Span → List ℕ → List ℕ → ℕ → ℕ → List ℕ → List ℕ → Type 0
-Held none l table store used free tbl st = Laid l table store used free tbl st
-Held (some c) l table store used free tbl st = Both c l table store used free tbl st
+Held None l table store used free tbl st = Laid l table store used free tbl st
+Held (Some c) l table store used free tbl st = Both c l table store used free tbl st
 
 abbrev pub held_count : Option (Tree Span) → ℕ
-held_count none = 0
-held_count (some c) = count c
+held_count None = 0
+held_count (Some c) = count c
 
 abbrev pub held_bytes : Option (Tree Span) → ℕ
-held_bytes none = 0
-held_bytes (some c) = size c
+held_bytes None = 0
+held_bytes (Some c) = size c
 
 -- whether a choice is pending, and its root
 abbrev pub Marked : Option (Tree Span) → Bool → ℕ → ℕ → Type 0
-Marked none chosen left used = chosen ≡ false
-Marked (some c) chosen left used = (chosen ≡ true) × (left ≡ used + below c)
+Marked None chosen left used = chosen ≡ false
+Marked (Some c) chosen left used = (chosen ≡ true) × (left ≡ used + below c)
 
 -- where the whole starts
 abbrev pub head_of : Option (Tree Span) → Tree Span → ℕ
-head_of none l = (place_of l).start
-head_of (some c) l = (place_of c).start
+head_of None l = (place_of l).start
+head_of (Some c) l = (place_of c).start
 
 pub head_closed : (c : Option (Tree Span)) (l : Tree Span) → (place_of (closed c l)).start ≡ head_of c l
 unfolding closed join
-head_closed none l = refl
-head_closed (some c) l = refl
+head_closed None l = refl
+head_closed (Some c) l = refl
 
 pub stop_closed : (c : Option (Tree Span)) (l : Tree Span) → (place_of (closed c l)).stop ≡ (place_of l).stop
 unfolding closed join
-stop_closed none l = refl
-stop_closed (some c) l = refl
+stop_closed None l = refl
+stop_closed (Some c) l = refl
 
 pub head_join : (c : Option (Tree Span)) (l r : Tree Span) → head_of c l ≡ head_of c (join Seq l r)
 unfolding join
-head_join none l r = refl
-head_join (some c) l r = refl
+head_join None l r = refl
+head_join (Some c) l r = refl
 
 pub held_long : (c : Option (Tree Span)) (l : Tree Span) (table store : List ℕ) (used free : ℕ) (tbl st : List ℕ) → Held c l table store used free tbl st
     → (length tbl ≡ length table) × (length st ≡ length store)
-held_long none l table store used free tbl st h = laid_long l table store used free tbl st h
-held_long (some c) l table store used free tbl st h =
+held_long None l table store used free tbl st h = laid_long l table store used free tbl st h
+held_long (Some c) l table store used free tbl st h =
     let p = laid_long c table store used free h.table₁ h.store₁ h.first in
     let q = laid_long l h.table₁ h.store₁ (used + count c) (free + size c) tbl st h.second in
     (q.0 ∙ p.0, q.1 ∙ p.1)
@@ -86,21 +86,21 @@ held_long (some c) l table store used free tbl st h =
 pub closed_count : (c : Option (Tree Span)) (l : Tree Span) (chosen : Bool) (left used u : ℕ) → Marked c chosen left used → u ≡ used + held_count c + count l
     → chosen_end chosen u ≡ used + count (closed c l)
 unfolding closed
-closed_count none l chosen left used u m e = ap (λ (b : Bool). chosen_end b u) m ∙ omega arith
-closed_count (some c) l chosen left used u m e = ap (λ (b : Bool). chosen_end b u) m.0 ∙ omega (arith, count_join Choice c l)
+closed_count None l chosen left used u m e = ap (λ (b : Bool). chosen_end b u) m ∙ omega arith
+closed_count (Some c) l chosen left used u m e = ap (λ (b : Bool). chosen_end b u) m.0 ∙ omega (arith, count_join Choice c l)
 
 pub closed_size : (c : Option (Tree Span)) (l : Tree Span) (free f : ℕ) → f ≡ free + held_bytes c + size l → f ≡ free + size (closed c l)
 unfolding closed
-closed_size none l free f e = omega arith
-closed_size (some c) l free f e = omega (arith, size_join Choice c l)
+closed_size None l free f e = omega arith
+closed_size (Some c) l free f e = omega (arith, size_join Choice c l)
 
 pub closed_laid : (c : Option (Tree Span)) (l : Tree Span) (table store : List ℕ) (used free : ℕ) (tbl st tbl' : List ℕ) (chosen : Bool) (left u a z : ℕ) → Held c l table store used free tbl st
     → Marked c chosen left used → u ≡ used + held_count c + count l → a ≡ head_of c l → z ≡ (place_of l).stop → tbl' ≡ written tbl u (chosen_of chosen left u a z)
     → Laid (closed c l) table store used free tbl' st
 unfolding closed join written
-closed_laid none l table store used free tbl st tbl' chosen left u a z h m e e₁ e₂ q =
+closed_laid None l table store used free tbl st tbl' chosen left u a z h m e e₁ e₂ q =
     record { holds = q ∙ ap (λ (b : Bool). written tbl u (chosen_of b left u a z)) m ∙ h.holds; keeps = h.keeps }
-closed_laid (some c) l table store used free tbl st tbl' chosen left u a z h m e e₁ e₂ q =
+closed_laid (Some c) l table store used free tbl st tbl' chosen left u a z h m e e₁ e₂ q =
     let r : tbl' ≡ written tbl u (record_of no_line (spanned (place_of c).start (place_of l).stop) (Two Choice left (u - 1))) =
     q ∙ ap (λ (b : Bool). written tbl u (chosen_of b left u a z)) m.0 ∙ ap (λ (k : ℕ). written tbl u (record_of no_line (spanned k z) (Two Choice left (u - 1)))) e₁
     ∙ ap (λ (k : ℕ). written tbl u (record_of no_line (spanned (place_of c).start k) (Two Choice left (u - 1)))) e₂ in
@@ -112,10 +112,10 @@ pub seq_held : (c : Option (Tree Span)) (l r : Tree Span) (table store : List �
     → u ≡ used + held_count c + count l → f ≡ free + held_bytes c + size l → Laid r tbl st u f tbl₁ st₁ → g ≡ u + count r → b ≡ (place_of l).start → z ≡ (place_of r).stop
     → tbl₂ ≡ written tbl₁ g (record_of no_line (spanned b z) (Two Seq (u - 1) (g - 1))) → Held c (join Seq l r) table store used free tbl₂ st₁
 unfolding join
-seq_held none l r table store used free tbl st tbl₁ st₁ tbl₂ u f g b z h e₁ e₂ d e₃ e₄ e₅ q =
+seq_held None l r table store used free tbl st tbl₁ st₁ tbl₂ u f g b z h e₁ e₂ d e₃ e₄ e₅ q =
     two_laid table store used free l r tbl st tbl₁ st₁ tbl₂ (spanned (place_of l).start (place_of r).stop) Seq u f g (u - 1) (g - 1) h (omega arith) (omega arith) d e₃ (omega arith) (omega arith)
     (q ∙ ap (λ (k : ℕ). written tbl₁ g (record_of no_line (spanned k z) (Two Seq (u - 1) (g - 1)))) e₄ ∙ ap (λ (k : ℕ). written tbl₁ g (record_of no_line (spanned (place_of l).start k) (Two Seq (u - 1) (g - 1)))) e₅)
-seq_held (some c) l r table store used free tbl st tbl₁ st₁ tbl₂ u f g b z h e₁ e₂ d e₃ e₄ e₅ q =
+seq_held (Some c) l r table store used free tbl st tbl₁ st₁ tbl₂ u f g b z h e₁ e₂ d e₃ e₄ e₅ q =
     record {
       table₁ = h.table₁;
       store₁ = h.store₁;
@@ -127,7 +127,7 @@ seq_held (some c) l r table store used free tbl st tbl₁ st₁ tbl₂ u f g b z
 
 -- a `|` closes the choice and begins a sequence
 pub bar_held : (t r : Tree Span) (table store : List ℕ) (used free : ℕ) (tbl st tbl₁ st₁ : List ℕ) (u f : ℕ) → Laid t table store used free tbl st → u ≡ used + count t → f ≡ free + size t
-    → Laid r tbl st u f tbl₁ st₁ → Held (some t) r table store used free tbl₁ st₁
+    → Laid r tbl st u f tbl₁ st₁ → Held (Some t) r table store used free tbl₁ st₁
 bar_held t r table store used free tbl st tbl₁ st₁ u f h e₁ e₂ d =
     record {
       table₁ = tbl;
@@ -173,7 +173,7 @@ module _ (level : Level) (s : List ℕ) (o at : ℕ) {used free : ℕ} {table st
   unfolding closed
   first_room =
       let (t, i, e₁, e₂) = next_got _ _ (sym (expr_law level s o at) ∙ g.read) in
-      let q = went level s (chain o none t i) g.tree g.end e₂ in
+      let q = went level s (chain o None t i) g.tree g.end e₂ in
       let m = q.more in
       let n = q.large in
       let h₁ = g.room in
@@ -192,7 +192,7 @@ module _ (level : Level) (s : List ℕ) (o at : ℕ) {used free : ℕ} {table st
       let e₂ = d.free_is in
       record {
         room = g;
-        c = none;
+        c = None;
         l = d.tree;
         meaning = expr_law level s o at ∙ next_good _ _ d.read;
         past = omega arith;
@@ -256,7 +256,7 @@ module _ {level : Level} {s : List ℕ} {o at used free : ℕ} {table store : Li
 
     -- a `|`
     module _ (n₁ : is s i 10 ≡ false) (n₂ : is s i 11 ≡ true) where
-      bar_means : Run level s (expr o at) ≡ next (Run level s (term o (i + 1))) (λ r n. Run level s (chain o (some whole) r n))
+      bar_means : Run level s (expr o at) ≡ next (Run level s (term o (i + 1))) (λ r n. Run level s (chain o (Some whole) r n))
       bar_means = v.meaning ∙ chain_law level s o v.c v.l i ∙ choose_false (is s i 10) _ _ n₁ ∙ choose_true (is s i 11) _ _ n₂
 
       pub bar_inside : (i < length (toks s)) × (0 < u') × (u' ≤ most)
@@ -272,7 +272,7 @@ module _ {level : Level} {s : List ℕ} {o at used free : ℕ} {table store : Li
       pub bar_room : TreeRoom (Run level s (term o (i + 1))) tbl' st u' f
       bar_room =
           let (t, n, e₁, e₂) = next_got _ _ (sym bar_means ∙ v.room.read) in
-          let q = went level s (chain o (some whole) t n) v.room.tree v.room.end e₂ in
+          let q = went level s (chain o (Some whole) t n) v.room.tree v.room.end e₂ in
           let m = q.more in
           let k = q.large in
           let c₁ = count_more v.c v.l t in
@@ -301,7 +301,7 @@ module _ {level : Level} {s : List ℕ} {o at used free : ℕ} {table store : Li
             omega arith,
             record {
               room = v.room;
-              c = some whole;
+              c = Some whole;
               l = d.tree;
               meaning = bar_means ∙ next_good _ _ d.read;
               past = omega arith;

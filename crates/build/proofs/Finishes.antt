@@ -1,4 +1,5 @@
 -- A term from its node: postfixes, the bracket, predicates and the tag.
+use Rattle.std.specs.Prelude.{Some}
 use Prim.Native.Nat.{ℕ, zero, suc, ◌+◌, ◌-◌, ◌*◌, ◌≤◌, ◌<◌}
 use mathlib.Core.Path.{◌≡◌, refl, sym, ap, ◌∙◌}
 use mathlib.Core.Bool.{Bool, true, false}
@@ -20,13 +21,13 @@ use Rattle.token.proofs.Table.{low}
 use Rattle.table.specs.Tree.{Span, Tree, count, size, stored, place_of, starts_at}
 use Rattle.table.specs.Record.{node_size}
 use Rattle.structure.specs.declared.Level.{Level}
-use Rattle.structure.specs.declared.Opening.TheVariants.{From}
 use Rattle.structure.specs.Answers.{unread, opening_of, tag_nodes, tag_bytes, predicates_end, predicates}
 use Rattle.structure.specs.Structure.{Parsed, got, next, prefixed, term, signed, node, posts, Run}
 use Rattle.structure.proofs.Steps.{next_got, next_good, next_assoc, next_fun, next_on, want_got}
 use Rattle.structure.proofs.Sizes.{Grown, grown_none, grown_starts, stored_placed}
 use Rattle.structure.proofs.Fuel.{went}
 use Rattle.structure.proofs.Grammar.{term_law, signed_law}
+use Rattle.structure.proofs.Wants.{piece}
 use Rattle.structure.proofs.Checks.{was_from, grown_signs, signed_end}
 use Rattle.structure.proofs.Checks as Checks
 use Rattle.structure.proofs.Cycle.{falls_term}
@@ -99,21 +100,21 @@ tag_length : (level : Level) (b : List ℕ) → tag_bytes level (length b) ≡ l
 tag_length Level.Tagged b = refl
 tag_length Level.Plain b = refl
 
-opening_no : (level : Level) (s : List ℕ) (at : ℕ) → is s at 19 ≡ false → opening_of level s at ≡ From (past_tag s at) (tag_count level s at) (length (tag_text level s at))
+opening_no : (level : Level) (s : List ℕ) (at : ℕ) → is s at 19 ≡ false → opening_of level s at ≡ Some (piece (past_tag s at) (tag_count level s at) (length (tag_text level s at)))
 unfolding opening_of
 opening_no level s at f = rw f
 
-opening_yes : (level : Level) (s : List ℕ) (at : ℕ) → is s at 19 ≡ true → is s (at + 1) 1 ≡ true → opening_of level s at ≡ From (past_tag s at) (tag_count level s at) (length (tag_text level s at))
+opening_yes : (level : Level) (s : List ℕ) (at : ℕ) → is s at 19 ≡ true → is s (at + 1) 1 ≡ true → opening_of level s at ≡ Some (piece (past_tag s at) (tag_count level s at) (length (tag_text level s at)))
 unfolding opening_of
 opening_yes level s at f f₁ =
     let e : at + 2 ≡ at + 1 + 1 = omega arith in
-    rw (f, f₁) (ap (λ (k : ℕ). From k (tag_nodes level) (tag_bytes level (length (label s at)))) e ∙ ap (From (at + 1 + 1) (tag_nodes level)) (tag_length level (label s at)))
+    rw (f, f₁) (ap (λ (k : ℕ). Some (piece k (tag_nodes level) (tag_bytes level (length (label s at))))) e ∙ ap (λ (k : ℕ). Some (piece (at + 1 + 1) (tag_nodes level) k)) (tag_length level (label s at)))
 
 module _ (level : Level) (s : List ℕ) (o at : ℕ) {used free : ℕ} {table store : List ℕ} (g : TreeRoom (Run level s (term o at)) table store used free) where
-  opening_is : opening_of level s at ≡ From (past_tag s at) (tag_count level s at) (length (tag_text level s at))
+  opening_is : opening_of level s at ≡ Some (piece (past_tag s at) (tag_count level s at) (length (tag_text level s at)))
   opening_is = go (is s at 19) refl
     where
-      go : (b : Bool) → is s at 19 ≡ b → opening_of level s at ≡ From (past_tag s at) (tag_count level s at) (length (tag_text level s at))
+      go : (b : Bool) → is s at 19 ≡ b → opening_of level s at ≡ Some (piece (past_tag s at) (tag_count level s at) (length (tag_text level s at)))
       go true f = opening_yes level s at f (want_got s (at + 1) 1 _ (omega arith) (sym (term_law level s o at ∙ choose_true (is s at 19) _ _ f) ∙ g.read)).0
       go false f = opening_no level s at f
 

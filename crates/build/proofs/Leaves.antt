@@ -1,4 +1,5 @@
 -- Leaves in the buffers.
+use Rattle.std.specs.Prelude.{Some, None}
 use Prim.Native.Nat.{ℕ, ◌+◌, ◌-◌, ◌*◌, ◌≤◌, ◌<◌}
 use mathlib.Core.Path.{◌≡◌, refl, sym, ap, ◌∙◌}
 use mathlib.Core.Bool.{true, false}
@@ -8,11 +9,9 @@ use lib.ListN.{length}
 use lib.Seq.{sets}
 use Rattle.text.specs.Splice.{Wrote}
 use Rattle.text.specs.Splice as Splice
-use Rattle.text.specs.declared.Scan.TheVariants as Scan
 use Rattle.literal.specs.Escapes.{bad_escape, unescaped}
 use Rattle.table.specs.declared.Sort.{Sort}
 use Rattle.table.specs.declared.Sort.TheVariants.{Str, Insens, Ident, PushLiteral}
-use Rattle.table.specs.declared.End.TheVariants.{Open, At}
 use Rattle.table.specs.declared.Leaf.TheVariants.{Text, Range, PeekSlice}
 use Rattle.table.specs.declared.Node.TheVariants.{Tip}
 use Rattle.table.specs.Tree.{Span, Atom, text, range, peek_slice, atom_stored, leaf, below, count, size, stored}
@@ -114,7 +113,7 @@ module _ (s table store : List ℕ) (at used free : ℕ) (short : length s ≤ m
 
 -- ---- a string, of any sort
 
-module _ (s table store : List ℕ) (at next used free : ℕ) (sort : Sort) (short : length s ≤ max_text) (long : start s at + opening s at < end s at) (good : bad_escape (literal_bytes s at) ≡ Scan.Through)
+module _ (s table store : List ℕ) (at next used free : ℕ) (sort : Sort) (short : length s ≤ max_text) (long : start s at + opening s at < end s at) (good : bad_escape (literal_bytes s at) ≡ None)
     (g : TreeRoom (got (leaf (across s at at) (text sort (string s at))) next) table store used free) (a z k : ℕ) (e₁ : a ≡ start s at) (e₂ : z ≡ end s at) (e₃ : k ≡ opening s at) where
   pub string_inside : (1 ≤ z) × (z ≤ max_text) × (z - 1 ≤ length s) × (a ≤ max_text) × (a + k ≤ z - 1)
   string_inside = let p = low s at in (omega arith, omega arith, omega arith, omega arith, omega arith)
@@ -128,7 +127,7 @@ module _ (s table store : List ℕ) (at next used free : ℕ) (sort : Sort) (sho
   unfolding string
   string_is = ap unescaped string_part
 
-  pub string_good : bad_escape (between s (a + k) (z - 1)) ≡ Scan.Through
+  pub string_good : bad_escape (between s (a + k) (z - 1)) ≡ None
   string_good = ap bad_escape string_part ∙ good
 
   string_leaf_lem : LeafRoom table store used free (length (string s at))
@@ -205,18 +204,18 @@ module _ (s table : List ℕ) (used free : ℕ) (short : length s ≤ max_text) 
       leaf_built table store used free (across s i j) (range x y) (record { next = n; used = used + 1; free = free; from = a; to = z }) tbl store e refl (omega arith) e₁ e₂ bare_low
       (q ∙ ap (λ (k : ℕ). written table used (record_of no_line (spanned a z) (Tip (Range k d)))) q₁ ∙ ap (λ (k : ℕ). written table used (record_of no_line (spanned a z) (Tip (Range x k)))) q₂) refl
 
-  pub slice_built : (store : List ℕ) {m : Parsed} (x n : ℕ) → m ≡ got (leaf (across s i j) (peek_slice x Open)) n
-      → (tbl : List ℕ) → tbl ≡ written table used (record_of no_line (spanned a z) (Tip (PeekSlice x Open)))
+  pub slice_built : (store : List ℕ) {m : Parsed} (x n : ℕ) → m ≡ got (leaf (across s i j) (peek_slice x None)) n
+      → (tbl : List ℕ) → tbl ≡ written table used (record_of no_line (spanned a z) (Tip (PeekSlice x None)))
       → Built m table store used free (record { next = n; used = used + 1; free = free; from = a; to = z }) tbl store
   slice_built store x n e tbl q =
-      leaf_built table store used free (across s i j) (peek_slice x Open) (record { next = n; used = used + 1; free = free; from = a; to = z }) tbl store e refl (omega arith) e₁ e₂ bare_low q refl
+      leaf_built table store used free (across s i j) (peek_slice x None) (record { next = n; used = used + 1; free = free; from = a; to = z }) tbl store e refl (omega arith) e₁ e₂ bare_low q refl
 
-  pub slice_to_built : (store : List ℕ) {m : Parsed} (x y n d : ℕ) → m ≡ got (leaf (across s i j) (peek_slice x (At y))) n → d ≡ y
-      → (tbl : List ℕ) → tbl ≡ written table used (record_of no_line (spanned a z) (Tip (PeekSlice x (At d))))
+  pub slice_to_built : (store : List ℕ) {m : Parsed} (x y n d : ℕ) → m ≡ got (leaf (across s i j) (peek_slice x (Some y))) n → d ≡ y
+      → (tbl : List ℕ) → tbl ≡ written table used (record_of no_line (spanned a z) (Tip (PeekSlice x (Some d))))
       → Built m table store used free (record { next = n; used = used + 1; free = free; from = a; to = z }) tbl store
   slice_to_built store x y n d e q₂ tbl q =
-      leaf_built table store used free (across s i j) (peek_slice x (At y)) (record { next = n; used = used + 1; free = free; from = a; to = z }) tbl store e refl (omega arith) e₁ e₂ bare_low
-      (q ∙ ap (λ (k : ℕ). written table used (record_of no_line (spanned a z) (Tip (PeekSlice x (At k))))) q₂) refl
+      leaf_built table store used free (across s i j) (peek_slice x (Some y)) (record { next = n; used = used + 1; free = free; from = a; to = z }) tbl store e refl (omega arith) e₁ e₂ bare_low
+      (q ∙ ap (λ (k : ℕ). written table used (record_of no_line (spanned a z) (Tip (PeekSlice x (Some k))))) q₂) refl
 
 -- ---- what stands where something was read
 
@@ -230,13 +229,13 @@ module _ {table store : List ℕ} {used free : ℕ} (s : List ℕ) where
       (b, q, want_true refused s (at + 1) 22 _ a ∙ want_true refused s (at + 1 + 1) 25 _ b)
 
   module _ (at from i : ℕ) (g : TreeRoom (slice_to s at from i) table store used free) where
-    pub to_read : is_integer s i ≡ true → (i + 1 < length (toks s)) × (slice_to s at from i ≡ got (leaf (across s at (i + 1)) (peek_slice from (At (integer s i)))) (i + 1 + 1))
+    pub to_read : is_integer s i ≡ true → (i + 1 < length (toks s)) × (slice_to s at from i ≡ got (leaf (across s at (i + 1)) (peek_slice from (Some (integer s i)))) (i + 1 + 1))
     unfolding slice_to
     to_read v =
         let (a, p, e₁) = want_got s (i + 1) 5 _ (omega arith) (sym (choose_true (is_integer s i) _ _ v) ∙ g.read) in
         (p, choose_true (is_integer s i) _ _ v ∙ want_true refused s (i + 1) 5 _ a)
 
-    pub open_read : is_integer s i ≡ false → (i < length (toks s)) × (slice_to s at from i ≡ got (leaf (across s at i) (peek_slice from Open)) (i + 1))
+    pub open_read : is_integer s i ≡ false → (i < length (toks s)) × (slice_to s at from i ≡ got (leaf (across s at i) (peek_slice from None)) (i + 1))
     unfolding slice_to
     open_read v =
         let (a, p, e₁) = want_got s i 5 _ (omega arith) (sym (choose_false (is_integer s i) _ _ v) ∙ g.read) in

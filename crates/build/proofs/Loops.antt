@@ -1,4 +1,5 @@
 -- The steps of the loops that write predicates and postfixes, and a choice that is pending.
+use Rattle.std.specs.Prelude.{ℕ, Option, Some, None}
 use Prim.Native.Nat.{ℕ, zero, suc, ◌+◌, ◌-◌, ◌*◌, ◌≤◌, ◌<◌}
 use mathlib.Core.Path.{◌≡◌, refl, sym, ap, ◌∙◌}
 use mathlib.Core.Bool.{Bool, true, false}
@@ -12,8 +13,7 @@ use Rattle.token.proofs.Table.{low}
 use Rattle.table.specs.declared.Unary.{Unary}
 use Rattle.table.specs.declared.Unary.TheVariants.{PosPred, NegPred}
 use Rattle.table.specs.declared.Op.TheVariants.{Plain}
-use Rattle.table.specs.declared.Node.TheVariants.{One, Two}
-use Rattle.table.specs.declared.Join.TheVariants.{Choice}
+use Rattle.table.specs.declared.Node.TheVariants.{One}
 use Rattle.table.specs.Tree.{Span, plain, Tree, one, below, count, stored, place_of}
 use Rattle.table.specs.Record.{node_size}
 use Rattle.table.specs.Flat.{no_line, record_of, flat}
@@ -24,7 +24,6 @@ use Rattle.structure.proofs.Steps.{sees, misses, no_tree}
 use Rattle.structure.proofs.Fuel.{went, postfix_past}
 use Rattle.structure.proofs.Checks.{grown_signs}
 use Rattle.structure.proofs.Grammar.{posts_law}
-use Rattle.build.specs.declared.FoundPostfix.{FoundPostfix}
 use Rattle.build.specs.Build.{SignsRoom, SignsPut, PostsRoom, PostsPut, Accepted, suffix_of, chosen_end, chosen_of, ChoiceRoom}
 use Rattle.records.specs.Records.{written, most, Over}
 use Rattle.records.proofs.Patches.{spanned, length_written}
@@ -105,14 +104,6 @@ module _ (s table : List ℕ) (at last z used : ℕ) (short : length s ≤ max_t
         },
       )
 
-pub signs_done : (s table : List ℕ) (at last z used : ℕ) (tbl : List ℕ) (i u : ℕ) → SignsInv s table at last z used tbl i u → i ≤ at
-    → (u ≡ used + (last - at)) × SignsPut s at last z used table tbl
-signs_done s table at last z used tbl i u v h =
-    let x = v.0 in
-    let w = v.2 in
-    let e : i ≡ at = omega arith in
-    (omega arith, record { long = v.3.long; same = λ o t f free p k b. v.3.same o t f free p k b ∙ ap (λ (j : ℕ). written o f (flat no_line f free (predicates s j (last - j) t))) e })
-
 -- ---- a choice
 
 pub choice_over : (table : List ℕ) (chosen : Bool) (left used a z : ℕ) → ChoiceRoom table chosen left used a z → chosen ≡ true → Over table used a z × (left ≤ most)
@@ -120,11 +111,6 @@ choice_over table chosen left used a z g e =
     let r : node_size * (used + 1) ≤ length table = rw (e) at g.room in
     let f = g.few in
     (record { room = omega arith; from = g.from; to = g.to; few = omega arith; after = g.after }, g.child)
-
-pub choice_yes : (table table' : List ℕ) (chosen : Bool) (left used a z : ℕ) → chosen ≡ true → table' ≡ written table used (record_of no_line (spanned a z) (Two Choice left (used - 1)))
-    → (used + 1 ≡ chosen_end chosen used) × (table' ≡ written table used (chosen_of chosen left used a z))
-choice_yes table table' chosen left used a z e q =
-    (sym (ap (λ (b : Bool). chosen_end b used) e), q ∙ sym (ap (λ (b : Bool). written table used (chosen_of b left used a z)) e))
 
 pub choice_no : (table : List ℕ) (chosen : Bool) (left used a z : ℕ) → chosen ≡ false → (used ≡ chosen_end chosen used) × (table ≡ written table used (chosen_of chosen left used a z))
 unfolding written
@@ -149,20 +135,13 @@ pub record PostsInv (s table : List ℕ) (at used from to : ℕ) (tbl : List ℕ
   pub stop : z ≤ most
   pub same : (level : Level) (t : Tree Span) → from ≡ (place_of t).start → to ≡ (place_of t).stop → Along level s table at used from t tbl i u z
 
-pub posts_start : (s table : List ℕ) (at used from to : ℕ) → to ≤ most → PostsInv s table at used from to table at used to
-posts_start s table at used from to b = record {
-  long = refl;
-  stop = b;
-  same = λ level t e₁ e₂. record { tree = t; read = refl; used_is = refl; grows = omega arith; from_is = e₁; to_is = e₂; kept = refl; holds = λ o f free e q. q };
-}
-
-was_post : (p : Postfix) (r : FoundPostfix) (v : Unary) (n : ℕ) → r ≡ suffix_of p → r ≡ FoundPostfix.Post v n → p ≡ post v n
+was_post : (p : Postfix) (r : Option (Unary × ℕ)) (v : Unary) (n : ℕ) → r ≡ suffix_of p → r ≡ Some (v, n) → p ≡ post v n
 unfolding suffix_of
-was_post (post w m) r v n e q = cc
+was_post (post w m) r v n e q = let h : ◌≡◌ {A = Unary × ℕ} (w, m) (v, n) = cc in ap (λ (z : Unary × ℕ). post z.0 z.1) h
 was_post (not_post x) r v n e q = let z : ◌≡◌ {A = ℕ} 0 1 = cc in absurd (omega arith)
 was_post no_post r v n e q = let z : ◌≡◌ {A = ℕ} 0 1 = cc in absurd (omega arith)
 
-was_none : (p : Postfix) (r : FoundPostfix) → Accepted p → r ≡ suffix_of p → r ≡ FoundPostfix.Nothing → p ≡ no_post
+was_none : (p : Postfix) (r : Option (Unary × ℕ)) → Accepted p → r ≡ suffix_of p → r ≡ None → p ≡ no_post
 unfolding suffix_of
 was_none (post w m) r v e q = let z : ◌≡◌ {A = ℕ} 0 1 = cc in absurd (omega arith)
 was_none (not_post x) r v e q = absurd (v.good x refl)
@@ -179,8 +158,8 @@ module _ (s table : List ℕ) (at used from to : ℕ) (short : length s ≤ max_
         ∙ sym now.read ∙ g.read);
   }
 
-  module _ (r : FoundPostfix) (e : r ≡ suffix_of (postfix_at s i)) where
-    module _ (p : Unary) (n : ℕ) (q : r ≡ FoundPostfix.Post p n) where
+  module _ (r : Option (Unary × ℕ)) (e : r ≡ suffix_of (postfix_at s i)) where
+    module _ (p : Unary) (n : ℕ) (q : r ≡ Some (p, n)) where
       is_post : postfix_at s i ≡ post p n
       is_post = was_post (postfix_at s i) r p n e q
 
@@ -245,7 +224,7 @@ module _ (s table : List ℕ) (at used from to : ℕ) (short : length s ≤ max_
                 };
           }
 
-    pub posts_done : r ≡ FoundPostfix.Nothing → PostsPut s at used from to table (record { next = i; used = u; to = z }) tbl
+    pub posts_done : r ≡ None → PostsPut s at used from to table (record { next = i; used = u; to = z }) tbl
     posts_done q =
         record {
           long = v.long;

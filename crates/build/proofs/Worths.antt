@@ -1,48 +1,51 @@
 -- What the tokens of numbers, characters and postfixes are worth, as the code finds it.
-use Prim.Native.Nat.{ℕ, zero, suc, ◌+◌, ◌-◌, ◌<◌}
+use Rattle.std.specs.Prelude.{ℕ, Option, Some, None, Result}
+use Prim.Native.Nat.{ℕ, ◌+◌, ◌-◌, ◌<◌}
 use mathlib.Core.Path.{◌≡◌, refl, sym, ap, ◌∙◌, subst}
 use mathlib.Core.Bool.{Bool, true, false}
 use mathlib.Core.List.{List}
+use mathlib.Core.Logic.{◌⊎◌, inl, inr}
 use native.Mathlib.Omega.{arith}
-use lib.Dec.{eqb}
 use lib.ListN.{length, take, drop}
 use borrow.Author.Tests.{eqb-true, ne_eqb}
-use Rattle.text.specs.Booleans.{choose, or}
+use Rattle.text.specs.Booleans.{choose}
 use Rattle.text.specs.Digits.{decimal_of}
-use Rattle.text.specs.Utf8.{char_of}
-use Rattle.text.specs.declared.Decimal.{Decimal}
-use Rattle.text.specs.declared.Sequence.{Sequence}
-use Rattle.text.proofs.Booleans.{choose_false, choose_true}
+use Rattle.text.specs.declared.DecimalError.{DecimalError}
+use Rattle.text.proofs.Booleans.{choose_false, choose_true, or_first, or_second, or_neither}
 use Rattle.literal.specs.Escapes.{escape_of}
-use Rattle.literal.specs.declared.Escape.{Escape}
-use Rattle.token.specs.Table.{toks, kind, start, end, is, between, word}
+use Rattle.text.specs.Limits.{max_text}
+use Rattle.token.proofs.Table.{sizes}
+use Rattle.token.specs.Table.{toks, kind, start, end, is, between, word, Lent}
 use Rattle.table.specs.declared.Unary.TheVariants.{Opt, Rep, RepOnce, RepExact, RepMin, RepMax, RepMinMax}
-use Rattle.structure.specs.Values.{value_of, negated, number, is_integer, integer_of, integer, opening, literal_bytes, raw_char, char_by, character}
+use Rattle.structure.specs.Values.{value_of, negated, number, is_integer, integer_of, integer, opening, literal_bytes, char_by, character}
 use Rattle.structure.specs.Structure.{want, Postfix, post, not_post, from_number, from_comma, postfix_at}
 use Rattle.structure.proofs.Steps as Steps
 use Rattle.structure.proofs.Steps.{sees, misses, want_true, want_false}
-use Rattle.build.specs.declared.FoundPostfix.{FoundPostfix}
 use Rattle.build.specs.Build.{Accepted, suffix_of}
+use Rattle.table.specs.declared.Unary.{Unary}
 
-pub negated_is : (n : ℕ) → (n ≡ 0 → ⊥) → 4294967295 - (n - 1) ≡ negated n
-negated_is zero h = absurd (h refl)
-negated_is (suc n) h = let e : suc n - 1 ≡ n = omega arith in ap (λ (k : ℕ). 4294967295 - k) e
+-- a token that has a kind is one of few
+pub seen_low : (s ts : List ℕ) (i x : ℕ) → Lent s ts → x ≡ kind s i → 0 < x → i < max_text
+seen_low s ts i x l e h =
+    let inside = Steps.inside_is s i x h (sees s i x x e refl) in
+    let few = (sizes s ts l).1 in
+    omega arith
 
 -- ---- numbers
 
-pub number_is : (s : List ℕ) (i : ℕ) (d : Decimal) (r : ℕ) → d ≡ decimal_of 4294967295 (word s i) → r ≡ value_of d → r ≡ number s i
+pub number_is : (s : List ℕ) (i : ℕ) (d : Result ℕ DecimalError) (r : ℕ) → d ≡ decimal_of 4294967295 (word s i) → r ≡ value_of d → r ≡ number s i
 unfolding number
 number_is s i d r q₁ q₂ = q₂ ∙ ap value_of q₁
 
 module _ (s : List ℕ) (i x : ℕ) (e : x ≡ kind s i) where
-  pub integer_yes : x ≡ 20 → true ≡ is_integer s i
-  integer_yes h = sym (rw (sees s i x 20 e h))
+  pub integer_here : (x ≡ 20) ⊎ (x ≡ 21) → true ≡ is_integer s i
+  integer_here (inl h) = sym (or_first (is s i 20) (is s i 21) (sees s i x 20 e h))
+  integer_here (inr h) = sym (or_second (is s i 20) (is s i 21) (sees s i x 21 e h))
 
-  pub integer_by : (x ≡ 20 → ⊥) → eqb x 21 ≡ is_integer s i
-  unfolding is
-  integer_by h = ap (λ (k : ℕ). eqb k 21) e ∙ sym (ap (λ (b : Bool). or b (eqb (kind s i) 21)) (ne_eqb (kind s i) 20 (λ k. h (e ∙ k))))
+  pub integer_gone : (x ≡ 20 → ⊥) → (x ≡ 21 → ⊥) → false ≡ is_integer s i
+  integer_gone h g = sym (or_neither (is s i 20) (is s i 21) (misses s i x 20 e h) (misses s i x 21 e g))
 
-  module _ (d : Decimal) (w : ℕ) (q₁ : d ≡ integer_of s i) (q₂ : w ≡ value_of d) where
+  module _ (d : Result ℕ DecimalError) (w : ℕ) (q₁ : d ≡ integer_of s i) (q₂ : w ≡ value_of d) where
     pub integer_negative : x ≡ 21 → (r : ℕ) → r ≡ negated w → r ≡ integer s i
     unfolding integer
     integer_negative h r q₃ = q₃ ∙ ap negated (q₂ ∙ ap value_of q₁) ∙ sym (choose_true (is s i 21) _ _ (sees s i x 21 e h))
@@ -52,15 +55,6 @@ module _ (s : List ℕ) (i x : ℕ) (e : x ≡ kind s i) where
     integer_positive h = q₂ ∙ ap value_of q₁ ∙ sym (choose_false (is s i 21) _ _ (misses s i x 21 e h))
 
 -- ---- a character
-
-pub meant_escape : (xs : List ℕ) {r : Escape} {c n : ℕ} → r ≡ escape_of xs → r ≡ Escape.Means c n → c ≡ char_by (escape_of xs) xs
-meant_escape xs e q = sym (ap (λ (x : Escape). char_by x xs) (sym e ∙ q))
-
-pub meant_raw : (xs : List ℕ) {r : Escape} {w : Sequence} {c n : ℕ} → r ≡ escape_of xs → r ≡ Escape.Plain → w ≡ char_of xs → w ≡ Sequence.Is c n → c ≡ char_by (escape_of xs) xs
-meant_raw xs e q f g = sym (ap (λ (x : Escape). char_by x xs) (sym e ∙ q) ∙ ap raw_char (sym f ∙ g))
-
-pub meant_broken : (xs : List ℕ) {r : Escape} {w : Sequence} → r ≡ escape_of xs → r ≡ Escape.Plain → w ≡ char_of xs → w ≡ Sequence.Broken → 0 ≡ char_by (escape_of xs) xs
-meant_broken xs e q f g = sym (ap (λ (x : Escape). char_by x xs) (sym e ∙ q) ∙ ap raw_char (sym f ∙ g))
 
 module _ (s : List ℕ) (i a z : ℕ) (v : is s i 25 ≡ true) (e₁ : a ≡ start s i) (e₂ : z ≡ end s i) where
   not_insens : opening s i ≡ 1
@@ -88,9 +82,9 @@ want_sound s i k f h g = go (is s i k) refl
     go false e = absurd (g.good _ (want_false not_post s i k f e))
 
 module _ (s : List ℕ) (i n x : ℕ) (en : n ≡ number s i) (e : x ≡ kind s (i + 1)) where
-  pub exact : x ≡ 3 → FoundPostfix.Post (RepExact n) (i + 2) ≡ suffix_of (from_number s i)
+  pub exact : x ≡ 3 → Some (RepExact n, i + 2) ≡ suffix_of (from_number s i)
   unfolding from_number suffix_of
-  exact h = ap (λ (k : ℕ). FoundPostfix.Post (RepExact k) (i + 2)) en ∙ sym (rw (sees s (i + 1) x 3 e h))
+  exact h = ap (λ (k : ℕ). Some (RepExact k, i + 2)) en ∙ sym (rw (sees s (i + 1) x 3 e h))
 
   module _ (h : x ≡ 3 → ⊥) (g : Accepted (from_number s i)) where
     comma : (is s (i + 1) 15 ≡ true) × (i + 1 < length (toks s)) × Accepted (choose (is s (i + 1 + 1) 3) (λ u. post (RepMin (number s i)) (i + 1 + 1 + 1))
@@ -99,9 +93,9 @@ module _ (s : List ℕ) (i n x : ℕ) (en : n ≡ number s i) (e : x ≡ kind s 
     comma = want_sound s (i + 1) 15 _ (omega arith) (subst Accepted (choose_false (is s (i + 1) 3) _ _ (misses s (i + 1) x 3 e h)) g)
 
     module _ (y : ℕ) (f : y ≡ kind s (i + 1 + 1)) where
-      pub least : y ≡ 3 → FoundPostfix.Post (RepMin n) (i + 1 + 1 + 1) ≡ suffix_of (from_number s i)
+      pub least : y ≡ 3 → Some (RepMin n, i + 1 + 1 + 1) ≡ suffix_of (from_number s i)
       unfolding from_number suffix_of want
-      least k = ap (λ (j : ℕ). FoundPostfix.Post (RepMin j) (i + 1 + 1 + 1)) en ∙ sym (rw (misses s (i + 1) x 3 e h, comma.0, sees s (i + 1 + 1) y 3 f k))
+      least k = ap (λ (j : ℕ). Some (RepMin j, i + 1 + 1 + 1)) en ∙ sym (rw (misses s (i + 1) x 3 e h, comma.0, sees s (i + 1 + 1) y 3 f k))
 
       module _ (k : y ≡ 3 → ⊥) where
         second : (is s (i + 1 + 1) 20 ≡ true) × (i + 1 + 1 < length (toks s))
@@ -114,11 +108,11 @@ module _ (s : List ℕ) (i n x : ℕ) (en : n ≡ number s i) (e : x ≡ kind s 
         pub close_in : i + 1 + 1 + 1 < length (toks s)
         close_in = close.1
 
-        pub both : (m : ℕ) → m ≡ number s (i + 1 + 1) → FoundPostfix.Post (RepMinMax n m) (i + 1 + 1 + 1 + 1) ≡ suffix_of (from_number s i)
+        pub both : (m : ℕ) → m ≡ number s (i + 1 + 1) → Some (RepMinMax n m, i + 1 + 1 + 1 + 1) ≡ suffix_of (from_number s i)
         unfolding from_number suffix_of want
         both m em =
-            ap (λ (l : ℕ). FoundPostfix.Post (RepMinMax l m) (i + 1 + 1 + 1 + 1)) en
-            ∙ ap (λ (l : ℕ). FoundPostfix.Post (RepMinMax (number s i) l) (i + 1 + 1 + 1 + 1)) em
+            ap (λ (l : ℕ). Some (RepMinMax l m, i + 1 + 1 + 1 + 1)) en
+            ∙ ap (λ (l : ℕ). Some (RepMinMax (number s i) l, i + 1 + 1 + 1 + 1)) em
             ∙ sym (rw (misses s (i + 1) x 3 e h, comma.0, misses s (i + 1 + 1) y 3 f k, second.0, close.0))
 
 module _ (s : List ℕ) (i : ℕ) (g : Accepted (from_comma s i)) where
@@ -135,27 +129,27 @@ module _ (s : List ℕ) (i : ℕ) (g : Accepted (from_comma s i)) where
   pub most_in : i + 1 + 1 < length (toks s)
   most_in = most_close.1
 
-  pub most_is : (n : ℕ) → n ≡ number s (i + 1) → FoundPostfix.Post (RepMax n) (i + 1 + 1 + 1) ≡ suffix_of (from_comma s i)
+  pub most_is : (n : ℕ) → n ≡ number s (i + 1) → Some (RepMax n, i + 1 + 1 + 1) ≡ suffix_of (from_comma s i)
   unfolding from_comma suffix_of want
-  most_is n en = ap (λ (l : ℕ). FoundPostfix.Post (RepMax l) (i + 1 + 1 + 1)) en ∙ sym (rw (most_comma.0, most_number.0, most_close.0))
+  most_is n en = ap (λ (l : ℕ). Some (RepMax l, i + 1 + 1 + 1)) en ∙ sym (rw (most_comma.0, most_number.0, most_close.0))
 
 module _ (s : List ℕ) (i x : ℕ) (e : x ≡ kind s i) where
-  pub suffix_opt : x ≡ 12 → FoundPostfix.Post Opt (i + 1) ≡ suffix_of (postfix_at s i)
+  pub suffix_opt : x ≡ 12 → Some (Opt, i + 1) ≡ suffix_of (postfix_at s i)
   unfolding postfix_at suffix_of
   suffix_opt h = sym (rw (sees s i x 12 e h))
 
   module _ (h₁ : x ≡ 12 → ⊥) where
-    pub suffix_rep : x ≡ 13 → FoundPostfix.Post Rep (i + 1) ≡ suffix_of (postfix_at s i)
+    pub suffix_rep : x ≡ 13 → Some (Rep, i + 1) ≡ suffix_of (postfix_at s i)
     unfolding postfix_at suffix_of
     suffix_rep h = sym (rw (misses s i x 12 e h₁, sees s i x 13 e h))
 
     module _ (h₂ : x ≡ 13 → ⊥) where
-      pub suffix_once : x ≡ 14 → FoundPostfix.Post RepOnce (i + 1) ≡ suffix_of (postfix_at s i)
+      pub suffix_once : x ≡ 14 → Some (RepOnce, i + 1) ≡ suffix_of (postfix_at s i)
       unfolding postfix_at suffix_of
       suffix_once h = sym (rw (misses s i x 12 e h₁, misses s i x 13 e h₂, sees s i x 14 e h))
 
       module _ (h₃ : x ≡ 14 → ⊥) where
-        pub suffix_none : (x ≡ 2 → ⊥) → FoundPostfix.Nothing ≡ suffix_of (postfix_at s i)
+        pub suffix_none : (x ≡ 2 → ⊥) → None ≡ suffix_of (postfix_at s i)
         unfolding postfix_at suffix_of
         suffix_none h = sym (rw (misses s i x 12 e h₁, misses s i x 13 e h₂, misses s i x 14 e h₃, misses s i x 2 e h))
 
@@ -174,8 +168,8 @@ module _ (s : List ℕ) (i x : ℕ) (e : x ≡ kind s i) where
           pub sound_comma : (y ≡ 20 → ⊥) → Accepted (postfix_at s i) → Accepted (from_comma s (i + 1))
           sound_comma g v = subst Accepted (comma_next g) v
 
-          pub suffix_number : (r : FoundPostfix) → y ≡ 20 → r ≡ suffix_of (from_number s (i + 1)) → r ≡ suffix_of (postfix_at s i)
+          pub suffix_number : (r : Option (Unary × ℕ)) → y ≡ 20 → r ≡ suffix_of (from_number s (i + 1)) → r ≡ suffix_of (postfix_at s i)
           suffix_number r g q = q ∙ sym (ap suffix_of (number_next g))
 
-          pub suffix_comma : (r : FoundPostfix) → (y ≡ 20 → ⊥) → r ≡ suffix_of (from_comma s (i + 1)) → r ≡ suffix_of (postfix_at s i)
+          pub suffix_comma : (r : Option (Unary × ℕ)) → (y ≡ 20 → ⊥) → r ≡ suffix_of (from_comma s (i + 1)) → r ≡ suffix_of (postfix_at s i)
           suffix_comma r g q = q ∙ sym (ap suffix_of (comma_next g))

@@ -1,7 +1,6 @@
 -- What the building pass asks of the lent buffers, and what it leaves in them.
-use Rattle.std.specs.Prelude.{ℕ, ◌+◌, ◌-◌, ◌*◌, ◌≤◌, ◌<◌, ◌≡◌, Bool, true, false, List, [], ltb, length}
+use Rattle.std.specs.Prelude.{ℕ, ◌+◌, ◌-◌, ◌*◌, ◌≤◌, ◌<◌, ◌≡◌, Bool, true, false, List, [], ltb, length, Option, Some, None}
 use Rattle.std.proofs.lemmas.List.Edits.{sets}
-use Rattle.text.specs.declared.Scan.{Scan}
 use Rattle.literal.specs.Escapes.{bad_escape}
 use Rattle.table.specs.Tree.{Span, text, Tree, leaf, count, size, stored, place_of, starts_at}
 use Rattle.table.specs.Record.{node_size}
@@ -22,7 +21,7 @@ use Rattle.text.specs.Splice.{Wrote}
 use Rattle.token.specs.Table.{start, is, label, word}
 use Rattle.build.specs.declared.Placed.{Placed}
 use Rattle.build.specs.declared.PutPostfixes.{PutPostfixes}
-use Rattle.build.specs.declared.FoundPostfix.{FoundPostfix}
+use Rattle.table.specs.declared.Unary.{Unary}
 
 -- m is a tree, its records fit the table from the index `used` on, its texts the store from `free` on
 pub record TreeRoom (m : Parsed) (table store : List ℕ) (used free : ℕ) : Type 0 where
@@ -52,8 +51,8 @@ pub record Built (m : Parsed) (table store : List ℕ) (used free : ℕ) (r : Pl
 
 -- every string of a text means characters
 pub record Scalars (s : List ℕ) : Type 0 where
-  pub strings : (i : ℕ) → is s i 23 ≡ true → bad_escape (literal_bytes s i) ≡ Scan.Through
-  pub insens : (i : ℕ) → is s i 24 ≡ true → bad_escape (literal_bytes s i) ≡ Scan.Through
+  pub strings : (i : ℕ) → is s i 23 ≡ true → bad_escape (literal_bytes s i) ≡ None
+  pub insens : (i : ℕ) → is s i 24 ≡ true → bad_escape (literal_bytes s i) ≡ None
 
 -- a word's node, and the token after it
 abbrev pub word_leaf : List ℕ → ℕ → Parsed
@@ -175,7 +174,7 @@ pub record Accepted (p : Postfix) : Type 0 where
   pub good : (r : Refusal) → p ≡ not_post r → ⊥
 
 -- a postfix as the code has it; it comes to no refused one
-unfoldable pub suffix_of : Postfix → FoundPostfix
-suffix_of (post u n) = FoundPostfix.Post u n
-suffix_of (not_post r) = FoundPostfix.Nothing
-suffix_of no_post = FoundPostfix.Nothing
+unfoldable pub suffix_of : Postfix → Option (Unary × ℕ)
+suffix_of (post u n) = Some (u, n)
+suffix_of (not_post r) = None
+suffix_of no_post = None

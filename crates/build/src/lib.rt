@@ -18,13 +18,6 @@ pub struct Placed {
     pub to: usize,
 }
 
-// A postfix and the token after it, or none.
-#[derive(Clone, Copy)]
-pub enum FoundPostfix {
-    Post(Unary, usize),
-    Nothing,
-}
-
 // Where postfixes end: the token and the record after them, and the end of the node that they make.
 #[derive(Clone, Copy)]
 pub struct PutPostfixes {

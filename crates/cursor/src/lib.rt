@@ -37,15 +37,8 @@ fn place_after(listed: Listed, place: usize) -> usize
     ensures { result ≡ (numbers_of place listed).next }
 {
     match listed {
-        Listed::TooLong => place,
-        Listed::NotUtf8(_) => place,
-        Listed::Next {
-            kind: _,
-            start: _,
-            end,
-        } => end,
-        Listed::End(_) => place,
-        Listed::NoToken(_) => place,
+        Listed::Next { end, .. } => end,
+        _ => place,
     }
 }
 
@@ -54,10 +47,9 @@ pub fn step_at(text: &[u8], place: usize) -> Step
     ensures { result ≡ step_of text.now place }
 {
     let listed = token::next_token(text, place);
-    let after = place_after(listed, place);
     Step {
         listed,
-        place: after,
+        place: place_after(listed, place),
     }
 }
 

@@ -17,29 +17,28 @@ use forms::Style;
 use replies::Row;
 use rows::Block;
 use show::{Layout, Shown};
-use text::Put;
 
 fn answer(word: &[u8], n: usize, out: &[u8]) {
     vectors::write(word);
     vectors::write_number(n);
     vectors::write_number(vectors::bytes_alone(out, n));
-    if out.len() < n {
+    let Some(put) = out.get(..n) else {
         return;
-    }
+    };
     if 300 < n {
-        vectors::write_small(vectors::bytes_sum(&out[..n]));
+        vectors::write_small(vectors::bytes_sum(put));
         vectors::write(b"\n");
-        return;
+    } else {
+        vectors::write(b"\n");
+        vectors::write(put);
     }
-    vectors::write(b"\n");
-    vectors::write(&out[..n]);
 }
 
 fn run_desk(style: Style, text: &[u8], room: usize, out: &mut [u8]) {
-    if out.len() < room {
+    let Some(lent) = out.get_mut(..room) else {
         return;
-    }
-    let shown = show::desk(style, text, &mut out[..room]);
+    };
+    let shown = show::desk(style, text, lent);
     match shown {
         Shown::Text(n) => answer(b" text", n, out),
         Shown::Refused(n) => answer(b" refused", n, out),
@@ -48,48 +47,49 @@ fn run_desk(style: Style, text: &[u8], room: usize, out: &mut [u8]) {
 }
 
 fn run_refusal(number: u64, place: u64, room: usize, out: &mut [u8]) {
-    if out.len() < room {
+    let Some(lent) = out.get_mut(..room) else {
         return;
-    }
-    let line = rows::refusal(number, place, &mut out[..room]);
+    };
+    let line = rows::refusal(number, place, lent);
     match line {
-        Put::Wrote(n) => answer(b" refused", n, out),
-        Put::NoRoom => answer(b" no room", 0, out),
+        Some(n) => answer(b" refused", n, out),
+        None => answer(b" no room", 0, out),
     }
 }
 
 fn run_answer(row: Row, room: usize, out: &mut [u8]) {
-    if out.len() < room {
+    let Some(lent) = out.get_mut(..room) else {
         return;
-    }
-    let line = rows::answer_line(row, &mut out[..room]);
+    };
+    let line = rows::answer_line(row, lent);
     match line {
-        Put::Wrote(n) => answer(b" line", n, out),
-        Put::NoRoom => answer(b" no room", 0, out),
+        Some(n) => answer(b" line", n, out),
+        None => answer(b" no room", 0, out),
     }
 }
 
 fn answer_two(word: &[u8], a: u64, b: u64, n: usize, out: &[u8]) {
     vectors::write(word);
-    vectors::write_number(a as usize);
-    vectors::write_number(b as usize);
+    vectors::write_numbers(&[a, b]);
     answer(b"", n, out);
 }
 
-fn run_block(
-    nodes: &[u32],
-    rules: &[u32],
-    store: &[u8],
+// A layout's tables, and the index of the rule that is run.
+#[derive(Clone, Copy)]
+struct Rule<'a> {
+    nodes: &'a [u32],
+    rules: &'a [u32],
+    store: &'a [u8],
     start: usize,
-    camera: &[u8],
-    steps: u64,
-    room: usize,
-    out: &mut [u8],
-) {
-    if out.len() < room {
+}
+
+fn run_block(rule: Rule, camera: &[u8], steps: u64, room: usize, out: &mut [u8]) {
+    let Some(lent) = out.get_mut(..room) else {
         return;
-    }
-    let block = rows::answer_block(nodes, rules, store, start, camera, steps, &mut out[..room]);
+    };
+    let block = rows::answer_block(
+        rule.nodes, rule.rules, rule.store, rule.start, camera, steps, lent,
+    );
     match block {
         Block::Lines {
             size,
@@ -112,16 +112,15 @@ fn run_layout(text: &[u8], name: &[u8], camera: &[u8], steps: u64, room: usize, 
             rules: b,
             store: c,
             start,
-        } => run_block(
-            &nodes[..a],
-            &rules[..b],
-            &store[..c],
-            start,
-            camera,
-            steps,
-            room,
-            out,
-        ),
+        } => {
+            let rule = Rule {
+                nodes: &nodes[..a],
+                rules: &rules[..b],
+                store: &store[..c],
+                start,
+            };
+            run_block(rule, camera, steps, room, out);
+        }
         Layout::Refused { number, place } => answer_two(b" not read", number, place, 0, out),
         Layout::NoRule => answer(b" no rule", 0, out),
     }
@@ -175,10 +174,10 @@ fn run_line(line: &[u8]) {
     let op = vectors::word(line, 0);
     let room = number(line, 1) as usize;
     vectors::write(line);
-    if op.len() == 0 {
+    let Some(letter) = op.first() else {
         return;
-    }
-    match op[0] {
+    };
+    match letter {
         b'd' => run_text(Style::Full, line, room, &mut out),
         b's' => run_text(Style::Short, line, room, &mut out),
         b'l' => run_row(line, room, &mut out),
@@ -189,12 +188,5 @@ fn run_line(line: &[u8]) {
 }
 
 fn main() {
-    let mut input = io::large_buffer();
-    let n = io::read_full(0, &mut input);
-    let mut at = 0;
-    while at < n {
-        let end = vectors::line_end(&input[..n], at);
-        run_line(&input[at..end]);
-        at = end + 1;
-    }
+    vectors::run_lines(&mut io::large_buffer(), run_line);
 }

@@ -1,4 +1,5 @@
 -- The printed text is what `Display` of ast.rs writes.
+use Rattle.std.specs.Prelude.{Some}
 use Prim.Native.Nat.{ℕ, ◌+◌}
 use mathlib.Core.Path.{◌≡◌, refl, sym, ap, ◌∙◌}
 use mathlib.Core.Bool.{true, false}
@@ -6,7 +7,6 @@ use mathlib.Core.List.{List, [], ◌∷◌, ◌++◌, map, append_assoc, append-
 use native.Mathlib.Omega.{arith}
 use lib.ListN.{length}
 use Rattle.text.specs.Booleans.{choose}
-use Rattle.text.specs.declared.Sequence.TheVariants.{Is}
 use Rattle.text.specs.Utf8.{char_of, scalar, encoded}
 use Rattle.text.proofs.Decodes.{decoded}
 use Rattle.text.proofs.Encodes.{encoded_read}
@@ -85,7 +85,7 @@ inside_encoded : (c : ℕ) → scalar c ≡ true → inside 39 (encoded c) ≡ s
 unfolding inside
 inside_encoded c h =
     let n = length (encoded c) in
-    let e : char_of (encoded c) ≡ Is c n = rw (append-nil (encoded c)) at (encoded_read c [] h) in
+    let e : char_of (encoded c) ≡ Some (c, n) = rw (append-nil (encoded c)) at (encoded_read c [] h) in
     let t = shown_turn 39 (encoded c) 0 (omega (arith, (decoded (encoded c) c n e).some)) c n e in
     t.is ∙ ap (λ x. shown 39 c ++ x) (spelled_end (char_piece 39) (encoded c) (0 + n) (omega arith)) ∙ append-nil (shown 39 c)
 

@@ -2,9 +2,7 @@
 pub mod Displays
 pub mod Shown
 pub mod Levels
-pub mod Joins
 pub mod Spans
 pub mod Rows
 pub mod Measures
 pub mod Leaves
-pub mod Unaries

@@ -1,5 +1,5 @@
 -- Printing: the text of expressions and rules.
-use Rattle.std.specs.Prelude.{ℕ, ◌-◌, Bool, true, false, not, List, [], ◌∷◌, ◌++◌, ltb, get_or}
+use Rattle.std.specs.Prelude.{ℕ, ◌-◌, Bool, true, false, not, List, [], ◌∷◌, ◌++◌, ltb, get_or, Option, Some, None}
 use Rattle.text.specs.Booleans.{choose, and, or}
 use Rattle.text.specs.Digits.{decimal}
 use Rattle.literal.specs.Literals.{shown, literal}
@@ -10,8 +10,6 @@ use Rattle.table.specs.declared.Unary.TheVariants.{PosPred, NegPred, Opt, Rep, R
 use Rattle.table.specs.declared.Op.{Op}
 use Rattle.table.specs.declared.Sort.{Sort}
 use Rattle.table.specs.declared.Sort.TheVariants.{Str, Insens, Ident, PushLiteral}
-use Rattle.table.specs.declared.End.{End}
-use Rattle.table.specs.declared.End.TheVariants.{Open, At}
 use Rattle.table.specs.Tree.{Atom, text, range, peek_slice, Wrap, plain, node_tag, Tree, leaf, one, two, Rule}
 use Rattle.table.specs.Regroup.{same_join}
 use Rattle.forms.specs.declared.Style.{Style}
@@ -119,9 +117,9 @@ character c = 39 ∷ (shown 39 c ++ (39 ∷ []))
 unfoldable pub signed : ℕ → List ℕ
 signed n = choose (ltb n 0x8000_0000) (λ u. decimal n) (λ u. 45 ∷ decimal (0x1_0000_0000 - n))
 
-abbrev pub end_text : End → List ℕ
-end_text Open = []
-end_text (At n) = signed n
+abbrev pub end_text : Option ℕ → List ℕ
+end_text None = []
+end_text (Some n) = signed n
 
 -- "s"; ^"s"; a name; PUSH_LITERAL("s")
 unfoldable pub sort_text : Sort → List ℕ → List ℕ
@@ -135,7 +133,7 @@ unfoldable pub range_text : ℕ → ℕ → List ℕ
 range_text x y = character x ++ (46 ∷ 46 ∷ character y)
 
 -- PEEK[x..y] and PEEK[x..]
-unfoldable pub slice_text : ℕ → End → List ℕ
+unfoldable pub slice_text : ℕ → Option ℕ → List ℕ
 slice_text x e = 80 ∷ 69 ∷ 69 ∷ 75 ∷ 91 ∷ (signed x ++ (46 ∷ 46 ∷ (end_text e ++ (93 ∷ []))))
 
 abbrev pub atom_text : Atom → List ℕ

@@ -1,4 +1,5 @@
 -- A character in a store and in the store cut short at e: it is the same, or it was cut.
+use Rattle.std.specs.Prelude.{Some}
 use Prim.Native.Nat.{ℕ, zero, suc, ◌-◌, ◌≤◌, ◌<◌}
 use mathlib.Core.Path.{◌≡◌, sym, ◌∙◌}
 use mathlib.Core.Bool.{false}
@@ -8,7 +9,6 @@ use lib.ListN.{get_or, take, drop, take-append-drop}
 use lib.Seq.{take-nil}
 use Rattle.text.specs.Booleans.{within}
 use Rattle.text.specs.Utf8.{char_of, Tail}
-use Rattle.text.specs.declared.Sequence.TheVariants.{Is}
 use Rattle.text.proofs.Tests.{within_low, within_high}
 use Rattle.text.proofs.Decodes.{Found, one, two, three, four, found}
 use Rattle.text.proofs.Encodes.{found_read}
@@ -42,10 +42,10 @@ shorter (suc (suc zero)) k (four l h t u v e s g) = absurd (omega arith)
 shorter (suc (suc (suc zero))) k (four l h t u v e s g) = absurd (omega arith)
 shorter (suc (suc (suc (suc m)))) k (four l h t u v e s g) = four l h t u v e s g
 
-pub cut_char : (st : List ℕ) (i e c n : ℕ) → char_of (drop i st) ≡ Is c n → n ≤ e - i → char_of (drop i (take e st)) ≡ Is c n
+pub cut_char : (st : List ℕ) (i e c n : ℕ) → char_of (drop i st) ≡ Some (c, n) → n ≤ e - i → char_of (drop i (take e st)) ≡ Some (c, n)
 cut_char st i e c n h l = rw (drop_take i e st) (found_read (shorter (e - i) l (found (drop i st) c n h)))
 
-pub uncut_char : (st : List ℕ) (i e c n : ℕ) → char_of (drop i (take e st)) ≡ Is c n → char_of (drop i st) ≡ Is c n
+pub uncut_char : (st : List ℕ) (i e c n : ℕ) → char_of (drop i (take e st)) ≡ Some (c, n) → char_of (drop i st) ≡ Some (c, n)
 uncut_char st i e c n h =
     let f = longer (drop (e - i) (drop i st)) (found (take (e - i) (drop i st)) c n (rw (drop_take i e st) at h)) in
     found_read (rw (take-append-drop (e - i) (drop i st)) at f)

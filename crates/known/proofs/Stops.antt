@@ -1,23 +1,20 @@
 -- Where the characters of a store stop tells of each of its parts whether it is UTF-8. The part and the store are gone through together,
 -- character by character (`part_ends`): the part ends at a character's end, or inside one, where a tail stands.
+use Rattle.std.specs.Prelude.{ℕ, Option, Some, None}
 use Prim.Native.Nat.{ℕ, zero, suc, ◌+◌, ◌-◌, ◌*◌, ◌/◌, ◌%◌, ◌≤◌, ◌<◌}
 use mathlib.Core.Path.{◌≡◌, refl, sym, ap, ◌∙◌}
 use mathlib.Core.Bool.{Bool, true, false, not}
 use mathlib.Core.List.{List}
 use mathlib.Core.Logic.{⊎_elim}
 use native.Mathlib.Omega.{arith}
-use lib.Dec.{ltb}
 use lib.ListN.{length, get_or, take, drop, length-drop, length-set}
 use lib.Seq.{length-take-le, get_or-drop, get_or-set_same, get_or-set_other}
 use borrow.Author.Tests.{lt-ltb, le-ltb, eq-eqb, ne_eqb}
 use Rattle.text.specs.Booleans.{within}
 use Rattle.text.specs.Scans.{sought, later}
 use Rattle.text.specs.Utf8.{char_of, seq_look, look_by, first_bad}
-use Rattle.text.specs.declared.Scan.{Scan}
-use Rattle.text.specs.declared.Scan.TheVariants.{Through, StopsAt}
-use Rattle.text.specs.declared.Sequence.{Sequence}
-use Rattle.text.specs.declared.Sequence.TheVariants.{Is, Broken}
-use Rattle.text.proofs.Tests.{lt_or_ge, within_high, within_yes}
+use Rattle.text.proofs.Tests.{lt_or_ge, within_yes}
+use Rattle.text.proofs.Pairs.{some_second}
 use Rattle.text.proofs.Walks.{sought_stop, sought_end}
 use Rattle.text.proofs.Decodes.{found, decoded}
 use Rattle.text.proofs.Encodes.{look_step, look_ascii}
@@ -27,7 +24,7 @@ use Rattle.known.proofs.Cuts.{cut_char, uncut_char, head_byte, tail_byte}
 -- ---- stops
 
 module _ (st : List ℕ) (i : ℕ) where
-  pub stop_step : (c n : ℕ) → i < length st → char_of (drop i st) ≡ Is c n → stop_from st i ≡ stop_from st (i + n)
+  pub stop_step : (c n : ℕ) → i < length st → char_of (drop i st) ≡ Some (c, n) → stop_from st i ≡ stop_from st (i + n)
   unfolding stop_from first_bad
   stop_step c n h e = ap (stop_of (length st)) (look_step st i c n h e)
 
@@ -35,7 +32,7 @@ module _ (st : List ℕ) (i : ℕ) where
   unfolding stop_from first_bad
   stop_ascii h a = ap (stop_of (length st)) (look_ascii st i h a)
 
-  pub stop_bad : i < length st → char_of (drop i st) ≡ Broken → stop_from st i ≡ i
+  pub stop_bad : i < length st → char_of (drop i st) ≡ None → stop_from st i ≡ i
   unfolding stop_from first_bad
   stop_bad h e = ap (stop_of (length st)) (sought_stop seq_look st i h (ap look_by e))
 
@@ -44,7 +41,7 @@ module _ (st : List ℕ) (i : ℕ) where
   stop_end h = ap (stop_of (length st)) (sought_end seq_look st i h)
 
 -- a character lies inside
-char_room : (st : List ℕ) (i c n : ℕ) → char_of (drop i st) ≡ Is c n → (1 ≤ n) × (n ≤ length st - i)
+char_room : (st : List ℕ) (i c n : ℕ) → char_of (drop i st) ≡ Some (c, n) → (1 ≤ n) × (n ≤ length st - i)
 char_room st i c n e =
     let d = decoded (drop i st) c n e in
     (d.some, omega (arith, d.inside, length-drop i st))
@@ -53,9 +50,9 @@ abbrev Between : List ℕ → ℕ → Type 0
 Between st i = (i ≤ stop_from st i) × (stop_from st i ≤ length st)
 
 between_by : (st : List ℕ) (d i : ℕ) → ((j : ℕ) → i < j → j ≤ length st → Between st j) → i < length st
-    → (x : Sequence) → char_of (drop i st) ≡ x → Between st i
-between_by st d i ih h Broken e = let s = stop_bad st i h e in (omega arith, omega arith)
-between_by st d i ih h (Is c n) e =
+    → (x : Option (ℕ × ℕ)) → char_of (drop i st) ≡ x → Between st i
+between_by st d i ih h None e = let s = stop_bad st i h e in (omega arith, omega arith)
+between_by st d i ih h (Some (c, n)) e =
     let r = char_room st i c n e in
     let s = stop_step st i c n h e in
     let b = ih (i + n) (omega (arith, r.0)) (omega (arith, r.1)) in
@@ -72,9 +69,9 @@ pub stop_between : (st : List ℕ) (i : ℕ) → i ≤ length st → (i ≤ stop
 stop_between st i h = between st (length st - i) i (omega arith) h
 
 -- past a place that isn't a stop a character begins
-clean_by : (st : List ℕ) (e : ℕ) → e < length st → (stop_from st e ≡ e → ⊥) → (x : Sequence) → char_of (drop e st) ≡ x → within 0x80 0xbf (get_or st e 0) ≡ false
-clean_by st e h g Broken q = absurd (g (stop_bad st e h q))
-clean_by st e h g (Is c n) q =
+clean_by : (st : List ℕ) (e : ℕ) → e < length st → (stop_from st e ≡ e → ⊥) → (x : Option (ℕ × ℕ)) → char_of (drop e st) ≡ x → within 0x80 0xbf (get_or st e 0) ≡ false
+clean_by st e h g None q = absurd (g (stop_bad st e h q))
+clean_by st e h g (Some (c, n)) q =
     let z : e + 0 ≡ e = omega arith in
     let b : get_or (drop e st) 0 0 ≡ get_or st e 0 = get_or-drop e st 0 0 ∙ ap (λ k. get_or st k 0) z in
     ap (within 0x80 0xbf) (sym b) ∙ head_byte (found (drop e st) c n q)
@@ -102,20 +99,20 @@ module _ (st : List ℕ) (stop e : ℕ) where
 
 -- ---- parts
 
-through_later : (i : ℕ) (r : Scan) → is_through (later i r) ≡ is_through r
-through_later i Through = refl
-through_later i (StopsAt k) = refl
+through_later : (i : ℕ) (r : Option ℕ) → is_through (later i r) ≡ is_through r
+through_later i None = refl
+through_later i (Some k) = refl
 
 module _ (st : List ℕ) (i e : ℕ) (l : e ≤ length st) where
   long : length (take e st) ≡ e
   long = length-take-le e st l
 
-  pub part_step : (c n : ℕ) → i < e → char_of (drop i st) ≡ Is c n → n ≤ e - i → is_part st i e ≡ is_part st (i + n) e
+  pub part_step : (c n : ℕ) → i < e → char_of (drop i st) ≡ Some (c, n) → n ≤ e - i → is_part st i e ≡ is_part st (i + n) e
   unfolding is_part first_bad
   part_step c n h q m =
       sym (through_later i (sought seq_look 0 (drop i (take e st)))) ∙ ap is_through (look_step (take e st) i c n (omega (arith, long)) (cut_char st i e c n q m)) ∙ through_later (i + n) (sought seq_look 0 (drop (i + n) (take e st)))
 
-  part_stop : i < e → char_of (drop i (take e st)) ≡ Broken → is_part st i e ≡ false
+  part_stop : i < e → char_of (drop i (take e st)) ≡ None → is_part st i e ≡ false
   unfolding is_part first_bad
   part_stop h q = sym (through_later i (sought seq_look 0 (drop i (take e st)))) ∙ ap is_through (sought_stop seq_look (take e st) i (omega (arith, long)) (ap look_by q))
 
@@ -124,25 +121,25 @@ module _ (st : List ℕ) (i e : ℕ) (l : e ≤ length st) where
   part_end h = sym (through_later i (sought seq_look 0 (drop i (take e st)))) ∙ ap is_through (sought_end seq_look (take e st) i (omega (arith, long)))
 
   -- what is bad in the store is bad in a part of it
-  bad_by : char_of (drop i st) ≡ Broken → (x : Sequence) → char_of (drop i (take e st)) ≡ x → char_of (drop i (take e st)) ≡ Broken
-  bad_by q Broken p = p
-  bad_by q (Is c n) p =
+  bad_by : char_of (drop i st) ≡ None → (x : Option (ℕ × ℕ)) → char_of (drop i (take e st)) ≡ x → char_of (drop i (take e st)) ≡ None
+  bad_by q None p = p
+  bad_by q (Some (c, n)) p =
       let u = uncut_char st i e c n p in
       let z : ◌≡◌ {A = ℕ} 0 1 = cc in
       absurd (omega arith)
 
-  pub part_bad : i < e → char_of (drop i st) ≡ Broken → is_part st i e ≡ false
+  pub part_bad : i < e → char_of (drop i st) ≡ None → is_part st i e ≡ false
   part_bad h q = part_stop h (bad_by q (char_of (drop i (take e st))) refl)
 
   -- a character that the part cuts is bad in it
-  cut_by : (c n : ℕ) → char_of (drop i st) ≡ Is c n → e - i < n → (x : Sequence) → char_of (drop i (take e st)) ≡ x → char_of (drop i (take e st)) ≡ Broken
-  cut_by c n q m Broken p = p
-  cut_by c n q m (Is d k) p =
+  cut_by : (c n : ℕ) → char_of (drop i st) ≡ Some (c, n) → e - i < n → (x : Option (ℕ × ℕ)) → char_of (drop i (take e st)) ≡ x → char_of (drop i (take e st)) ≡ None
+  cut_by c n q m None p = p
+  cut_by c n q m (Some (d, k)) p =
       let u = uncut_char st i e d k p in
-      let z : n ≡ k = cc in
+      let z : n ≡ k = some_second (sym q ∙ u) in
       absurd (omega (arith, (char_room (take e st) i d k p).1, long))
 
-  pub part_cut : (c n : ℕ) → i < e → char_of (drop i st) ≡ Is c n → e - i < n → is_part st i e ≡ false
+  pub part_cut : (c n : ℕ) → i < e → char_of (drop i st) ≡ Some (c, n) → e - i < n → is_part st i e ≡ false
   part_cut c n h q m = part_stop h (cut_by c n q m (char_of (drop i (take e st))) refl)
 
 -- ---- a part by the stop of its first character
@@ -161,7 +158,7 @@ end_here st e l =
 
 module _ (st : List ℕ) (e : ℕ) (l : e ≤ length st) where
   -- a character that goes past the end: a tail stands there
-  inside_char : (i c n : ℕ) → i < e → char_of (drop i st) ≡ Is c n → e - i < n → ends_at st (stop_from st i) e ≡ false
+  inside_char : (i c n : ℕ) → i < e → char_of (drop i st) ≡ Some (c, n) → e - i < n → ends_at st (stop_from st i) e ≡ false
   inside_char i c n h q m =
       let r = char_room st i c n q in
       let s = stop_step st i c n (omega arith) q in
@@ -171,11 +168,11 @@ module _ (st : List ℕ) (e : ℕ) (l : e ≤ length st) where
       let y : get_or (drop i st) (e - i) 0 ≡ get_or st e 0 = get_or-drop i st (e - i) 0 ∙ ap (λ k. get_or st k 0) z in
       ends_past st (stop_from st i) e true (omega (arith, b.0)) (ap (within 0x80 0xbf) (sym y) ∙ within_yes 0x80 0xbf _ t.0 t.1)
 
-  ends_by : (i : ℕ) → i < e → ((j : ℕ) → i < j → j < e → Ends st e j) → (x : Sequence) → char_of (drop i st) ≡ x → Ends st e i
-  ends_by i h ih Broken q =
+  ends_by : (i : ℕ) → i < e → ((j : ℕ) → i < j → j < e → Ends st e j) → (x : Option (ℕ × ℕ)) → char_of (drop i st) ≡ x → Ends st e i
+  ends_by i h ih None q =
       let s = stop_bad st i (omega arith) q in
       part_bad st i e l h q ∙ sym (ends_before st (stop_from st i) e (omega arith))
-  ends_by i h ih (Is c n) q =
+  ends_by i h ih (Some (c, n)) q =
       let r = char_room st i c n q in
       let s = stop_step st i c n (omega arith) q in
       ⊎_elim
@@ -197,21 +194,14 @@ module _ (st : List ℕ) (e : ℕ) (l : e ≤ length st) where
 -- ---- for the functions
 
 -- a stop that is known by the length of the character before it
-pub stop_by : (st : List ℕ) (i c n k s : ℕ) → i < length st → char_of (drop i st) ≡ Is c n → n ≡ k → s ≡ stop_from st (i + k) → s ≡ stop_from st i
+pub stop_by : (st : List ℕ) (i c n k s : ℕ) → i < length st → char_of (drop i st) ≡ Some (c, n) → n ≡ k → s ≡ stop_from st (i + k) → s ≡ stop_from st i
 stop_by st i c n k s h e q p = p ∙ ap (λ x. stop_from st (i + x)) (sym q) ∙ sym (stop_step st i c n h e)
 
 -- a character that has neither one byte nor two nor three has four
-pub stop_four : (st : List ℕ) (i c n s : ℕ) → i < length st → char_of (drop i st) ≡ Is c n → (n ≡ 1 → ⊥) → (n ≡ 2 → ⊥) → (n ≡ 3 → ⊥) → s ≡ stop_from st (i + 4) → s ≡ stop_from st i
+pub stop_four : (st : List ℕ) (i c n s : ℕ) → i < length st → char_of (drop i st) ≡ Some (c, n) → (n ≡ 1 → ⊥) → (n ≡ 2 → ⊥) → (n ≡ 3 → ⊥) → s ≡ stop_from st (i + 4) → s ≡ stop_from st i
 stop_four st i c n s h e p q r f =
     let d = decoded (drop i st) c n e in
     stop_by st i c n 4 s h e (omega (arith, d.some, d.few)) f
-
--- from 0x80 on a byte is no tail if it is above 0xbf
-pub above : (x : ℕ) → 0x80 ≤ x → not (within 0x80 0xbf x) ≡ ltb 191 x
-above x h = ⊎_elim
-    (λ l. ap not (within_high 0x80 0xbf x l) ∙ sym (lt-ltb 191 x l))
-    (λ g. ap not (within_yes 0x80 0xbf x h g) ∙ sym (le-ltb 191 x g))
-    (lt_or_ge 191 x)
 
 -- ---- the table, from the end on
 

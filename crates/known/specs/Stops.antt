@@ -1,19 +1,17 @@
 -- Where the characters of a store stop, and what that says of its parts.
-use Rattle.std.specs.Prelude.{ℕ, ◌+◌, ◌*◌, ◌/◌, ◌%◌, ◌<◌, ◌≡◌, Bool, true, false, not, List, ltb, eqb, length, get_or, take, drop, set}
+use Rattle.std.specs.Prelude.{ℕ, ◌+◌, ◌*◌, ◌/◌, ◌%◌, ◌<◌, ◌≡◌, Bool, true, false, not, List, ltb, eqb, length, get_or, take, drop, set, Option, Some, None}
 use Rattle.text.specs.Booleans.{choose, within}
 use Rattle.text.specs.Scans.{later}
 use Rattle.text.specs.Utf8.{first_bad}
-use Rattle.text.specs.declared.Scan.{Scan}
-use Rattle.text.specs.declared.Scan.TheVariants.{Through, StopsAt}
 
 -- where a walk stopped, or else a number
-abbrev pub stop_of : ℕ → Scan → ℕ
-stop_of n Through = n
-stop_of n (StopsAt k) = k
+abbrev pub stop_of : ℕ → Option ℕ → ℕ
+stop_of n None = n
+stop_of n (Some k) = k
 
-abbrev pub is_through : Scan → Bool
-is_through Through = true
-is_through (StopsAt i) = false
+abbrev pub is_through : Option ℕ → Bool
+is_through None = true
+is_through (Some i) = false
 
 -- where the characters from a place on stop: at the first bad sequence, or at the end
 unfoldable pub stop_from : List ℕ → ℕ → ℕ

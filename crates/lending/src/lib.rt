@@ -2,34 +2,40 @@
 // lent, and what is answered is told in numbers.
 #![tactic(auto)]
 
-ghost use Rattle.std.specs.Prelude.{◌≤◌};
-
 use forms::Style;
 use numbers::inner::{printed_numbers, read_numbers};
 use structure::{Edition, Level};
+use table::inner::layout::{NODE_SIZE, RULE_SIZE};
 
-// So much of a buffer, at most all of it.
-fn part(wanted: usize, all: usize) -> usize
-    ensures { result ≤ all }
-{
-    if wanted < all { wanted } else { all }
+// Tables to read: numbers, and the bytes of their texts.
+#[derive(Clone, Copy)]
+pub struct Tables<'a> {
+    pub nodes: &'a [u32],
+    pub rules: &'a [u32],
+    pub store: &'a [u8],
 }
 
-// Number, place, and the nodes, rules and store bytes used, with so many numbers and bytes lent.
+// How many numbers and bytes of the tables' buffers are lent, at most all of them.
+#[derive(Clone, Copy)]
+pub struct Room {
+    pub nodes: usize,
+    pub rules: usize,
+    pub store: usize,
+}
+
+// Number, place, and the nodes, rules and store bytes used, in the room lent.
 pub fn read_within(
     text: &[u8],
     edition: Edition,
     level: Level,
-    n: usize,
-    m: usize,
-    k: usize,
+    room: Room,
     nodes: &mut [u32],
     rules: &mut [u32],
     store: &mut [u8],
 ) -> [u64; 5] {
-    let a = part(n, nodes.len());
-    let b = part(m, rules.len());
-    let c = part(k, store.len());
+    let a = room.nodes.min(nodes.len());
+    let b = room.rules.min(rules.len());
+    let c = room.store.min(store.len());
     let reading = reader::read(
         text,
         edition,
@@ -42,15 +48,37 @@ pub fn read_within(
 }
 
 // Number, place and bytes used, with so many bytes lent.
-pub fn print_within(
-    style: Style,
-    nodes: &[u32],
-    rules: &[u32],
-    store: &[u8],
-    room: usize,
-    out: &mut [u8],
-) -> [u64; 3] {
-    let a = part(room, out.len());
-    let printed = printer::print(style, nodes, rules, store, &mut out[..a]);
+pub fn print_within(style: Style, tables: Tables, room: usize, out: &mut [u8]) -> [u64; 3] {
+    let a = room.min(out.len());
+    let printed = printer::print(
+        style,
+        tables.nodes,
+        tables.rules,
+        tables.store,
+        &mut out[..a],
+    );
     printed_numbers(printed)
+}
+
+// The parts of the tables' buffers that a reading says it used, and the parts behind them. No reading uses more than
+// 5,000 nodes or rules.
+pub fn parts<'a>(told: &[u64; 5], whole: Tables<'a>) -> Option<(Tables<'a>, Tables<'a>)> {
+    let [_, _, n, m, k] = *told;
+    if 5000 < n || 5000 < m {
+        return None;
+    }
+    let nodes = whole.nodes.split_at_checked(NODE_SIZE * n as usize)?;
+    let rules = whole.rules.split_at_checked(RULE_SIZE * m as usize)?;
+    let store = whole.store.split_at_checked(k as usize)?;
+    let used = Tables {
+        nodes: nodes.0,
+        rules: rules.0,
+        store: store.0,
+    };
+    let left = Tables {
+        nodes: nodes.1,
+        rules: rules.1,
+        store: store.1,
+    };
+    Some((used, left))
 }

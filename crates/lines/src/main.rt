@@ -8,9 +8,8 @@
 // changes nothing is proved beside them (`answers_first` and `answers_after` in crates/rows/proofs/Blocks.antt).
 #![tactic(auto)]
 
-ghost use Rattle.std.specs.Prelude.{◌≤◌, length};
+ghost use Rattle.std.specs.Prelude.{◌≤◌, length, IfOk};
 ghost use Rattle.program.specs.Input.{Within};
-ghost use Rattle.lines.specs.Turns.{Holds};
 
 use program::Input;
 use rows::Block;
@@ -22,39 +21,37 @@ use text::limits;
 
 const STEPS: u64 = 1000000;
 
-// Whether a refusal stands among the answers that were written; or the program is to end, and has told why.
+// A layout's tables, and the index of the rule that is run over the lines.
 #[derive(Clone, Copy)]
-enum Wrote {
-    All(bool),
-    Ended,
+struct Rule<'a> {
+    nodes: &'a [u32],
+    rules: &'a [u32],
+    store: &'a [u8],
+    start: usize,
 }
 
-// A place in a text, and whether there was a refusal so far; or the program is to end, and has told why.
+// A place in a text, and whether there was a refusal so far.
 #[derive(Clone, Copy)]
-enum Turn {
-    At(usize, bool),
-    Ended,
+struct Place {
+    at: usize,
+    refused: bool,
 }
 
-// A `?` for a byte that would spoil a line.
-fn plain(b: u8) -> u8 {
-    if b < 32 || b == 127 { b'?' } else { b }
-}
+// The program is to end, and has told why.
+#[derive(Clone, Copy)]
+struct Ended;
 
-fn make_plain(word: &mut [u8]) {
-    let mut i = 0;
-    while i < word.len() {
-        word[i] = plain(word[i]);
-        i += 1;
-    }
-}
-
-// Writes an argument on standard error.
+// Writes an argument on standard error, with a `?` for each byte that would spoil a line.
 fn complain_word(rt: &impl Env, i: usize) {
-    let mut word = io::large_buffer();
-    let n = program::word(rt, i, &mut word);
-    make_plain(&mut word);
-    io::write_all(2, &word[..n]);
+    let mut buffer = io::large_buffer();
+    let n = program::word(rt, i, &mut buffer);
+    let word = &mut buffer[..n];
+    for b in word.iter_mut() {
+        if b.is_ascii_control() {
+            *b = b'?';
+        }
+    }
+    io::write_all(2, word);
 }
 
 // What can't be run, in a line.
@@ -79,66 +76,46 @@ fn complain_rule(rt: &impl Env) {
 }
 
 // Writes the answers to the first lines of a text, and says where the others begin.
-fn answer_some(
-    rt: &impl Env,
-    nodes: &[u32],
-    rules: &[u32],
-    store: &[u8],
-    start: usize,
-    text: &[u8],
-    refused: bool,
-) -> Turn
-    ensures { Holds result (length text.now) }
+fn answer_some(rt: &impl Env, rule: Rule, text: &[u8]) -> Result<Place, Ended>
+    ensures { IfOk result (λ p. p.at ≤ length text.now) }
 {
     let mut out = [0u8; limits::STORE];
-    let block = rows::answer_block(nodes, rules, store, start, text, STEPS, &mut out);
+    let block = rows::answer_block(
+        rule.nodes, rule.rules, rule.store, rule.start, text, STEPS, &mut out,
+    );
     match block {
         Block::Lines {
             size,
             next,
-            refused: some,
+            refused,
         } => {
             if io::write_all(1, &out[..size]) {
-                return Turn::At(next, refused || some != 0);
+                return Ok(Place {
+                    at: next,
+                    refused: refused != 0,
+                });
             }
             program::fail(rt, b"lines", b": standard output could not be written\n");
-            Turn::Ended
         }
-        Block::Refused { number, place } => {
-            complain(rt, b" can't be run: ", number, place);
-            Turn::Ended
-        }
-        Block::NoRoom => {
-            program::fail(rt, b"lines", b": the answers have no room\n");
-            Turn::Ended
-        }
+        Block::Refused { number, place } => complain(rt, b" can't be run: ", number, place),
+        Block::NoRoom => program::fail(rt, b"lines", b": the answers have no room\n"),
     }
+    Err(Ended)
 }
 
-// Writes the answers to all lines of a text.
-fn answer(
-    rt: &impl Env,
-    nodes: &[u32],
-    rules: &[u32],
-    store: &[u8],
-    start: usize,
-    text: &[u8],
-    refused: bool,
-) -> Wrote {
+// Writes the answers to all lines of a text, and says whether there was a refusal.
+fn answer(rt: &impl Env, rule: Rule, text: &[u8]) -> Result<bool, Ended> {
     let mut at = 0;
-    let mut so_far = refused;
+    let mut refused = false;
     while at < text.len() {
-        let turn = answer_some(rt, nodes, rules, store, start, &text[at..], so_far);
-        let Turn::At(next, some) = turn else {
-            return Wrote::Ended;
-        };
-        so_far = some;
-        if next == 0 {
-            return Wrote::All(so_far);
+        let next = answer_some(rt, rule, &text[at..])?;
+        refused = refused || next.refused;
+        if next.at == 0 {
+            break;
         }
-        at += next;
+        at += next.at;
     }
-    Wrote::All(so_far)
+    Ok(refused)
 }
 
 // Reads once, behind the bytes that were kept. At the input's end there are no more than those.
@@ -152,112 +129,62 @@ fn read_more(input: &mut impl Read, text: &mut [u8], kept: usize) -> Input
     }
 }
 
-// Moves bytes to the front.
-fn keep(text: &mut [u8], from: usize, to: usize)
-    requires { to ≤ length text.old }
-{
-    let mut i = 0;
-    let mut k = from;
-    while k < to {
-        text[i] = text[k];
-        i += 1;
-        k += 1;
-    }
-}
-
-// Answers the last line, which has no end, and tells how all went.
-fn end(
-    rt: &impl Env,
-    nodes: &[u32],
-    rules: &[u32],
-    store: &[u8],
-    start: usize,
-    text: &[u8],
-    refused: bool,
-) {
-    let wrote = answer(rt, nodes, rules, store, start, text, refused);
-    let Wrote::All(some) = wrote else {
-        return;
-    };
-    if some {
-        program::tell(rt, b'1');
-    } else {
-        program::tell(rt, b'0');
-    }
-}
-
-// Reads once, answers the whole lines that have come, and keeps the rest: its end is the place.
+// Reads once, answers the whole lines that have come, and keeps the rest: its end is the place. Where nothing more
+// comes it answers the last line, which has no end, and tells how all went.
 fn take_turn(
     rt: &impl Env,
     input: &mut impl Read,
-    nodes: &[u32],
-    rules: &[u32],
-    store: &[u8],
-    start: usize,
+    rule: Rule,
     text: &mut [u8],
-    kept: usize,
-    refused: bool,
-) -> Turn
-    requires { kept ≤ length text.old }
-    ensures { Holds result (length text.new) }
+    kept: Place,
+) -> Result<Place, Ended>
+    requires { kept.at ≤ length text.old }
+    ensures { IfOk result (λ p. p.at ≤ length text.new) }
 {
-    let came = read_more(input, text, kept);
+    let came = read_more(input, text, kept.at);
     let Input::Bytes(have) = came else {
         program::fail(rt, b"lines", b": standard input could not be read\n");
-        return Turn::Ended;
+        return Err(Ended);
     };
-    if have == kept {
-        end(rt, nodes, rules, store, start, &text[..have], refused);
-        return Turn::Ended;
+    if have == kept.at {
+        let refused = answer(rt, rule, &text[..have])? || kept.refused;
+        program::tell(rt, if refused { b'1' } else { b'0' });
+        return Err(Ended);
     }
     let whole = rows::whole_lines(&text[..have]);
     if whole == 0 {
         if have == text.len() {
             program::fail(rt, b"lines", b": a line has more than 65,536 bytes\n");
-            return Turn::Ended;
+            return Err(Ended);
         }
-        return Turn::At(have, refused);
+        return Ok(Place { at: have, ..kept });
     }
-    let wrote = answer(rt, nodes, rules, store, start, &text[..whole], refused);
-    match wrote {
-        Wrote::All(some) => {
-            keep(text, whole, have);
-            Turn::At(have - whole, some)
-        }
-        Wrote::Ended => Turn::Ended,
-    }
+    let refused = answer(rt, rule, &text[..whole])? || kept.refused;
+    text.copy_within(whole..have, 0);
+    Ok(Place {
+        at: have - whole,
+        refused,
+    })
 }
 
-// All lines by the rule at an index. A line has at most one byte less than the buffer: a full buffer has a
-// whole line in it, or one that is too long.
-fn run(
-    rt: &impl Env,
-    input: &mut impl Read,
-    nodes: &[u32],
-    rules: &[u32],
-    store: &[u8],
-    start: usize,
-) {
+// All lines. A line has at most one byte less than the buffer: a full buffer has a whole line in it, or one that
+// is too long.
+fn run(rt: &impl Env, input: &mut impl Read, rule: Rule) {
     let mut text = [0u8; limits::TEXT + 1];
     // tables that can't be run are told before a line is waited for
-    let first = answer_some(rt, nodes, rules, store, start, b"", false);
-    let Turn::At(_, _) = first else {
+    if answer_some(rt, rule, b"").is_err() {
         return;
+    }
+    let mut kept = Place {
+        at: 0,
+        refused: false,
     };
-    let mut kept = 0;
-    let mut refused = false;
     // a proved loop has to end: no run uses up its turns
-    let mut turns = u64::MAX;
-    while turns > 0 {
-        let turn = take_turn(
-            rt, input, nodes, rules, store, start, &mut text, kept, refused,
-        );
-        let Turn::At(k, some) = turn else {
+    for _turn in 0..u64::MAX {
+        let Ok(next) = take_turn(rt, input, rule, &mut text, kept) else {
             return;
         };
-        kept = k;
-        refused = some;
-        turns -= 1;
+        kept = next;
     }
 }
 
@@ -287,10 +214,12 @@ fn main(rt: HostRuntime) {
         } => run(
             &rt,
             &mut rt.stdin(),
-            &nodes[..a],
-            &rules[..b],
-            &store[..c],
-            start,
+            Rule {
+                nodes: &nodes[..a],
+                rules: &rules[..b],
+                store: &store[..c],
+                start,
+            },
         ),
         Layout::Refused { number, place } => complain(&rt, b" is refused: ", number, place),
         Layout::NoRule => complain_rule(&rt),

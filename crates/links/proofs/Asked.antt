@@ -1,4 +1,5 @@
 -- Laws of the questions before any line, in their order.
+use Rattle.std.specs.Prelude.{ℕ, Option, Some, None}
 use mathlib.Core.Bool.{Bool, true, false}
 use mathlib.Core.Path.{◌≡◌, refl, sym, ap, ◌∙◌}
 use mathlib.Core.List.{List}
@@ -7,10 +8,9 @@ use native.Mathlib.Omega.{arith}
 use lib.Dec.{ltb}
 use borrow.Author.Tests.{lt-ltb, le-ltb, ltb-true}
 use Rattle.table.proofs.Booleans.{and_both, and_first, and_second, and_true, choose_false, choose_true}
-use Rattle.table.specs.declared.Fault.{Fault}
 use Rattle.table.specs.declared.TableCheck.{TableCheck}
 use Rattle.table.specs.declared.TableCheck.TheVariants as Table
-use Rattle.table.specs.Characters.{choose, fault_of}
+use Rattle.table.specs.Characters.{choose}
 use Rattle.table.specs.Record.{nodes_in, rules_in}
 use Rattle.table.specs.Check.{is_through, lowest, tables, Valid}
 use Rattle.table.proofs.Tables.{tables_valid}
@@ -19,32 +19,32 @@ use Rattle.links.specs.declared.Ready.TheVariants.{Yes, FalseTables, Unfit, NoRu
 use Rattle.links.specs.Program.{fit_at, own_at, known_at, named}
 use Rattle.links.specs.Ready.{ready_names, ready_nodes, ready_tables, ready_of}
 
+not_good : (x : TableCheck) (f : Unit {0} → Ready) → (x ≡ Table.Good → ⊥) → ready_tables x f ≡ FalseTables
+not_good Table.Good f h = absurd (h refl)
+not_good Table.Shape f h = refl
+not_good (Table.Node i) f h = refl
+not_good (Table.Rule k) f h = refl
+
 module _ (ns rs st : List ℕ) (start : ℕ) {x : TableCheck} (e : x ≡ tables ns rs st) where
-  past : {y : TableCheck} → x ≡ y → ready_of ns rs st start ≡ ready_tables y (λ u. ready_nodes (fault_of (lowest (fit_at ns) (nodes_in ns))) (λ u. ready_names ns rs st start))
+  past : {y : TableCheck} → x ≡ y → ready_of ns rs st start ≡ ready_tables y (λ u. ready_nodes (lowest (fit_at ns) (nodes_in ns)) (λ u. ready_names ns rs st start))
   unfolding ready_of
-  past q = ap (λ z. ready_tables z (λ u. ready_nodes (fault_of (lowest (fit_at ns) (nodes_in ns))) (λ u. ready_names ns rs st start))) (sym e ∙ q)
+  past q = ap (λ z. ready_tables z (λ u. ready_nodes (lowest (fit_at ns) (nodes_in ns)) (λ u. ready_names ns rs st start))) (sym e ∙ q)
 
-  pub ready_shape : x ≡ Table.Shape → FalseTables ≡ ready_of ns rs st start
-  ready_shape q = sym (past q)
-
-  pub ready_node : {i : ℕ} → x ≡ Table.Node i → FalseTables ≡ ready_of ns rs st start
-  ready_node q = sym (past q)
-
-  pub ready_rule : {i : ℕ} → x ≡ Table.Rule i → FalseTables ≡ ready_of ns rs st start
-  ready_rule q = sym (past q)
+  pub ready_false : (x ≡ Table.Good → ⊥) → FalseTables ≡ ready_of ns rs st start
+  ready_false h = sym (past refl ∙ not_good x _ h)
 
   module _ (g : x ≡ Table.Good) where
     pub ready_valid : Valid ns rs st
     ready_valid = tables_valid ns rs st (sym e ∙ g)
 
-    module _ {y : Fault} (f : y ≡ fault_of (lowest (fit_at ns) (nodes_in ns))) where
-      past_nodes : {z : Fault} → y ≡ z → ready_of ns rs st start ≡ ready_nodes z (λ u. ready_names ns rs st start)
+    module _ {y : Option ℕ} (f : y ≡ lowest (fit_at ns) (nodes_in ns)) where
+      past_nodes : {z : Option ℕ} → y ≡ z → ready_of ns rs st start ≡ ready_nodes z (λ u. ready_names ns rs st start)
       past_nodes q = past g ∙ ap (λ z. ready_nodes z (λ u. ready_names ns rs st start)) (sym f ∙ q)
 
-      pub ready_unfit : {i : ℕ} → y ≡ Fault.At i → Unfit i ≡ ready_of ns rs st start
+      pub ready_unfit : {i : ℕ} → y ≡ Some i → Unfit i ≡ ready_of ns rs st start
       ready_unfit q = sym (past_nodes q)
 
-      module _ (n : y ≡ Fault.None) where
+      module _ (n : y ≡ None) where
         no_names : named ns rs st start ≡ false → NoRule ≡ ready_of ns rs st start
         unfolding ready_names
         no_names q = sym (past_nodes n ∙ choose_false (named ns rs st start) _ _ q)
@@ -73,9 +73,9 @@ ready_tables_lem Table.Shape f e = let z : ◌≡◌ {A = ℕ} 0 1 = cc in absur
 ready_tables_lem (Table.Node i) f e = let z : ◌≡◌ {A = ℕ} 0 1 = cc in absurd (omega arith)
 ready_tables_lem (Table.Rule i) f e = let z : ◌≡◌ {A = ℕ} 0 1 = cc in absurd (omega arith)
 
-ready_nodes_lem : (t : Fault) (f : Unit {0} → Ready) → ready_nodes t f ≡ Yes → f tt ≡ Yes
-ready_nodes_lem Fault.None f e = e
-ready_nodes_lem (Fault.At i) f e = let z : ◌≡◌ {A = ℕ} 0 1 = cc in absurd (omega arith)
+ready_nodes_lem : (t : Option ℕ) (f : Unit {0} → Ready) → ready_nodes t f ≡ Yes → f tt ≡ Yes
+ready_nodes_lem None f e = e
+ready_nodes_lem (Some i) f e = let z : ◌≡◌ {A = ℕ} 0 1 = cc in absurd (omega arith)
 
 yes_true : (b : Bool) → choose b (λ u. Yes) (λ u. NoRule) ≡ Yes → b ≡ true
 yes_true true e = refl
@@ -90,6 +90,6 @@ pub ready_allows : (ns rs st : List ℕ) (start : ℕ) {r : Ready} → r ≡ rea
 unfolding ready_of ready_names named
 ready_allows ns rs st start e q =
     let t = ready_tables_lem (tables ns rs st) _ (sym e ∙ q) in
-    let n = ready_nodes_lem (fault_of (lowest (fit_at ns) (nodes_in ns))) _ t.1 in
+    let n = ready_nodes_lem (lowest (fit_at ns) (nodes_in ns)) _ t.1 in
     let b = yes_true (named ns rs st start) n in
     record { valid = tables_valid ns rs st t.0; there = ltb-true start (rules_in rs) (and_true (ltb start (rules_in rs)) _ b).0; names = b }

@@ -1,9 +1,10 @@
 -- Laws of names and links. Where each node's link is its name's, the table with links is the program; and where the tables aren't false,
 -- each node of it leads to nodes and into the store.
+use Rattle.std.specs.Prelude.{ℕ, Option, Some, None}
 use mathlib.Core.Bool.{Bool, true, false}
 use mathlib.Core.Path.{◌≡◌, refl, sym, ap, ◌∙◌, fun_ext, subst}
 use mathlib.Core.List.{List}
-use Prim.Native.Nat.{ℕ, zero, suc, ◌+◌, ◌*◌, ◌-◌, ◌≤◌, ◌<◌}
+use Prim.Native.Nat.{ℕ, suc, ◌+◌, ◌*◌, ◌-◌, ◌≤◌, ◌<◌}
 use native.Mathlib.Omega.{arith}
 use native.Mathlib.Decide.{dec_lt}
 use lib.Dec.{eqb, leb}
@@ -18,10 +19,7 @@ use Rattle.table.specs.declared.Leaf.TheVariants as Leaf
 use Rattle.table.specs.declared.Op.{Op}
 use Rattle.table.specs.declared.Node.{Node}
 use Rattle.table.specs.declared.Head.{Head}
-use Rattle.table.specs.declared.Named.{Named}
-use Rattle.table.specs.declared.Named.TheVariants.{By, Nobody}
-use Rattle.table.specs.Characters.{choose, Through, fault_of}
-use Rattle.table.specs.declared.Fault.TheVariants as Fault
+use Rattle.table.specs.Characters.{choose}
 use Rattle.table.specs.Record.{node_size, nodes_in, rules_in, part, node_of, node_at, root_at, name_at, head_at}
 use Rattle.table.specs.Check.{is_through, lowest, Valid}
 use Rattle.table.specs.Check as Check
@@ -31,13 +29,8 @@ use Rattle.table.proofs.Texts.{leaf_inside_lem, part_between}
 use Rattle.table.proofs.Tables.{sound_at}
 use Rattle.table.proofs.Names.{named_rule}
 use Rattle.table.proofs.Lowest.{lowest_more, lowest_bad}
-use Rattle.links.specs.declared.Most.TheVariants.{UpTo}
-use Rattle.links.specs.declared.Link.{Link}
-use Rattle.links.specs.declared.Link.TheVariants.{To, Nowhere}
-use Rattle.links.specs.declared.Mention.{Mention}
-use Rattle.links.specs.declared.Mention.TheVariants.{Name, NoName}
 use Rattle.links.specs.declared.Act.{Act}
-use Rattle.links.specs.declared.Act.TheVariants.{Call, Repeat, Unfit}
+use Rattle.links.specs.declared.Act.TheVariants.{Unfit}
 use Rattle.links.specs.Program.{any_name, linked, unary_act, act_of, link_by, link_for, mention_of, mention_link, link_at, number, program, linked_at, is_fit, fit_at, is_to, known_at, is_by, own_at, Linked, Rooted, Inside, Leads, Runnable}
 
 -- ---- the table with links is the program
@@ -58,10 +51,6 @@ linked_program ns rs st ls w h = fun_ext (λ i. at i (dec_lt i (nodes_in ns)))
     at i (yes l) = ap (act_of (node_at ns i)) (h.links i l)
     at i (no l) = let z = node_none ns i (omega arith) in ap (λ x. act_of x (get_or ls i 0)) z ∙ unknown_unfit _ ∙ sym (ap (λ x. act_of x (number (link_at ns rs st i))) z ∙ unknown_unfit _)
 
-pub linked_call : (l : ℕ) → (l ≡ 0 → ⊥) → Call (l - 1) ≡ linked l
-linked_call zero h = absurd (h refl)
-linked_call (suc r) h = let z : suc r - 1 ≡ r = omega arith in ap Call z
-
 -- ---- where it leads
 
 leads_choose : (n s : ℕ) (b : Bool) (x y : Act) → Leads n s x → Leads n s y → Leads n s (choose b (λ u. x) (λ u. y))
@@ -81,18 +70,18 @@ leads_unary n s (Unary.RepMinMax k m) c h = leads_choose n s (leb k m) _ _ h tt
 leads_unary n s Unary.Push c h = tt
 
 module _ (ns rs st : List ℕ) (v : Valid ns rs st) where
-  leads_rule : (b : List ℕ) (r : Named) → rule_named rs st b ≡ r → Leads (nodes_in ns) (length st) (linked (number (link_by rs r)))
-  leads_rule b (By k) e = (sound_at v k (named_rule rs st b k e).0).rooted
-  leads_rule b Nobody e = tt
+  leads_rule : (b : List ℕ) (r : Option ℕ) → rule_named rs st b ≡ r → Leads (nodes_in ns) (length st) (linked (number (link_by rs r)))
+  leads_rule b (Some k) e = (sound_at v k (named_rule rs st b k e).0).rooted
+  leads_rule b None e = tt
 
-  leads_name : (b : List ℕ) (t : Bool) → Leads (nodes_in ns) (length st) (linked (number (choose t (λ u. To 0) (λ u. link_by rs (rule_named rs st b)))))
+  leads_name : (b : List ℕ) (t : Bool) → Leads (nodes_in ns) (length st) (linked (number (choose t (λ u. Some 0) (λ u. link_by rs (rule_named rs st b)))))
   leads_name b true = tt
   leads_name b false = leads_rule b (rule_named rs st b) refl
 
-  leads_link : (m : Mention) → Leads (nodes_in ns) (length st) (linked (number (mention_link rs st m)))
+  leads_link : (m : Option (ℕ × ℕ)) → Leads (nodes_in ns) (length st) (linked (number (mention_link rs st m)))
   unfolding link_for
-  leads_link (Name p n) = leads_name (part st p n) (same_text (part st p n) any_name)
-  leads_link NoName = tt
+  leads_link (Some (p, n)) = leads_name (part st p n) (same_text (part st p n) any_name)
+  leads_link None = tt
 
   module _ (i : ℕ) (l : i < nodes_in ns) where
     up : Check.SoundUpTo ns st (i + 1)
@@ -102,7 +91,7 @@ module _ (ns rs st : List ℕ) (v : Valid ns rs st) where
     unfolding act_of mention_of
     leads_at (Node.Tip (Leaf.Text Sort.Str p n)) k e q = leaf_inside_lem st Sort.Str p n (sound_tip ns st i up e)
     leads_at (Node.Tip (Leaf.Text Sort.Insens p n)) k e q = leaf_inside_lem st Sort.Insens p n (sound_tip ns st i up e)
-    leads_at (Node.Tip (Leaf.Text Sort.Ident p n)) k e q = subst (λ z. Leads (nodes_in ns) (length st) (linked z)) (sym q) (leads_link (Name p n))
+    leads_at (Node.Tip (Leaf.Text Sort.Ident p n)) k e q = subst (λ z. Leads (nodes_in ns) (length st) (linked z)) (sym q) (leads_link (Some (p, n)))
     leads_at (Node.Tip (Leaf.Text Sort.PushLiteral p n)) k e q = tt
     leads_at (Node.Tip (Leaf.Range a b)) k e q = tt
     leads_at (Node.Tip (Leaf.PeekSlice a b)) k e q = tt
@@ -125,7 +114,7 @@ module _ (ns rs st : List ℕ) (v : Valid ns rs st) where
     mention_in (Node.Two j a b) e = tt
     mention_in Node.Unknown e = tt
 
-    pub mention_inside : {x : Node} {m : Mention} → x ≡ node_at ns i → m ≡ mention_of x → Inside st m
+    pub mention_inside : {x : Node} {m : Option (ℕ × ℕ)} → x ≡ node_at ns i → m ≡ mention_of x → Inside st m
     mention_inside {x} {m} e q = subst (Inside st) (sym q) (mention_in x (sym e))
 
   pub sound_links : (ls : List ℕ) → Linked ns rs st ls → Runnable ns ls st
@@ -138,26 +127,26 @@ module _ (ns rs st : List ℕ) (v : Valid ns rs st) where
 -- ---- one name
 
 module _ (rs st b : List ℕ) {t : Bool} (e : t ≡ same_text b any_name) where
-  pub link_any : t ≡ true → To 0 ≡ link_for rs st b
+  pub link_any : t ≡ true → Some 0 ≡ link_for rs st b
   unfolding link_for
   link_any q = sym (choose_true (same_text b any_name) _ _ (sym e ∙ q))
 
-  module _ (q : t ≡ false) {r : Named} (f : r ≡ rule_named rs st b) where
+  module _ (q : t ≡ false) {r : Option ℕ} (f : r ≡ rule_named rs st b) where
     by_rule : link_for rs st b ≡ link_by rs r
     unfolding link_for
     by_rule = choose_false (same_text b any_name) _ _ (sym e ∙ q) ∙ ap (link_by rs) (sym f)
 
-    pub link_rule : {k root : ℕ} → r ≡ By k → root ≡ root_at rs k → To (root + 1) ≡ link_for rs st b
-    link_rule {k} {root} g w = let z : root + 1 ≡ suc (root_at rs k) = omega arith in sym (by_rule ∙ ap (link_by rs) g ∙ ap To (sym z))
+    pub link_rule : {k root : ℕ} → r ≡ Some k → root ≡ root_at rs k → Some (root + 1) ≡ link_for rs st b
+    link_rule {k} {root} g w = let z : root + 1 ≡ suc (root_at rs k) = omega arith in sym (by_rule ∙ ap (link_by rs) g ∙ ap Some (sym z))
 
-    pub link_nobody : r ≡ Nobody → Nowhere ≡ link_for rs st b
+    pub link_nobody : r ≡ None → None ≡ link_for rs st b
     link_nobody g = sym (by_rule ∙ ap (link_by rs) g)
 
-    pub rule_below : {k : ℕ} → r ≡ By k → k < rules_in rs
+    pub rule_below : {k : ℕ} → r ≡ Some k → k < rules_in rs
     rule_below {k} g = (named_rule rs st b k (sym f ∙ g)).0
 
 -- the link of a name that is a part of the store
-pub mention_named : (rs st : List ℕ) (m : Mention) (p n : ℕ) → m ≡ Name p n → {r : Link} → r ≡ link_for rs st (take (p + n - p) (drop p st)) → r ≡ mention_link rs st m
+pub mention_named : (rs st : List ℕ) (m : Option (ℕ × ℕ)) (p n : ℕ) → m ≡ Some (p, n) → {r : Option ℕ} → r ≡ link_for rs st (take (p + n - p) (drop p st)) → r ≡ mention_link rs st m
 mention_named rs st m p n e q = q ∙ ap (link_for rs st) (part_between st p n) ∙ sym (ap (mention_link rs st) e)
 
 -- ---- one rule's own name
@@ -170,89 +159,56 @@ module _ (rs st : List ℕ) (k : ℕ) (b : List ℕ) (n : b ≡ name_at rs st k)
   unfolding own_at
   own_any q = let z : same_text (name_at rs st k) any_name ≡ true = sym any_is ∙ q in rw z
 
-  module _ (q : t ≡ false) {r : Named} (f : r ≡ rule_named rs st b) where
-    own_is : {x : Named} → r ≡ x → own_at rs st k ≡ is_by x k
+  module _ (q : t ≡ false) {r : Option ℕ} (f : r ≡ rule_named rs st b) where
+    own_is : {x : Option ℕ} → r ≡ x → own_at rs st k ≡ is_by x k
     unfolding own_at
     own_is {x} g =
         let z : same_text (name_at rs st k) any_name ≡ false = sym any_is ∙ q in
         let w : rule_named rs st (name_at rs st k) ≡ x = sym (ap (rule_named rs st) n) ∙ sym f ∙ g in
         rw (z, w)
 
-    pub own_by : {j : ℕ} → r ≡ By j → eqb j k ≡ own_at rs st k
+    pub own_by : {j : ℕ} → r ≡ Some j → eqb j k ≡ own_at rs st k
     own_by g = sym (own_is g)
 
-    pub own_nobody : r ≡ Nobody → false ≡ own_at rs st k
+    pub own_nobody : r ≡ None → false ≡ own_at rs st k
     own_nobody g = sym (own_is g)
 
 -- ---- all tests passed so far, and no longer
 
 module _ (f : ℕ → Bool) (n i : ℕ) where
-  pub every_stop : i < n → lowest f i ≡ Through → f i ≡ false → false ≡ is_through (lowest f n)
+  pub every_stop : i < n → lowest f i ≡ None → f i ≡ false → false ≡ is_through (lowest f n)
   every_stop l h q = sym (ap is_through (lowest_bad f n i l h q))
 
-  pub every_end : n ≤ i → i ≤ n → lowest f i ≡ Through → true ≡ is_through (lowest f n)
+  pub every_end : n ≤ i → i ≤ n → lowest f i ≡ None → true ≡ is_through (lowest f n)
   every_end l m h = let e : i ≡ n = omega arith in sym (ap is_through (rw e at h))
 
-  pub fault_stop : i < n → lowest f i ≡ Through → f i ≡ false → Fault.At i ≡ fault_of (lowest f n)
-  fault_stop l h q = sym (ap fault_of (lowest_bad f n i l h q))
+  pub fault_stop : i < n → lowest f i ≡ None → f i ≡ false → Some i ≡ lowest f n
+  fault_stop l h q = sym (lowest_bad f n i l h q)
 
-  pub fault_end : n ≤ i → i ≤ n → lowest f i ≡ Through → Fault.None ≡ fault_of (lowest f n)
-  fault_end l m h = let e : i ≡ n = omega arith in sym (ap fault_of (rw e at h))
-
-pub fit_two : (j : Join) (a b : ℕ) → is_fit (act_of (Node.Two j a b) 0) ≡ true
-unfolding act_of
-fit_two Join.Seq a b = refl
-fit_two Join.Choice a b = refl
-
--- a minimum and a maximum fit if the one is at most the other
-pub fit_counts : (n m c : ℕ) → is_fit (unary_act (Unary.RepMinMax n m) c) ≡ leb n m
-fit_counts n m c = by (leb n m)
-  where
-    by : (b : Bool) → is_fit (choose b (λ u. Repeat c n (UpTo m)) (λ u. Unfit)) ≡ b
-    by true = refl
-    by false = refl
-
-pub fit_counted : {u : Unary} {n m : ℕ} → u ≡ Unary.RepMinMax n m → leb n m ≡ is_fit (unary_act u 0)
-fit_counted {n = n} {m = m} e = sym (ap (λ z. is_fit (unary_act z 0)) e ∙ fit_counts n m 0)
+  pub fault_end : n ≤ i → i ≤ n → lowest f i ≡ None → None ≡ lowest f n
+  fault_end l m h = let e : i ≡ n = omega arith in sym (rw e at h)
 
 pub fit_is : (ns : List ℕ) (i : ℕ) {x : Node} {b : Bool} → x ≡ node_at ns i → b ≡ is_fit (act_of x 0) → b ≡ fit_at ns i
 unfolding fit_at
 fit_is ns i e f = f ∙ ap (λ z. is_fit (act_of z 0)) e
 
--- the child doesn't matter
-pub fit_child : (u : Unary) (c : ℕ) → is_fit (unary_act u 0) ≡ is_fit (unary_act u c)
-fit_child Unary.PosPred c = refl
-fit_child Unary.NegPred c = refl
-fit_child Unary.Opt c = refl
-fit_child Unary.Rep c = refl
-fit_child Unary.RepOnce c = refl
-fit_child (Unary.RepExact n) c = refl
-fit_child (Unary.RepMin n) c = refl
-fit_child (Unary.RepMax n) c = refl
-fit_child (Unary.RepMinMax n m) c = fit_counts n m 0 ∙ sym (fit_counts n m c)
-fit_child Unary.Push c = refl
-
-pub fit_one : {x : Node} {o : Op} {u : Unary} {c : ℕ} {b : Bool} → x ≡ Node.One o c → o ≡ Op.Plain u → b ≡ is_fit (unary_act u 0) → b ≡ is_fit (act_of x 0)
-unfolding act_of
-fit_one {u = u} {c = c} e f g = g ∙ fit_child u c ∙ sym (ap (λ z. is_fit (act_of z 0)) (e ∙ ap (λ o. Node.One o c) f))
-
 -- ---- the links of the nodes below i are written
 
-pub record Some (ns rs st ls : List ℕ) (i : ℕ) : Type 0 where
+pub record LinkedUpTo (ns rs st ls : List ℕ) (i : ℕ) : Type 0 where
   pub long : length ls ≡ max_nodes
-  pub found : lowest (known_at ns rs st) i ≡ Through
+  pub found : lowest (known_at ns rs st) i ≡ None
   pub are : (k : ℕ) → k < i → get_or ls k 0 ≡ number (link_at ns rs st k)
 
-pub some_none : (ns rs st ls : List ℕ) → length ls ≡ max_nodes → Some ns rs st ls 0
+pub some_none : (ns rs st ls : List ℕ) → length ls ≡ max_nodes → LinkedUpTo ns rs st ls 0
 unfolding lowest
 some_none ns rs st ls h = record { long = h; found = refl; are = λ k l. absurd (omega arith) }
 
-module _ (ns rs st ls : List ℕ) (i : ℕ) (s : Some ns rs st ls i) {x : Node} {m : Mention} {y : Link} (a : x ≡ node_at ns i) (b : m ≡ mention_of x) (e : y ≡ mention_link rs st m) where
+module _ (ns rs st ls : List ℕ) (i : ℕ) (s : LinkedUpTo ns rs st ls i) {x : Node} {m : Option (ℕ × ℕ)} {y : Option ℕ} (a : x ≡ node_at ns i) (b : m ≡ mention_of x) (e : y ≡ mention_link rs st m) where
   link_is : y ≡ link_at ns rs st i
   unfolding link_at
   link_is = e ∙ ap (mention_link rs st) (b ∙ ap mention_of a)
 
-  pub some_more : (l : ℕ) → i < max_nodes → y ≡ To l → Some ns rs st (set ls i l) (i + 1)
+  pub some_more : (l : ℕ) → i < max_nodes → y ≡ Some l → LinkedUpTo ns rs st (set ls i l) (i + 1)
   unfolding known_at
   some_more l h q =
       record {
@@ -265,11 +221,11 @@ module _ (ns rs st ls : List ℕ) (i : ℕ) (s : Some ns rs st ls i) {x : Node} 
       go k z (yes w) = get_or-set_other ls i k l 0 (λ q. omega arith) ∙ s.are k w
       go k z (no w) = let y : k ≡ i = omega arith in rw y (get_or-set_same ls i l 0 (omega (arith, s.long)) ∙ sym (ap number (sym link_is ∙ q)))
 
-  pub some_stop : (n : ℕ) → n ≡ nodes_in ns → i < n → y ≡ Nowhere → false ≡ is_through (lowest (known_at ns rs st) (nodes_in ns))
+  pub some_stop : (n : ℕ) → n ≡ nodes_in ns → i < n → y ≡ None → false ≡ is_through (lowest (known_at ns rs st) (nodes_in ns))
   unfolding known_at
   some_stop n w h q = every_stop (known_at ns rs st) (nodes_in ns) i (omega arith) s.found (ap is_to (sym link_is ∙ q))
 
-pub some_linked : (ns rs st ls : List ℕ) (i n : ℕ) → Some ns rs st ls i → n ≡ nodes_in ns → n ≤ i → Linked ns rs st ls
+pub some_linked : (ns rs st ls : List ℕ) (i n : ℕ) → LinkedUpTo ns rs st ls i → n ≡ nodes_in ns → n ≤ i → Linked ns rs st ls
 some_linked ns rs st ls i n s w h = record { links = λ k l. s.are k (omega arith) }
 
 -- a rule's root

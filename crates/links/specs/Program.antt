@@ -1,5 +1,5 @@
 -- What each node asks of a line, with names looked up.
-use Rattle.std.specs.Prelude.{ℕ, zero, suc, ◌+◌, ◌≤◌, ◌<◌, Bool, true, false, not, ◌≡◌, List, [], ◌∷◌, eqb, leb, ltb, length, get_or}
+use Rattle.std.specs.Prelude.{ℕ, zero, suc, ◌+◌, ◌≤◌, ◌<◌, Bool, true, false, not, ◌≡◌, List, [], ◌∷◌, eqb, leb, ltb, length, get_or, Option, Some, None}
 use Rattle.table.specs.Characters.{max_nodes}
 use Rattle.table.specs.declared.Join.{Join}
 use Rattle.table.specs.declared.Unary.{Unary}
@@ -7,17 +7,10 @@ use Rattle.table.specs.declared.Sort.TheVariants as Sort
 use Rattle.table.specs.declared.Leaf.TheVariants as Leaf
 use Rattle.table.specs.declared.Op.TheVariants as Op
 use Rattle.table.specs.declared.Node.{Node}
-use Rattle.table.specs.declared.Named.{Named}
-use Rattle.table.specs.declared.Named.TheVariants.{By, Nobody}
 use Rattle.table.specs.Characters.{choose, and}
 use Rattle.table.specs.Record.{nodes_in, rules_in, part, node_at, name_at, root_at}
 use Rattle.table.specs.Check.{lowest, is_through}
 use Rattle.table.specs.Names.{same_text, rule_named}
-use Rattle.links.specs.declared.Most.TheVariants.{UpTo, NoEnd}
-use Rattle.links.specs.declared.Link.{Link}
-use Rattle.links.specs.declared.Link.TheVariants.{To, Nowhere}
-use Rattle.links.specs.declared.Mention.{Mention}
-use Rattle.links.specs.declared.Mention.TheVariants.{Name, NoName}
 use Rattle.links.specs.declared.Act.{Act}
 use Rattle.links.specs.declared.Act.TheVariants.{Text, Range, Any, Call, PosPred, NegPred, Seq, Choice, Repeat, Unfit}
 
@@ -34,13 +27,13 @@ linked (suc r) = Call r
 abbrev pub unary_act : Unary → ℕ → Act
 unary_act Unary.PosPred c = PosPred c
 unary_act Unary.NegPred c = NegPred c
-unary_act Unary.Opt c = Repeat c 0 (UpTo 1)
-unary_act Unary.Rep c = Repeat c 0 NoEnd
-unary_act Unary.RepOnce c = Repeat c 1 NoEnd
-unary_act (Unary.RepExact n) c = Repeat c n (UpTo n)
-unary_act (Unary.RepMin n) c = Repeat c n NoEnd
-unary_act (Unary.RepMax n) c = Repeat c 0 (UpTo n)
-unary_act (Unary.RepMinMax n m) c = choose (leb n m) (λ u. Repeat c n (UpTo m)) (λ u. Unfit)
+unary_act Unary.Opt c = Repeat c 0 (Some 1)
+unary_act Unary.Rep c = Repeat c 0 None
+unary_act Unary.RepOnce c = Repeat c 1 None
+unary_act (Unary.RepExact n) c = Repeat c n (Some n)
+unary_act (Unary.RepMin n) c = Repeat c n None
+unary_act (Unary.RepMax n) c = Repeat c 0 (Some n)
+unary_act (Unary.RepMinMax n m) c = choose (leb n m) (λ u. Repeat c n (Some m)) (λ u. Unfit)
 unary_act Unary.Push c = Unfit
 
 -- what a node asks, a name by its link. Kinds 5, 17, 18 and 19, and a minimum above its maximum, are unfit
@@ -58,37 +51,37 @@ act_of (Node.Two Join.Choice a b) l = Choice a b
 act_of Node.Unknown l = Unfit
 
 -- the link of a rule
-abbrev pub link_by : List ℕ → Named → Link
-link_by rs (By k) = To (suc (root_at rs k))
-link_by rs Nobody = Nowhere
+abbrev pub link_by : List ℕ → Option ℕ → Option ℕ
+link_by rs (Some k) = Some (suc (root_at rs k))
+link_by rs None = None
 
 -- the link of a name: ANY has a meaning of its own
-unfoldable pub link_for : List ℕ → List ℕ → List ℕ → Link
-link_for rs st b = choose (same_text b any_name) (λ u. To 0) (λ u. link_by rs (rule_named rs st b))
+unfoldable pub link_for : List ℕ → List ℕ → List ℕ → Option ℕ
+link_for rs st b = choose (same_text b any_name) (λ u. Some 0) (λ u. link_by rs (rule_named rs st b))
 
 -- the name that a node mentions; only kind 4 names
-unfoldable pub mention_of : Node → Mention
-mention_of (Node.Tip (Leaf.Text Sort.Ident p n)) = Name p n
-mention_of (Node.Tip (Leaf.Text Sort.Str p n)) = NoName
-mention_of (Node.Tip (Leaf.Text Sort.Insens p n)) = NoName
-mention_of (Node.Tip (Leaf.Text Sort.PushLiteral p n)) = NoName
-mention_of (Node.Tip (Leaf.Range a b)) = NoName
-mention_of (Node.Tip (Leaf.PeekSlice a e)) = NoName
-mention_of (Node.One o c) = NoName
-mention_of (Node.Two j a b) = NoName
-mention_of Node.Unknown = NoName
+unfoldable pub mention_of : Node → Option (ℕ × ℕ)
+mention_of (Node.Tip (Leaf.Text Sort.Ident p n)) = Some (p, n)
+mention_of (Node.Tip (Leaf.Text Sort.Str p n)) = None
+mention_of (Node.Tip (Leaf.Text Sort.Insens p n)) = None
+mention_of (Node.Tip (Leaf.Text Sort.PushLiteral p n)) = None
+mention_of (Node.Tip (Leaf.Range a b)) = None
+mention_of (Node.Tip (Leaf.PeekSlice a e)) = None
+mention_of (Node.One o c) = None
+mention_of (Node.Two j a b) = None
+mention_of Node.Unknown = None
 
 -- its link; 0 where there is no name
-abbrev pub mention_link : List ℕ → List ℕ → Mention → Link
-mention_link rs st (Name p n) = link_for rs st (part st p n)
-mention_link rs st NoName = To 0
+abbrev pub mention_link : List ℕ → List ℕ → Option (ℕ × ℕ) → Option ℕ
+mention_link rs st (Some (p, n)) = link_for rs st (part st p n)
+mention_link rs st None = Some 0
 
-unfoldable pub link_at : List ℕ → List ℕ → List ℕ → ℕ → Link
+unfoldable pub link_at : List ℕ → List ℕ → List ℕ → ℕ → Option ℕ
 link_at ns rs st i = mention_link rs st (mention_of (node_at ns i))
 
-abbrev pub number : Link → ℕ
-number (To l) = l
-number Nowhere = 0
+abbrev pub number : Option ℕ → ℕ
+number (Some l) = l
+number None = 0
 
 -- what the node at an index asks
 unfoldable pub program : List ℕ → List ℕ → List ℕ → ℕ → Act
@@ -116,17 +109,17 @@ unfoldable pub fit_at : List ℕ → ℕ → Bool
 fit_at ns i = is_fit (act_of (node_at ns i) 0)
 
 -- 32: a name means ANY or a rule
-abbrev pub is_to : Link → Bool
-is_to (To l) = true
-is_to Nowhere = false
+abbrev pub is_to : Option ℕ → Bool
+is_to (Some l) = true
+is_to None = false
 
 unfoldable pub known_at : List ℕ → List ℕ → List ℕ → ℕ → Bool
 known_at ns rs st i = is_to (link_at ns rs st i)
 
 -- a rule isn't called ANY, and no rule before it has its name
-abbrev pub is_by : Named → ℕ → Bool
-is_by (By j) k = eqb j k
-is_by Nobody k = false
+abbrev pub is_by : Option ℕ → ℕ → Bool
+is_by (Some j) k = eqb j k
+is_by None k = false
 
 unfoldable pub own_at : List ℕ → List ℕ → ℕ → Bool
 own_at rs st k = and (not (same_text (name_at rs st k) any_name)) (is_by (rule_named rs st (name_at rs st k)) k)
@@ -145,9 +138,9 @@ pub record Rooted (rs : List ℕ) : Type 0 where
   pub low : (k : ℕ) → k < rules_in rs → root_at rs k < max_nodes
 
 -- a mentioned name lies inside the store
-abbrev pub Inside : List ℕ → Mention → Type 0
-Inside st (Name p n) = p + n ≤ length st
-Inside st NoName = Unit {0}
+abbrev pub Inside : List ℕ → Option (ℕ × ℕ) → Type 0
+Inside st (Some (p, n)) = p + n ≤ length st
+Inside st None = Unit {0}
 
 -- what a visit asks of the node that it comes to: its children and its rule's root are nodes, its text lies inside the store
 abbrev pub Leads : ℕ → ℕ → Act → Type 0

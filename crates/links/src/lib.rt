@@ -5,13 +5,6 @@
 
 pub mod inner;
 
-// How often a repetition goes on at most.
-#[derive(Clone, Copy)]
-pub enum Most {
-    UpTo(u32),
-    NoEnd,
-}
-
 // What a node asks of a line: a text by offset and length, with or without ASCII case; children by their
 // indexes; a name by its rule's root.
 #[derive(Clone, Copy)]
@@ -24,22 +17,8 @@ pub enum Act {
     NegPred(usize),
     Seq(usize, usize),
     Choice(usize, usize),
-    Repeat(usize, u32, Most),
+    Repeat(usize, u32, Option<u32>),
     Unfit,
-}
-
-// The name that a node mentions, by offset and length.
-#[derive(Clone, Copy)]
-pub enum Mention {
-    Name(usize, usize),
-    NoName,
-}
-
-// One more than the root of a name's rule, and 0 for ANY.
-#[derive(Clone, Copy)]
-pub enum Link {
-    To(u16),
-    Nowhere,
 }
 
 // Tables, nodes and names that can be run, or what is refused of them.

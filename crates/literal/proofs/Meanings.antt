@@ -1,4 +1,5 @@
 -- The string that the inside of a literal means is UTF-8, if the inside is and no escape is bad.
+use Rattle.std.specs.Prelude.{ℕ, Option, Some, None}
 use Prim.Native.Nat.{ℕ, ◌+◌, ◌<◌}
 use mathlib.Core.Path.{◌≡◌, refl, sym, ap, ◌∙◌}
 use mathlib.Core.Bool.{Bool, true, false}
@@ -10,11 +11,8 @@ use lib.ListN.{length, take, drop, length-drop, take-append-drop}
 use borrow.Author.Tests.{eqb-true, eqb-false}
 use Rattle.text.specs.Scans.{spelled, sought}
 use Rattle.text.specs.Utf8.{scalar, encoded, seq_look, first_bad}
-use Rattle.text.specs.declared.Scan.TheVariants.{Through}
 use Rattle.text.proofs.Decodes.{encoded_one}
 use Rattle.text.proofs.Walks.{later_zero}
-use Rattle.literal.specs.declared.Escape.{Escape}
-use Rattle.literal.specs.declared.Escape.TheVariants.{Means, Plain}
 use Rattle.literal.specs.Escapes.{escape_of, escape_look_by, escape_look, bad_escape, escape_piece, unescaped}
 use Rattle.literal.proofs.Escaped.{meant, means_turn, plain_turn, means_look, plain_look, good_scalar}
 use Rattle.literal.proofs.Pieces.{later_good, over_bytes, over_rest, over_char, over_ascii, encoded_free, Char, first_char, shorter_by}
@@ -24,15 +22,15 @@ use Rattle.literal.proofs.Back.{plain_byte, bare_gives}
 record First (s : List ℕ) (c : ℕ) (rest : List ℕ) : Type 0 where
   gives : spelled escape_piece 0 s ≡ encoded c ++ spelled escape_piece 0 rest
   good : scalar c ≡ true
-  utf8 : first_bad rest ≡ Through
-  fine : bad_escape rest ≡ Through
+  utf8 : first_bad rest ≡ None
+  fine : bad_escape rest ≡ None
   less : length rest < length s
 
-module _ (x : ℕ) (xs : List ℕ) (g : first_bad (x ∷ xs) ≡ Through) (b : bad_escape (x ∷ xs) ≡ Through) where
+module _ (x : ℕ) (xs : List ℕ) (g : first_bad (x ∷ xs) ≡ None) (b : bad_escape (x ∷ xs) ≡ None) where
   here : 0 < length (x ∷ xs)
   here = omega arith
 
-  means_first : (c n : ℕ) → escape_of (x ∷ xs) ≡ Means c n → First (x ∷ xs) c (drop n (x ∷ xs))
+  means_first : (c n : ℕ) → escape_of (x ∷ xs) ≡ Some (c, n) → First (x ∷ xs) c (drop n (x ∷ xs))
   unfolding first_bad bad_escape
   means_first c n e =
       let s : List ℕ = x ∷ xs in
@@ -60,7 +58,7 @@ module _ (x : ℕ) (xs : List ℕ) (g : first_bad (x ∷ xs) ≡ Through) (b : b
         less = d.less;
       }
 
-  slash_first : (c : ℕ) (rest : List ℕ) → Char (x ∷ xs) c rest → escape_of (x ∷ xs) ≡ Plain → c ≡ 92 → First (x ∷ xs) c rest
+  slash_first : (c : ℕ) (rest : List ℕ) → Char (x ∷ xs) c rest → escape_of (x ∷ xs) ≡ None → c ≡ 92 → First (x ∷ xs) c rest
   unfolding bad_escape
   slash_first c rest d e n =
       let s : List ℕ = x ∷ xs in
@@ -76,18 +74,18 @@ module _ (x : ℕ) (xs : List ℕ) (g : first_bad (x ∷ xs) ≡ Through) (b : b
         less = d.less;
       }
 
-  plain_by : (c : ℕ) (rest : List ℕ) → Char (x ∷ xs) c rest → escape_of (x ∷ xs) ≡ Plain → (t : Bool) → eqb c 92 ≡ t → First (x ∷ xs) c rest
+  plain_by : (c : ℕ) (rest : List ℕ) → Char (x ∷ xs) c rest → escape_of (x ∷ xs) ≡ None → (t : Bool) → eqb c 92 ≡ t → First (x ∷ xs) c rest
   plain_by c rest d e true q = slash_first c rest d e (eqb-true c 92 q)
   plain_by c rest d e false q = char_first c rest d (eqb-false c 92 q)
 
-  first_by : (r : Escape) → escape_of (x ∷ xs) ≡ r → (c : ℕ) × (rest : List ℕ) × First (x ∷ xs) c rest
-  first_by (Means c n) e = (c, drop n (x ∷ xs), means_first c n e)
-  first_by Plain e =
+  first_by : (r : Option (ℕ × ℕ)) → escape_of (x ∷ xs) ≡ r → (c : ℕ) × (rest : List ℕ) × First (x ∷ xs) c rest
+  first_by (Some (c, n)) e = (c, drop n (x ∷ xs), means_first c n e)
+  first_by None e =
       let t = first_char x xs g in
       (t.0, t.1, plain_by t.0 t.1 t.2 e (eqb t.0 92) refl)
 
 MeansUtf8 : List ℕ → Type 0
-MeansUtf8 s = first_bad s ≡ Through → bad_escape s ≡ Through → first_bad (unescaped s) ≡ Through
+MeansUtf8 s = first_bad s ≡ None → bad_escape s ≡ None → first_bad (unescaped s) ≡ None
 
 step : (s : List ℕ) → ((t : List ℕ) → length t < length s → MeansUtf8 t) → MeansUtf8 s
 unfolding MeansUtf8 first_bad unescaped spelled sought
@@ -95,9 +93,9 @@ step [] ih g b = refl
 step (x ∷ xs) ih g b =
     let t = first_by x xs g b (escape_of (x ∷ xs)) refl in
     let d = t.2 in
-    let n : sought seq_look 0 (spelled escape_piece 0 t.1) ≡ Through = ih t.1 d.less d.utf8 d.fine in
+    let n : sought seq_look 0 (spelled escape_piece 0 t.1) ≡ None = ih t.1 d.less d.utf8 d.fine in
     ap (sought seq_look 0) d.gives ∙ (over_char t.0 d.good (spelled escape_piece 0 t.1) ∙ rw n)
 
-pub unescaped_utf8 : (s : List ℕ) → first_bad s ≡ Through → bad_escape s ≡ Through → first_bad (unescaped s) ≡ Through
+pub unescaped_utf8 : (s : List ℕ) → first_bad s ≡ None → bad_escape s ≡ None → first_bad (unescaped s) ≡ None
 unfolding MeansUtf8
 unescaped_utf8 = shorter_by MeansUtf8 step

@@ -1,4 +1,5 @@
 -- Walks that go past one text after another, whatever comes behind them; and strings character by character.
+use Rattle.std.specs.Prelude.{ℕ, Option, Some, None}
 use Prim.Native.Nat.{ℕ, zero, suc, ◌+◌, ◌-◌, ◌≤◌, ◌<◌}
 use mathlib.Core.Path.{◌≡◌, refl, sym, ap, ◌∙◌}
 use mathlib.Core.Bool.{true}
@@ -9,28 +10,22 @@ use lib.ListN.{length, drop, length-append, take-append-drop}
 use lib.Seq.{drop_at}
 use Rattle.text.specs.Scans.{Piece, spelled, sought, later}
 use Rattle.text.specs.Utf8.{scalar, encoded, char_of, look_by, seq_look, first_bad}
-use Rattle.text.specs.declared.Scan.{Scan}
-use Rattle.text.specs.declared.Scan.TheVariants.{Through, StopsAt}
-use Rattle.text.specs.declared.Look.{Look}
-use Rattle.text.specs.declared.Look.TheVariants.{Past}
-use Rattle.text.specs.declared.Sequence.{Sequence}
-use Rattle.text.specs.declared.Sequence.TheVariants.{Is, Broken}
 use Rattle.text.proofs.Decodes.{decoded, Found}
 use Rattle.text.proofs.Encodes.{encoded_read, found_read}
 use Rattle.text.proofs.Walks.{later_zero, later_later, past_head, sought_pending, head_step}
 use Rattle.text.proofs.Booleans.{choose_by}
 use Rattle.literal.proofs.Escaped.{Each, Ascii}
 
-pub later_good : (k : ℕ) (r : Scan) → later k r ≡ Through → r ≡ Through
-later_good k Through e = refl
-later_good k (StopsAt n) e = let z : ◌≡◌ {A = ℕ} 0 1 = cc in absurd (omega arith)
+pub later_good : (k : ℕ) (r : Option ℕ) → later k r ≡ None → r ≡ None
+later_good k None e = refl
+later_good k (Some n) e = let z : ◌≡◌ {A = ℕ} 0 1 = cc in absurd (omega arith)
 
 -- ---- a search goes past x
 
-abbrev pub Over : (List ℕ → Look) → List ℕ → Type 0
+abbrev pub Over : (List ℕ → Option ℕ) → List ℕ → Type 0
 Over p x = (ys : List ℕ) → sought p 0 (x ++ ys) ≡ later (length x) (sought p 0 ys)
 
-module _ (p : List ℕ → Look) where
+module _ (p : List ℕ → Option ℕ) where
   pub over_none : Over p []
   over_none ys = sym (later_zero (sought p 0 ys))
 
@@ -41,29 +36,29 @@ module _ (p : List ℕ → Look) where
       ∙ (ap (later (length x)) (b ys) ∙ (later_later (length x) (length y) (sought p 0 ys) ∙ ap (λ (n : ℕ). later n (sought p 0 ys)) (sym (length-append x y)))))
 
   -- one piece
-  pub over_piece : (x : List ℕ) → 1 ≤ length x → ((ys : List ℕ) → p (x ++ ys) ≡ Past (length x - 1)) → Over p x
+  pub over_piece : (x : List ℕ) → 1 ≤ length x → ((ys : List ℕ) → p (x ++ ys) ≡ Some (length x - 1)) → Over p x
   over_piece [] h e ys = absurd (omega arith)
   over_piece (x ∷ xs) h e ys =
       let k : suc (length xs) - 1 ≡ length xs = omega arith in
       let d : drop (length xs) (xs ++ ys) ≡ ys = drop_at xs ys (length xs) refl in
       let l : 1 + length xs ≡ suc (length xs) = omega arith in
-      past_head p x (xs ++ ys) (length xs) (e ys ∙ ap Past k)
+      past_head p x (xs ++ ys) (length xs) (e ys ∙ ap Some k)
       ∙ (ap (later 1) (sought_pending p (length xs) (xs ++ ys))
       ∙ (later_later 1 (length xs) (sought p 0 (drop (length xs) (xs ++ ys))) ∙ rw (d, l)))
 
   -- a piece for each byte
-  pub over_bytes : (P : ℕ → Type 0) → ((x : ℕ) (ys : List ℕ) → P x → p (x ∷ ys) ≡ Past 0) → (xs : List ℕ) → Each P xs → Over p xs
+  pub over_bytes : (P : ℕ → Type 0) → ((x : ℕ) (ys : List ℕ) → P x → p (x ∷ ys) ≡ Some 0) → (xs : List ℕ) → Each P xs → Over p xs
   over_bytes P f [] a = over_none
   over_bytes P f (x ∷ xs) a =
       over_append (x ∷ []) xs (over_piece (x ∷ []) (omega arith) (λ ys. f x ys a.0)) (over_bytes P f xs a.1)
 
   -- to the end
-  pub over_good : (x : List ℕ) → Over p x → sought p 0 x ≡ Through
+  pub over_good : (x : List ℕ) → Over p x → sought p 0 x ≡ None
   unfolding sought
   over_good x a = ap (sought p 0) (sym (append-nil x)) ∙ a []
 
   -- what comes behind is good if all is
-  pub over_rest : (x ys : List ℕ) → Over p x → sought p 0 (x ++ ys) ≡ Through → sought p 0 ys ≡ Through
+  pub over_rest : (x ys : List ℕ) → Over p x → sought p 0 (x ++ ys) ≡ None → sought p 0 ys ≡ None
   over_rest x ys a e = later_good (length x) (sought p 0 ys) (sym (a ys) ∙ e)
 
 -- ---- what x stands for
@@ -120,10 +115,10 @@ encoded_free b c h n =
 pub record Char (s : List ℕ) (c : ℕ) (rest : List ℕ) : Type 0 where
   pub is : encoded c ++ rest ≡ s
   pub good : scalar c ≡ true
-  pub next : first_bad rest ≡ Through
+  pub next : first_bad rest ≡ None
   pub less : length rest < length s
 
-char_first : (s : List ℕ) (c n : ℕ) → char_of s ≡ Is c n → first_bad s ≡ Through → Char s c (drop n s)
+char_first : (s : List ℕ) (c n : ℕ) → char_of s ≡ Some (c, n) → first_bad s ≡ None → Char s c (drop n s)
 unfolding first_bad
 char_first s c n e g =
     let d = decoded s c n e in
@@ -135,12 +130,12 @@ char_first s c n e g =
       less = omega (arith, encoded_some c d.good, length-append (encoded c) (drop n s), ap length i);
     }
 
-char_by_lem : (x : ℕ) (xs : List ℕ) (r : Sequence) → char_of (x ∷ xs) ≡ r → first_bad (x ∷ xs) ≡ Through → (c : ℕ) × (rest : List ℕ) × Char (x ∷ xs) c rest
+char_by_lem : (x : ℕ) (xs : List ℕ) (r : Option (ℕ × ℕ)) → char_of (x ∷ xs) ≡ r → first_bad (x ∷ xs) ≡ None → (c : ℕ) × (rest : List ℕ) × Char (x ∷ xs) c rest
 unfolding first_bad sought
-char_by_lem x xs Broken e g = let z : ◌≡◌ {A = ℕ} 0 1 = cc in absurd (omega arith)
-char_by_lem x xs (Is c n) e g = (c, drop n (x ∷ xs), char_first (x ∷ xs) c n e g)
+char_by_lem x xs None e g = let z : ◌≡◌ {A = ℕ} 0 1 = cc in absurd (omega arith)
+char_by_lem x xs (Some (c, n)) e g = (c, drop n (x ∷ xs), char_first (x ∷ xs) c n e g)
 
-pub first_char : (x : ℕ) (xs : List ℕ) → first_bad (x ∷ xs) ≡ Through → (c : ℕ) × (rest : List ℕ) × Char (x ∷ xs) c rest
+pub first_char : (x : ℕ) (xs : List ℕ) → first_bad (x ∷ xs) ≡ None → (c : ℕ) × (rest : List ℕ) × Char (x ∷ xs) c rest
 first_char x xs g = char_by_lem x xs (char_of (x ∷ xs)) refl g
 
 -- what holds of a text if it holds of all shorter ones holds of every text
@@ -153,13 +148,13 @@ module _ (P : List ℕ → Type 0) (f : (s : List ℕ) → ((t : List ℕ) → l
   shorter_by s = shorter_below (length s) s (omega arith)
 
 -- what holds of the empty string, and of a good string with one more character before it, holds of every good string
-module _ (P : List ℕ → Type 0) (z : P []) (f : (c : ℕ) (s : List ℕ) → scalar c ≡ true → first_bad s ≡ Through → P s → P (encoded c ++ s)) where
-  chars_step : (s : List ℕ) → ((t : List ℕ) → length t < length s → first_bad t ≡ Through → P t) → first_bad s ≡ Through → P s
+module _ (P : List ℕ → Type 0) (z : P []) (f : (c : ℕ) (s : List ℕ) → scalar c ≡ true → first_bad s ≡ None → P s → P (encoded c ++ s)) where
+  chars_step : (s : List ℕ) → ((t : List ℕ) → length t < length s → first_bad t ≡ None → P t) → first_bad s ≡ None → P s
   chars_step [] ih g = z
   chars_step (x ∷ xs) ih g =
       let t = first_char x xs g in
       let d = t.2 in
       rw d.is at (f t.0 t.1 d.good d.next (ih t.1 d.less d.next))
 
-  pub chars_by : (s : List ℕ) → first_bad s ≡ Through → P s
-  chars_by s g = shorter_by (λ (t : List ℕ). first_bad t ≡ Through → P t) chars_step s g
+  pub chars_by : (s : List ℕ) → first_bad s ≡ None → P s
+  chars_by s g = shorter_by (λ (t : List ℕ). first_bad t ≡ None → P t) chars_step s g

@@ -1,4 +1,5 @@
 -- Laws of printed strings.
+use Rattle.std.specs.Prelude.{ℕ, Option, Some, None}
 use Prim.Native.Nat.{ℕ, ◌+◌, ◌-◌, ◌<◌}
 use mathlib.Core.Path.{◌≡◌, refl, ap, ◌∙◌}
 use mathlib.Core.Bool.{Bool, true, false, not}
@@ -13,8 +14,6 @@ use Rattle.text.specs.Scans.{spelled}
 use Rattle.text.specs.Splice.{Room, Wrote, spent}
 use Rattle.text.specs.Utf8.{char_of, encoded}
 use Rattle.text.specs.Digits.{hexes}
-use Rattle.text.specs.declared.Sequence.{Sequence}
-use Rattle.text.specs.declared.Sequence.TheVariants.{Is, Broken}
 use Rattle.text.proofs.Tests.{lt_or_ge, at_byte, within_low, within_high, within_is}
 use Rattle.text.proofs.Decodes.{one, decoded, encoded_one}
 use Rattle.text.proofs.Encodes.{found_read, scalar_below}
@@ -26,7 +25,7 @@ use Rattle.literal.specs.declared.Show.TheVariants.{Pair, Bare, Hex}
 use Rattle.literal.specs.Literals.{hex_count, bare, bare_in, bare_byte, show_of, shown_by, shown, char_piece_by, char_piece, inside, literal}
 use Rattle.literal.proofs.Turns.{Turn}
 
-pub char_below : (xs : List ℕ) (c n : ℕ) → char_of xs ≡ Is c n → c < 0x110000
+pub char_below : (xs : List ℕ) (c n : ℕ) → char_of xs ≡ Some (c, n) → c < 0x110000
 char_below xs c n e = scalar_below c (decoded xs c n e).good
 
 -- ---- a character
@@ -103,13 +102,6 @@ pub byte_is : (q b : ℕ) → bare_byte q b ≡ and (within 0x20 0x7e b) (and (n
 byte_is q b =
     ⊎_elim (λ h. rw (lt-ltb b 0x80 h, bare_ascii b (omega arith))) (λ h. rw (le-ltb b 0x80 h, within_high 0x20 0x7e b (omega arith))) (lt_or_ge b 0x80)
 
--- a byte above 0x7e prints nothing bare, and no character above U+024F is bare
-pub byte_high : (q b : ℕ) → 126 < b → false ≡ bare_byte q b
-byte_high q b h = rw (byte_is q b, within_high 0x20 0x7e b h)
-
-pub bare_high : (c : ℕ) → 591 < c → false ≡ bare c
-bare_high c h = rw (within_high 0x20 0x7e c (omega arith), within_high 0xa1 0x24f c h)
-
 bare_shown : (q b : ℕ) → bare_byte q b ≡ true → (shown q b ≡ b ∷ []) × (b < 0x80)
 unfolding show_of
 bare_shown q b d =
@@ -121,20 +113,20 @@ bare_shown q b d =
 -- ---- a turn of the loops
 
 module _ (q : ℕ) (s : List ℕ) (i : ℕ) (h : i < length s) where
-  pub shown_turn : (c n : ℕ) → char_of (drop i s) ≡ Is c n → Turn (spelled (char_piece q) 0 (drop i s)) (shown q c) (spelled (char_piece q) 0 (drop (i + n) s))
+  pub shown_turn : (c n : ℕ) → char_of (drop i s) ≡ Some (c, n) → Turn (spelled (char_piece q) 0 (drop i s)) (shown q c) (spelled (char_piece q) 0 (drop (i + n) s))
   shown_turn c n e =
       let k : i + ((n - 1) + 1) ≡ i + n = omega (arith, (decoded (drop i s) c n e).some) in
       record {
         is =
-            spelled_step (char_piece q) s i (n - 1) (shown q c) h (ap (λ (x : Sequence). (char_piece_by q x).gives) e) (ap (λ (x : Sequence). (char_piece_by q x).more) e)
+            spelled_step (char_piece q) s i (n - 1) (shown q c) h (ap (λ (x : Option (ℕ × ℕ)). (char_piece_by q x).gives) e) (ap (λ (x : Option (ℕ × ℕ)). (char_piece_by q x).more) e)
             ∙ rw k;
       }
 
-  pub shown_skip : char_of (drop i s) ≡ Broken → spelled (char_piece q) 0 (drop i s) ≡ spelled (char_piece q) 0 (drop (i + 1) s)
-  shown_skip e = spelled_step (char_piece q) s i 0 [] h (ap (λ (x : Sequence). (char_piece_by q x).gives) e) (ap (λ (x : Sequence). (char_piece_by q x).more) e)
+  pub shown_skip : char_of (drop i s) ≡ None → spelled (char_piece q) 0 (drop i s) ≡ spelled (char_piece q) 0 (drop (i + 1) s)
+  shown_skip e = spelled_step (char_piece q) s i 0 [] h (ap (λ (x : Option (ℕ × ℕ)). (char_piece_by q x).gives) e) (ap (λ (x : Option (ℕ × ℕ)). (char_piece_by q x).more) e)
 
   pub bare_turn : bare_byte q (get_or s i 0) ≡ true → Turn (spelled (char_piece q) 0 (drop i s)) (get_or s i 0 ∷ []) (spelled (char_piece q) 0 (drop (i + 1) s))
   bare_turn b =
       let d = bare_shown q (get_or s i 0) b in
-      let e : char_of (drop i s) ≡ Is (get_or s i 0) 1 = rw (at_byte s i h) (found_read (one d.1)) in
+      let e : char_of (drop i s) ≡ Some (get_or s i 0, 1) = rw (at_byte s i h) (found_read (one d.1)) in
       record { is = (shown_turn (get_or s i 0) 1 e).is ∙ ap (λ (x : List ℕ). x ++ spelled (char_piece q) 0 (drop (i + 1) s)) d.0 }

@@ -1,20 +1,16 @@
 -- Literals as they are printed.
-use Rattle.std.specs.Prelude.{ℕ, ◌-◌, Bool, not, List, [], ◌∷◌, ◌++◌, leb, ltb, eqb, length}
+use Rattle.std.specs.Prelude.{ℕ, ◌-◌, Bool, not, List, [], ◌∷◌, ◌++◌, leb, ltb, eqb, length, Option, Some, None, Result, Ok, Err}
 use Rattle.text.specs.Booleans.{choose, and, or, within}
 use Rattle.text.specs.Scans.{Piece, spelled}
 use Rattle.text.specs.Splice.{fronted}
 use Rattle.text.specs.Utf8.{char_of, encoded, first_bad}
 use Rattle.text.specs.Digits.{hexes}
-use Rattle.text.specs.declared.Sequence.{Sequence}
-use Rattle.text.specs.declared.Sequence.TheVariants.{Is, Broken}
-use Rattle.text.specs.declared.Scan.{Scan}
-use Rattle.text.specs.declared.Scan.TheVariants.{Through, StopsAt}
 use Rattle.literal.specs.declared.Show.{Show}
 use Rattle.literal.specs.declared.Show.TheVariants.{Pair, Bare, Hex}
 use Rattle.literal.specs.declared.Quote.{Quote}
 use Rattle.literal.specs.declared.Quote.TheVariants.{Double, Single}
-use Rattle.literal.specs.declared.Formatted.{Formatted}
-use Rattle.literal.specs.declared.Formatted.TheVariants.{Wrote, NotUtf8, NoRoom}
+use Rattle.literal.specs.declared.FormatError.{FormatError}
+use Rattle.literal.specs.declared.FormatError.TheVariants.{NotUtf8, NoRoom}
 
 -- as many hex digits as the number needs but at least two
 unfoldable pub hex_count : ℕ → ℕ
@@ -54,9 +50,9 @@ shown_by Hex c = 92 ∷ 117 ∷ 123 ∷ (hexes (hex_count c) c ++ (125 ∷ []))
 unfoldable pub shown : ℕ → ℕ → List ℕ
 shown q c = shown_by (show_of q c) c
 
-abbrev pub char_piece_by : ℕ → Sequence → Piece
-char_piece_by q Broken = record { gives = []; more = 0 }
-char_piece_by q (Is c n) = record { gives = shown q c; more = n - 1 }
+abbrev pub char_piece_by : ℕ → Option (ℕ × ℕ) → Piece
+char_piece_by q None = record { gives = []; more = 0 }
+char_piece_by q (Some (c, n)) = record { gives = shown q c; more = n - 1 }
 
 abbrev pub char_piece : ℕ → List ℕ → Piece
 char_piece q xs = char_piece_by q (char_of xs)
@@ -74,16 +70,16 @@ abbrev pub quote_byte : Quote → ℕ
 quote_byte Double = 34
 quote_byte Single = 39
 
-abbrev pub format_by : Scan → ℕ → ℕ → Formatted
-format_by (StopsAt i) k n = NotUtf8 i
-format_by Through k n = choose (leb k n) (λ u. Wrote k) (λ u. NoRoom)
+abbrev pub format_by : Option ℕ → ℕ → ℕ → Result ℕ FormatError
+format_by (Some i) k n = Err (NotUtf8 i)
+format_by None k n = choose (leb k n) (λ u. Ok k) (λ u. Err NoRoom)
 
 -- what `fmt_literal` answers for a buffer of n bytes
-unfoldable pub format_of : List ℕ → Quote → ℕ → Formatted
+unfoldable pub format_of : List ℕ → Quote → ℕ → Result ℕ FormatError
 format_of s q n = format_by (first_bad s) (length (literal (quote_byte q) s)) n
 
 -- and what it leaves in the buffer
-unfoldable pub format_in : List ℕ → Quote → List ℕ → Formatted → List ℕ
-format_in s q o (Wrote n) = fronted (literal (quote_byte q) s) o
-format_in s q o (NotUtf8 i) = o
-format_in s q o NoRoom = o
+unfoldable pub format_in : List ℕ → Quote → List ℕ → Result ℕ FormatError → List ℕ
+format_in s q o (Ok n) = fronted (literal (quote_byte q) s) o
+format_in s q o (Err (NotUtf8 i)) = o
+format_in s q o (Err NoRoom) = o

@@ -11,15 +11,6 @@ ghost use Rattle.std.specs.Prelude.{◌≡◌, length, drop};
 ghost use Rattle.literal.specs.Escapes.{escape_of, unescape_of, unescape_in};
 ghost use Rattle.literal.specs.Literals.{format_of, format_in};
 
-use text::Scan;
-
-// An escape's number and its length, or no escape.
-#[derive(Clone, Copy)]
-pub enum Escape {
-    Means(u32, usize),
-    Plain,
-}
-
 // Hex digits that were read: their number, and how many they are.
 #[derive(Clone, Copy)]
 pub struct Digits {
@@ -42,73 +33,69 @@ pub enum Quote {
     Single,
 }
 
-// The string that was written, or the first fault: a byte that is no UTF-8, a backslash that begins
+// The first fault of the inside of a literal: a byte that is no UTF-8, a backslash that begins
 // no escape, an escape of no character; or no room.
-#[derive(Clone, Copy)]
-pub enum Unescaped {
-    Wrote(usize),
+#[derive(Clone, Copy, Debug, PartialEq, Eq)]
+pub enum UnescapeError {
     NotUtf8(usize),
     NoEscape(usize),
     NotScalar(usize),
     NoRoom,
 }
 
-// The literal that was written, or why none was.
-#[derive(Clone, Copy)]
-pub enum Formatted {
-    Wrote(usize),
+// Why no literal was written.
+#[derive(Clone, Copy, Debug, PartialEq, Eq)]
+pub enum FormatError {
     NotUtf8(usize),
     NoRoom,
 }
 
 // The escape at a place.
-pub fn escape_at(s: &[u8], at: usize) -> Escape
+#[tactic(auto, unfolding(crate::specs::Escapes::escape_of))]
+pub fn escape_at(s: &[u8], at: usize) -> Option<(u32, usize)>
     ensures { result ≡ escape_of (drop at s.now) }
 {
-    if s.len() <= at {
-        return Escape::Plain;
+    if s.len() <= at || s[at] != b'\\' {
+        return None;
     }
-    if s[at] != 92 {
-        return Escape::Plain;
-    }
-    inner::escapes::after_at(s, at + 1)
+    inner::escapes::after_of(&s[at + 1..])
 }
 
 // Writes the string that the inside of a literal means to the front of a buffer.
-pub fn unescape(s: &[u8], out: &mut [u8]) -> Unescaped
+pub fn unescape(s: &[u8], out: &mut [u8]) -> Result<usize, UnescapeError>
     ensures value { result ≡ unescape_of s.now (length out.old) }
     ensures out_after { out.new ≡ unescape_in s.now out.old result }
 {
     let utf8 = text::first_bad(s);
-    if let Scan::StopsAt(i) = utf8 {
-        return Unescaped::NotUtf8(i);
+    if let Some(i) = utf8 {
+        return Err(UnescapeError::NotUtf8(i));
     }
     let stray = inner::escapes::no_escape(s);
-    if let Scan::StopsAt(i) = stray {
-        return Unescaped::NoEscape(i);
+    if let Some(i) = stray {
+        return Err(UnescapeError::NoEscape(i));
     }
     let bad = inner::escapes::bad_escape(s);
-    if let Scan::StopsAt(i) = bad {
-        return Unescaped::NotScalar(i);
+    if let Some(i) = bad {
+        return Err(UnescapeError::NotScalar(i));
     }
     if inner::escapes::spend_unescaped(s, out.len() + 1) == 0 {
-        return Unescaped::NoRoom;
+        return Err(UnescapeError::NoRoom);
     }
-    Unescaped::Wrote(inner::escapes::put_unescaped(s, out, 0))
+    Ok(inner::escapes::put_unescaped(s, out, 0))
 }
 
 // Writes a string as a literal, quotes included, to the front of a buffer.
-pub fn fmt_literal(s: &[u8], quote: Quote, out: &mut [u8]) -> Formatted
+pub fn fmt_literal(s: &[u8], quote: Quote, out: &mut [u8]) -> Result<usize, FormatError>
     ensures value { result ≡ format_of s.now quote (length out.old) }
     ensures out_after { out.new ≡ format_in s.now quote out.old result }
 {
     let utf8 = text::first_bad(s);
-    if let Scan::StopsAt(i) = utf8 {
-        return Formatted::NotUtf8(i);
+    if let Some(i) = utf8 {
+        return Err(FormatError::NotUtf8(i));
     }
     let q = inner::shows::quote_byte(quote);
     if inner::shows::spend_literal(s, q, out.len() + 1) == 0 {
-        return Formatted::NoRoom;
+        return Err(FormatError::NoRoom);
     }
-    Formatted::Wrote(inner::shows::put_literal(s, q, out, 0))
+    Ok(inner::shows::put_literal(s, q, out, 0))
 }

@@ -1,11 +1,11 @@
 -- Laws of the answers: what a line's run gives, and what a call gives once its tables were asked about.
+use Rattle.std.specs.Prelude.{ℕ, Option, Some, None}
 use mathlib.Core.List.{List}
 use mathlib.Core.Path.{◌≡◌, sym, ap, ◌∙◌, subst}
 use Prim.Native.Nat.{ℕ, ◌-◌, ◌<◌}
 use native.Mathlib.Omega.{arith}
 use lib.ListN.{length}
-use Rattle.table.specs.declared.Fault.{Fault}
-use Rattle.table.specs.Characters.{first_bad, fault_of}
+use Rattle.table.specs.Characters.{first_bad}
 use Rattle.table.specs.Record.{nodes_in, rules_in, root_at}
 use Rattle.table.specs.Check.{Valid}
 use Rattle.table.proofs.Tables.{sound_at}
@@ -26,15 +26,15 @@ use Rattle.links.proofs.Asked.{ready_allows}
 
 -- ---- a line
 
-module _ (prog : ℕ → Act) (st : List ℕ) (root allowance : ℕ) (line : List ℕ) {y : Fault} (f : y ≡ fault_of (first_bad line)) where
-  by_fault : {z : Fault} → y ≡ z → line_of prog st root allowance line ≡ line_by z (λ u. reply allowance (visit prog st line max_visits allowance root 0))
+module _ (prog : ℕ → Act) (st : List ℕ) (root allowance : ℕ) (line : List ℕ) {y : Option ℕ} (f : y ≡ first_bad line) where
+  by_fault : {z : Option ℕ} → y ≡ z → line_of prog st root allowance line ≡ line_by z (λ u. reply allowance (visit prog st line max_visits allowance root 0))
   unfolding line_of
   by_fault q = ap (λ z. line_by z (λ u. reply allowance (visit prog st line max_visits allowance root 0))) (sym f ∙ q)
 
-  pub line_bad : {i : ℕ} → y ≡ Fault.At i → NotUtf8 i ≡ line_of prog st root allowance line
+  pub line_bad : {i : ℕ} → y ≡ Some i → NotUtf8 i ≡ line_of prog st root allowance line
   line_bad q = sym (by_fault q)
 
-  module _ (n : y ≡ Fault.None) {x : Outcome} (w : x ≡ visit prog st line max_visits allowance root 0) where
+  module _ (n : y ≡ None) {x : Outcome} (w : x ≡ visit prog st line max_visits allowance root 0) where
     ran : {z : Outcome} → x ≡ z → line_of prog st root allowance line ≡ reply allowance z
     ran q = by_fault n ∙ ap (reply allowance) (sym w ∙ q)
 

@@ -1,5 +1,6 @@
 -- What the code's branches give is what the definition says: one law for each return of a visit and of a repetition, and for each turn
 -- of their loops.
+use Rattle.std.specs.Prelude.{ℕ, Option}
 use mathlib.Core.Bool.{Bool, true, false}
 use Prim.Native.Nat.{ℕ, zero, suc, ◌+◌, ◌-◌, ◌≤◌, ◌<◌}
 use mathlib.Core.Path.{◌≡◌, refl, sym, ap, ◌∙◌, subst}
@@ -9,9 +10,8 @@ use native.Mathlib.Numerals.{add-one}
 use lib.Dec.{leb}
 use lib.ListN.{length, drop}
 use borrow.Author.Tests.{le-leb, lt-leb}
-use Rattle.table.specs.Characters.{choose, within, char_of, character}
+use Rattle.table.specs.Characters.{choose, within, char_of}
 use Rattle.table.specs.Record.{part, nodes_in}
-use Rattle.links.specs.declared.Most.{Most}
 use Rattle.links.specs.declared.Act.{Act}
 use Rattle.links.specs.declared.Act.TheVariants.{Text, Range, Any, Call, PosPred, NegPred, Seq, Choice, Repeat, Unfit}
 use Rattle.matcher.specs.declared.Outcome.{Outcome}
@@ -77,11 +77,11 @@ module _ (ns ls st line : List ℕ) (depth left i at : ℕ) (u : depth ≡ 0 →
   unfolding enter
   text_is z h = h ∙ sym (known z)
 
-  pub range_is : {a b : ℕ} {r : Outcome} → n ≡ Range a b → r ≡ one (within a b) (character (char_of (drop at line))) at (left - 1) → r ≡ whole
+  pub range_is : {a b : ℕ} {r : Outcome} → n ≡ Range a b → r ≡ one (within a b) (char_of (drop at line)) at (left - 1) → r ≡ whole
   unfolding enter
   range_is z h = h ∙ sym (known z)
 
-  pub any_is : {r : Outcome} → n ≡ Any → r ≡ one any_character (character (char_of (drop at line))) at (left - 1) → r ≡ whole
+  pub any_is : {r : Outcome} → n ≡ Any → r ≡ one any_character (char_of (drop at line)) at (left - 1) → r ≡ whole
   unfolding enter
   any_is z h = h ∙ sym (known z)
 
@@ -89,7 +89,7 @@ module _ (ns ls st line : List ℕ) (depth left i at : ℕ) (u : depth ≡ 0 →
   unfolding enter
   call_is z h = h ∙ sym (known z)
 
-  pub repeat_is : {c lo : ℕ} {hi : Most} {r : Outcome} → n ≡ Repeat c lo hi → r ≡ repeat go c lo hi 0 at (left - 1) → r ≡ whole
+  pub repeat_is : {c lo : ℕ} {hi : Option ℕ} {r : Outcome} → n ≡ Repeat c lo hi → r ≡ repeat go c lo hi 0 at (left - 1) → r ≡ whole
   unfolding enter
   repeat_is z h = h ∙ sym (known z)
 
@@ -152,14 +152,14 @@ module _ (ns ls st line : List ℕ) (depth left i at : ℕ) (u : depth ≡ 0 →
 -- ---- a repetition
 
 -- after n matches, that end at a place
-pub record Round (ns ls st line : List ℕ) (c lo : ℕ) (hi : Most) (start depth allowed at left n : ℕ) : Type 0 where
+pub record Round (ns ls st line : List ℕ) (c lo : ℕ) (hi : Option ℕ) (start depth allowed at left n : ℕ) : Type 0 where
   pub few : n + left ≤ allowed
   pub same : repeat (visit (linked_at ns ls) st line depth) c lo hi 0 start allowed ≡ repeat (visit (linked_at ns ls) st line depth) c lo hi n at left
 
-pub round_none : {ns ls st line : List ℕ} {c lo : ℕ} {hi : Most} {start depth allowed : ℕ} → Round ns ls st line c lo hi start depth allowed start allowed 0
+pub round_none : {ns ls st line : List ℕ} {c lo : ℕ} {hi : Option ℕ} {start depth allowed : ℕ} → Round ns ls st line c lo hi start depth allowed start allowed 0
 round_none = record { few = omega arith; same = refl }
 
-module _ {ns ls st line : List ℕ} {c lo : ℕ} {hi : Most} {start depth allowed at left n : ℕ} (t : Round ns ls st line c lo hi start depth allowed at left n) where
+module _ {ns ls st line : List ℕ} {c lo : ℕ} {hi : Option ℕ} {start depth allowed at left n : ℕ} (t : Round ns ls st line c lo hi start depth allowed at left n) where
   abbrev all : Outcome
   all = repeat (visit (linked_at ns ls) st line depth) c lo hi 0 start allowed
 

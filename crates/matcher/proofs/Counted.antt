@@ -1,10 +1,11 @@
 -- What a call's answer means, over the definition without allowance: a length or a none is given exactly where a run of the starting rule's
 -- root comes to it within the allowance, and 34 exactly where no run does.
+use Rattle.std.specs.Prelude.{None}
 use mathlib.Core.List.{List}
 use mathlib.Core.Path.{◌≡◌, refl, sym, ap, ◌∙◌}
 use Prim.Native.Nat.{ℕ, ◌+◌, ◌-◌, ◌≤◌, ◌<◌}
 use native.Mathlib.Omega.{arith}
-use Rattle.table.specs.Characters.{first_bad, fault_of, Through}
+use Rattle.table.specs.Characters.{first_bad}
 use Rattle.table.specs.Record.{root_at}
 use Rattle.links.specs.declared.Act.{Act}
 use Rattle.matcher.specs.declared.Outcome.{Outcome}
@@ -52,7 +53,7 @@ over_given k (Outcome.Missed l) q = let z : ◌≡◌ {A = ℕ} 0 1 = cc in absu
 over_given k Outcome.Over q = refl
 
 -- for tables and lines of which none of 30 to 33 is given
-module _ (ns rs st : List ℕ) (start : ℕ) (line : List ℕ) (ready : ready_of ns rs st start ≡ Ready.Yes) (utf8 : first_bad line ≡ Through) where
+module _ (ns rs st : List ℕ) (start : ℕ) (line : List ℕ) (ready : ready_of ns rs st start ≡ Ready.Yes) (utf8 : first_bad line ≡ None) where
   abbrev prog : ℕ → Act
   prog = program ns rs st
 
@@ -67,7 +68,7 @@ module _ (ns rs st : List ℕ) (start : ℕ) (line : List ℕ) (ready : ready_of
   unfolding match_of line_of
   answer_is a =
       ap (λ z. answer_by z (λ u. line_of (program ns rs st) st (root_at rs start) a line)) ready
-      ∙ ap (λ z. line_by (fault_of z) (λ u. reply a (visit (program ns rs st) st line max_visits a (root_at rs start) 0))) utf8
+      ∙ ap (λ z. line_by z (λ u. reply a (visit (program ns rs st) st line max_visits a (root_at rs start) 0))) utf8
 
   -- a run within the allowance is answered, with its steps
   pub counted_if : (a : ℕ) (v : Verdict) (n : ℕ) → Run v n → n ≤ a → match_of ns rs st start line a ≡ said v n

@@ -1,5 +1,6 @@
 -- A visit with an allowance gives what the definition without one comes to, and Over exactly where that needs more visits or steps:
 -- each run is given by a visit with as many steps (`complete`), and what a visit gives is a run (`sound`).
+use Rattle.std.specs.Prelude.{ℕ, Option, Some, None}
 use mathlib.Core.Bool.{Bool, true, false}
 use Prim.Native.Nat.{ℕ, zero, suc, ◌+◌, ◌-◌, ◌<◌}
 use mathlib.Core.Path.{◌≡◌, refl, sym, ap, ◌∙◌, subst}
@@ -8,15 +9,12 @@ use native.Mathlib.Omega.{arith}
 use lib.Dec.{leb}
 use native.Mathlib.Decide.{dec_lt}
 use Rattle.table.proofs.Booleans.{split}
-use Rattle.links.specs.declared.Most.{Most}
 use Rattle.links.specs.declared.Act.{Act}
 use Rattle.links.specs.declared.Act.TheVariants.{Text, Range, Any, Call, PosPred, NegPred, Seq, Choice, Repeat, Unfit}
 use Rattle.matcher.specs.declared.Outcome.{Outcome}
 use Rattle.matcher.specs.declared.Outcome.TheVariants.{Matched, Missed, Over}
 use lib.ListN.{drop}
-use Rattle.table.specs.declared.Character.{Character}
-use Rattle.table.specs.declared.Character.TheVariants.{Is, Broken}
-use Rattle.table.specs.Characters.{choose, within, char_of, character}
+use Rattle.table.specs.Characters.{choose, within, char_of}
 use Rattle.table.specs.Record.{part}
 use Rattle.matcher.specs.Match.{outcome_by, took, starts, one, any_character, full, repeat, enter, visit}
 use Rattle.matcher.specs.Runs.{Verdict, up_to, none, give, tested, tested_one, Task, node, inner, more, Runs, visited, text, range, any, call, pos, pos_not, neg, neg_not, seq, seq_not, choice, choice_not, repeated, unfit, filled, again, ended}
@@ -34,10 +32,10 @@ unfolding took
 took_give true e l = refl
 took_give false e l = refl
 
-one_give : (f : ℕ → Bool) (x : Character) (at l : ℕ) → one f x at l ≡ give (tested_one f x at) l
+one_give : (f : ℕ → Bool) (x : Option (ℕ × ℕ)) (at l : ℕ) → one f x at l ≡ give (tested_one f x at) l
 unfolding one
-one_give f (Is c n) at l = took_give (f c) (at + n) l
-one_give f Broken at l = refl
+one_give f (Some (c, n)) at l = took_give (f c) (at + n) l
+one_give f None at l = refl
 
 after_up_to : (m : Outcome) (f : ℕ → ℕ → Outcome) (g : ℕ → Outcome) {e l : ℕ} → m ≡ Matched e l → outcome_by m f g ≡ f e l
 unfolding outcome_by
@@ -51,7 +49,7 @@ module _ (prog : ℕ → Act) (st line : List ℕ) where
   abbrev vis : ℕ → ℕ → ℕ → ℕ → Outcome
   vis = visit prog st line
 
-  law : (d c lo : ℕ) (hi : Most) (n at k : ℕ) → repeat (vis d) c lo hi n at k ≡ choose (full hi n) (λ u. Matched at k) (λ u. outcome_by (vis d k c at) (λ e l. repeat (vis d) c lo hi (suc n) e l) (λ l. took (leb lo n) at l))
+  law : (d c lo : ℕ) (hi : Option ℕ) (n at k : ℕ) → repeat (vis d) c lo hi n at k ≡ choose (full hi n) (λ u. Matched at k) (λ u. outcome_by (vis d k c at) (λ e l. repeat (vis d) c lo hi (suc n) e l) (λ l. took (leb lo n) at l))
   law d c lo hi n at k = repeat_law (vis d) (visit_below prog st line d) c lo hi n at k
 
   -- what the definition comes to is given with as many steps, and the rest is left
@@ -59,8 +57,8 @@ module _ (prog : ℕ → Act) (st line : List ℕ) where
   unfolding act visit enter
   complete (visited {n = n} r) j = let z : suc n + j ≡ suc (n + j) = omega arith in rw z (complete r j)
   complete (text {f = f} {p = p} {n = n} {at = at}) j = let z : 0 + j ≡ j = omega arith in rw z (took_give (starts f (part st p n) (drop at line)) (at + n) j)
-  complete (range {a = a} {b = b} {at = at}) j = let z : 0 + j ≡ j = omega arith in rw z (one_give (within a b) (character (char_of (drop at line))) at j)
-  complete (any {at = at}) j = let z : 0 + j ≡ j = omega arith in rw z (one_give any_character (character (char_of (drop at line))) at j)
+  complete (range {a = a} {b = b} {at = at}) j = let z : 0 + j ≡ j = omega arith in rw z (one_give (within a b) (char_of (drop at line)) at j)
+  complete (any {at = at}) j = let z : 0 + j ≡ j = omega arith in rw z (one_give any_character (char_of (drop at line)) at j)
   complete (call r) j = complete r j
   complete (pos r) j = after_up_to _ _ _ (complete r j)
   complete (pos_not r) j = after_none _ _ _ (complete r j)
@@ -111,7 +109,7 @@ module _ (prog : ℕ → Act) (st line : List ℕ) where
       record { steps = n; runs = subst (λ z. Runs prog st line d t at z n) w.0 r; sum = omega (arith, w.1) }
 
   module _ (d : ℕ) (ih : (k i at : ℕ) (v : Verdict) (l : ℕ) → see d k i at ≡ give v l → Came prog st line d (node i) at v k l) where
-    sound_more : (c lo : ℕ) (hi : Most) (b n at k : ℕ) (v : Verdict) (l : ℕ) → k < b → repeat (see d) c lo hi n at k ≡ give v l → Came prog st line d (more c lo hi n) at v k l
+    sound_more : (c lo : ℕ) (hi : Option ℕ) (b n at k : ℕ) (v : Verdict) (l : ℕ) → k < b → repeat (see d) c lo hi n at k ≡ give v l → Came prog st line d (more c lo hi n) at v k l
     sound_more c lo hi zero n at k v l h q = absurd (omega arith)
     sound_more c lo hi (suc b) n at k v l h q =
         split (full hi n) _ _
@@ -131,10 +129,10 @@ module _ (prog : ℕ → Act) (st line : List ℕ) where
         let t = starts f (part st p n) (drop at line) in
         landed (tested t (at + n)) v k l (sym (took_give t (at + n) k) ∙ w) text (omega arith)
     sound_inner (Range a b) k at v l w =
-        let x = character (char_of (drop at line)) in
+        let x = char_of (drop at line) in
         landed (tested_one (within a b) x at) v k l (sym (one_give (within a b) x at k) ∙ w) range (omega arith)
     sound_inner Any k at v l w =
-        let x = character (char_of (drop at line)) in
+        let x = char_of (drop at line) in
         landed (tested_one any_character x at) v k l (sym (one_give any_character x at k) ∙ w) any (omega arith)
     sound_inner (Call r) k at v l w = let c = ih k r at v l w in record { steps = c.steps; runs = call c.runs; sum = c.sum }
     sound_inner (PosPred c) k at v l w =

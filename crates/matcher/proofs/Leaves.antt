@@ -2,6 +2,7 @@
 use mathlib.Core.Bool.{Bool, true, false}
 use Prim.Native.Nat.{ℕ, zero, suc, ◌+◌, ◌-◌, ◌≤◌, ◌<◌, max}
 use native.Mathlib.Decide.{dec_lt}
+use Rattle.std.specs.Char.{to_ascii_lowercase, eq_ignore_ascii_case}
 use mathlib.Core.Path.{◌≡◌, refl, sym, ◌∙◌}
 use mathlib.Core.List.{List, [], ◌∷◌}
 use native.Mathlib.Omega.{arith}
@@ -9,14 +10,12 @@ use native.Mathlib.Numerals.{add-one}
 use lib.Dec.{eqb, leb}
 use lib.ListN.{length, get_or, drop, length-take, length-drop}
 use lib.Seq.{drop-cons}
-use borrow.Author.Tests.{le-leb, lt-leb, ne_eqb}
+use borrow.Author.Tests.{lt-ltb, le-ltb, le-leb, lt-leb, ne_eqb}
 use Rattle.table.proofs.Booleans.{and_second}
-use Rattle.table.specs.declared.Character.{Character}
-use Rattle.table.specs.declared.Character.TheVariants.{Is, Broken}
-use Rattle.table.specs.Characters.{and, within}
+use Rattle.table.specs.Characters.{and}
 use Rattle.table.specs.Record.{part}
 use Rattle.matcher.specs.declared.Outcome.TheVariants.{Matched, Missed}
-use Rattle.matcher.specs.Match.{took, lower, alike, starts, one, any_character}
+use Rattle.matcher.specs.Match.{took, lower, alike, starts}
 
 pub took_true : {b : Bool} (e l : ℕ) → b ≡ true → Matched e l ≡ took b e l
 unfolding took
@@ -39,6 +38,18 @@ lower_above x h = let l : leb 65 x ≡ true = le-leb 65 x (omega arith) in rw (l
 pub lower_letter : (x : ℕ) → 65 ≤ x → x ≤ 90 → x + 32 ≡ lower x
 unfolding lower
 lower_letter x h l = rw (le-leb 65 x h, le-leb x 90 l)
+
+-- the library's lower case is the definition's
+lower_is : (x : ℕ) → to_ascii_lowercase x ≡ lower x
+lower_is x = go (dec_lt x 65) (dec_lt 90 x)
+  where
+    go : Dec (x < 65) → Dec (90 < x) → to_ascii_lowercase x ≡ lower x
+    go (yes h) d = rw (lt-ltb x 65 h) (lower_below x h)
+    go (no h) (yes d) = rw (le-ltb x 65 (omega arith), le-ltb x 91 (omega arith)) (lower_above x d)
+    go (no h) (no d) = rw (le-ltb x 65 (omega arith), lt-ltb x 91 (omega arith)) (lower_letter x (omega arith) (omega arith))
+
+pub alike_fold : (x y : ℕ) → eq_ignore_ascii_case x y ≡ alike true x y
+alike_fold x y = rw (sym (lower_is x), sym (lower_is y))
 
 -- ---- texts
 
@@ -110,27 +121,3 @@ module _ (f : Bool) (st : List ℕ) (p n : ℕ) (line : List ℕ) (at : ℕ) whe
 
   pub same_all : (j : ℕ) → Same f st p n line at j → n ≤ j → true ≡ starts f (part st p n) (drop at line)
   same_all j s l = sym (s.rest ∙ text_none f st (p + j) (n - j) line (at + j) (omega arith))
-
--- ---- characters
-
-module _ (x : Character) (at left : ℕ) where
-  pub any_in : (c n : ℕ) → x ≡ Is c n → Matched (at + n) left ≡ one any_character x at left
-  unfolding one took
-  any_in c n e = rw e
-
-  pub none_in : (f : ℕ → Bool) → x ≡ Broken → Missed left ≡ one f x at left
-  unfolding one
-  none_in f e = rw e
-
-  module _ (a b c n : ℕ) (e : x ≡ Is c n) where
-    pub range_under : c < a → Missed left ≡ one (within a b) x at left
-    unfolding one took
-    range_under h = rw (e, lt-leb a c h)
-
-    pub range_over : a ≤ c → b < c → Missed left ≡ one (within a b) x at left
-    unfolding one took
-    range_over h l = rw (e, le-leb a c h, lt-leb c b l)
-
-    pub range_in : a ≤ c → c ≤ b → Matched (at + n) left ≡ one (within a b) x at left
-    unfolding one took
-    range_in h l = rw (e, le-leb a c h, le-leb c b l)

@@ -351,7 +351,7 @@ module _ (f : List ℕ → Answer) where
         e ∙ front_sets o₀ (rows f (take m (lines t))) fits
         ∙ ap (λ k. rows f (take k (lines t)) ++ drop (length (rows f (take k (lines t)))) o₀) d.room
 
-    all_ran : k ≡ length (take m (lines t)) → at ≡ past m t → Ran k at ≡ ran_over t (length o₀)
+    all_ran : {n : ℕ} → n ≡ length (take m (lines t)) → at ≡ past m t → Ran n at ≡ ran_over t (length o₀)
     unfolding ran_over
     all_ran e g = rw (sym d.room) (cc)
 
@@ -372,8 +372,8 @@ module _ (f : List ℕ → Answer) where
       full-up : m - k ≡ 0
       full-up = omega arith
 
-      pub done_full : Ran k at ≡ ran_over t (length o₀)
-      done_full = all_ran (omega (arith, d.count, ap (λ z. length (take z (lines (drop at t)))) full-up)) (omega (arith, d.place, ap (λ z. past z (drop at t)) full-up, past_zero (drop at t)))
+      pub done_full : Ran m at ≡ ran_over t (length o₀)
+      done_full = all_ran (omega (arith, d.count, d.some, ap (λ z. length (take z (lines (drop at t)))) full-up)) (omega (arith, d.place, ap (λ z. past z (drop at t)) full-up, past_zero (drop at t)))
 
       pub now_full : o ≡ recorded f t o₀
       unfolding rows

@@ -1,4 +1,5 @@
 -- Laws of visits. A visit spends a step, so that a repetition has fewer rounds than steps, and its law needs no fuel.
+use Rattle.std.specs.Prelude.{ℕ, Option, Some, None}
 use mathlib.Core.Bool.{Bool, true, false}
 use Prim.Native.Nat.{ℕ, zero, suc, ◌+◌, ◌≤◌, ◌<◌}
 use mathlib.Core.Path.{◌≡◌, refl}
@@ -6,13 +7,10 @@ use mathlib.Core.List.{List}
 use native.Mathlib.Omega.{arith}
 use lib.Dec.{leb}
 use Rattle.table.proofs.Booleans.{choose_by, choose_cong}
-use Rattle.links.specs.declared.Most.{Most}
 use Rattle.links.specs.declared.Act.{Act}
 use Rattle.links.specs.declared.Act.TheVariants.{Text, Range, Any, Call, PosPred, NegPred, Seq, Choice, Repeat, Unfit}
 use Rattle.matcher.specs.declared.Outcome.{Outcome}
 use Rattle.matcher.specs.declared.Outcome.TheVariants.{Matched, Missed, Over}
-use Rattle.table.specs.declared.Character.{Character}
-use Rattle.table.specs.declared.Character.TheVariants.{Is, Broken}
 use Rattle.table.specs.Characters.{choose}
 use Rattle.matcher.specs.Match.{outcome_by, took, one, full, rounds, repeat, enter, visit}
 
@@ -38,10 +36,10 @@ unfolding took
 took_below true e l k h = h
 took_below false e l k h = h
 
-one_below : (f : ℕ → Bool) (x : Character) (at l k : ℕ) → l < k → Below k (one f x at l)
+one_below : (f : ℕ → Bool) (x : Option (ℕ × ℕ)) (at l k : ℕ) → l < k → Below k (one f x at l)
 unfolding one
-one_below f (Is c n) at l k h = took_below (f c) (at + n) l k h
-one_below f Broken at l k h = h
+one_below f (Some (c, n)) at l k h = took_below (f c) (at + n) l k h
+one_below f None at l k h = h
 
 pub after_cong : (m : Outcome) (f f' : ℕ → ℕ → Outcome) (g : ℕ → Outcome) → ((e l : ℕ) → m ≡ Matched e l → f e l ≡ f' e l) → outcome_by m f g ≡ outcome_by m f' g
 unfolding outcome_by
@@ -59,7 +57,7 @@ fewer (Missed l) k b q = let z : ◌≡◌ {A = ℕ} 0 1 = cc in absurd (omega a
 fewer Over k b q = let z : ◌≡◌ {A = ℕ} 0 1 = cc in absurd (omega arith)
 
 module _ (go : ℕ → ℕ → ℕ → Outcome) (spends : Spends go) where
-  module _ (c lo : ℕ) (hi : Most) where
+  module _ (c lo : ℕ) (hi : Option ℕ) where
     rounds_below : (f n at k : ℕ) → Below (suc k) (rounds go c lo hi f n at k)
     unfolding rounds
     rounds_below zero n at k = tt

@@ -1,5 +1,6 @@
 -- A matched length parts the line between two characters. Every visit that begins at such a place ends at one: texts of the store are UTF-8,
 -- and so are bytes of the line that differ from them in ASCII case at most; ANY and ranges take whole characters.
+use Rattle.std.specs.Prelude.{ℕ, Option, Some, None}
 use mathlib.Core.Bool.{Bool, true, false}
 use mathlib.Core.Path.{◌≡◌, refl, sym, ap, ◌∙◌, subst}
 use mathlib.Core.List.{List, [], ◌∷◌, map}
@@ -16,8 +17,7 @@ use Rattle.table.specs.declared.Sort.TheVariants as Sort
 use Rattle.table.specs.declared.Leaf.TheVariants as Leaf
 use Rattle.table.specs.declared.Op.TheVariants as Op
 use Rattle.table.specs.declared.Node.{Node}
-use Rattle.table.specs.declared.Character.{Character}
-use Rattle.table.specs.Characters.{choose, within, char_of, character, first_bad, Through}
+use Rattle.table.specs.Characters.{choose, within, char_of, first_bad}
 use Rattle.table.specs.Record.{nodes_in, part, node_at}
 use Rattle.table.specs.Check.{Valid}
 use Rattle.table.specs.Check as Check
@@ -70,7 +70,7 @@ starts_lower (x ∷ xs) (y ∷ ys) e =
     let r = starts_lower xs ys b.1 in
     (ap (λ z. z ∷ map lower (take (length xs) ys)) p ∙ ap (λ z. lower x ∷ z) r.0, omega (arith, r.1))
 
-starts_good : (f : Bool) (xs ys : List ℕ) → first_bad xs ≡ Through → starts f xs ys ≡ true → (first_bad (take (length xs) ys) ≡ Through) × (length xs ≤ length ys)
+starts_good : (f : Bool) (xs ys : List ℕ) → first_bad xs ≡ None → starts f xs ys ≡ true → (first_bad (take (length xs) ys) ≡ None) × (length xs ≤ length ys)
 starts_good false xs ys g e = let r = starts_same xs ys e in (ap first_bad r.0 ∙ g, r.1)
 starts_good true xs ys g e =
     let r = starts_lower xs ys e in
@@ -79,7 +79,7 @@ starts_good true xs ys g e =
 -- ---- texts of a program are UTF-8
 
 abbrev Fine : List ℕ → Act → Type 0
-Fine st (Text f p n) = (first_bad (part st p n) ≡ Through) × (p + n ≤ length st)
+Fine st (Text f p n) = (first_bad (part st p n) ≡ None) × (p + n ≤ length st)
 Fine st (Range a b) = Unit {0}
 Fine st Any = Unit {0}
 Fine st (Call r) = Unit {0}
@@ -162,15 +162,15 @@ module _ (prog : ℕ → Act) (st line : List ℕ) (fine : (i : ℕ) → Fine st
       let m : length (drop at line) ≡ length line - at = length-drop at line in
       edge_more line at t n (omega (arith, r.1, t.inside)) (rw k at r.0))
 
-  lands_one : (f : ℕ → Bool) (x : Character) (at : ℕ) → character (char_of (drop at line)) ≡ x → Edge line at → Lands (tested_one f x at)
-  lands_one f (Character.Is c n) at e t = lands_test (f c) (at + n) (λ h. edge_char line at t c n e)
-  lands_one f Character.Broken at e t = tt
+  lands_one : (f : ℕ → Bool) (x : Option (ℕ × ℕ)) (at : ℕ) → char_of (drop at line) ≡ x → Edge line at → Lands (tested_one f x at)
+  lands_one f (Some (c, n)) at e t = lands_test (f c) (at + n) (λ h. edge_char line at t c n e)
+  lands_one f None at e t = tt
 
   lands : {d : ℕ} {t : Task} {at : ℕ} {v : Verdict} {n : ℕ} → Runs prog st line d t at v n → FineTask t → Edge line at → Lands v
   lands (visited {i = i} r) g t = lands r (fine i) t
   lands (text {f = f} {p = p} {n = n} {at = at}) g t = lands_text f p n at g t
-  lands (range {a = a} {b = b} {at = at}) g t = lands_one (within a b) (character (char_of (drop at line))) at refl t
-  lands (any {at = at}) g t = lands_one any_character (character (char_of (drop at line))) at refl t
+  lands (range {a = a} {b = b} {at = at}) g t = lands_one (within a b) (char_of (drop at line)) at refl t
+  lands (any {at = at}) g t = lands_one any_character (char_of (drop at line)) at refl t
   lands (call r) g t = lands r tt t
   lands (pos r) g t = t
   lands (pos_not r) g t = tt
@@ -187,8 +187,8 @@ module _ (prog : ℕ → Act) (st line : List ℕ) (fine : (i : ℕ) → Fine st
   lands (ended {lo = lo} {k = k} {at = at} f r) g t = lands_test (leb lo k) at (λ h. t)
 
 -- a matched length is at most the line's, and what stands before it and behind it is UTF-8
-pub whole : (ns rs st : List ℕ) (start : ℕ) (line : List ℕ) (a e n : ℕ) → ready_of ns rs st start ≡ Yes → first_bad line ≡ Through → match_of ns rs st start line a ≡ Matched e n
-    → (e ≤ length line) × (first_bad (take e line) ≡ Through) × (first_bad (drop e line) ≡ Through)
+pub whole : (ns rs st : List ℕ) (start : ℕ) (line : List ℕ) (a e n : ℕ) → ready_of ns rs st start ≡ Yes → first_bad line ≡ None → match_of ns rs st start line a ≡ Matched e n
+    → (e ≤ length line) × (first_bad (take e line) ≡ None) × (first_bad (drop e line) ≡ None)
 whole ns rs st start line a e n y u q =
     let w = ready_allows ns rs st start (sym y) refl in
     let r = counted ns rs st start line y u a (up_to e) n q in

@@ -1,8 +1,6 @@
 -- The answers: refusals in their order, then what a run gives. Numbers 30 to 34.
-use Rattle.std.specs.Prelude.{List, ℕ, ◌-◌}
-use Rattle.table.specs.declared.Fault.{Fault}
-use Rattle.table.specs.declared.Fault.TheVariants.{None, At}
-use Rattle.table.specs.Characters.{first_bad, fault_of}
+use Rattle.std.specs.Prelude.{List, ℕ, ◌-◌, Option, Some, None}
+use Rattle.table.specs.Characters.{first_bad}
 use Rattle.table.specs.Record.{root_at}
 use Rattle.links.specs.declared.Act.{Act}
 use Rattle.matcher.specs.declared.Outcome.{Outcome}
@@ -24,14 +22,14 @@ reply k (Outcome.Missed l) = NoMatch (k - l)
 reply k Outcome.Over = Over
 
 -- 33 at the bad sequence
-abbrev pub line_by : Fault → (Unit {0} → Answer) → Answer
-line_by (At i) f = NotUtf8 i
+abbrev pub line_by : Option ℕ → (Unit {0} → Answer) → Answer
+line_by (Some i) f = NotUtf8 i
 line_by None f = f tt
 
 -- one line by a program, from a root: 33, then the run
 unfoldable pub line_of : (ℕ → Act) → List ℕ → ℕ → ℕ → List ℕ → Answer
 line_of prog st root allowance line =
-    line_by (fault_of (first_bad line)) (λ u. reply allowance (visit prog st line max_visits allowance root 0))
+    line_by (first_bad line) (λ u. reply allowance (visit prog st line max_visits allowance root 0))
 
 abbrev pub answer_by : Ready → (Unit {0} → Answer) → Answer
 answer_by Ready.Yes f = f tt

@@ -1,17 +1,15 @@
 -- The rule of a name, for callers that know rules by their names. 30 comes first, then 32.
-use Rattle.std.specs.Prelude.{List, ℕ}
+use Rattle.std.specs.Prelude.{List, ℕ, Option, Some, None}
 use Rattle.table.specs.declared.TableCheck.{TableCheck}
 use Rattle.table.specs.declared.TableCheck.TheVariants as Table
-use Rattle.table.specs.declared.Named.{Named}
-use Rattle.table.specs.declared.Named.TheVariants.{By, Nobody}
 use Rattle.table.specs.Check.{tables}
 use Rattle.table.specs.Names.{rule_named}
 use Rattle.replies.specs.declared.Found.{Found}
 use Rattle.replies.specs.declared.Found.TheVariants.{Rule, FalseTables, NoRule}
 
-abbrev pub found_by : Named → Found
-found_by (By k) = Rule k
-found_by Nobody = NoRule
+abbrev pub found_by : Option ℕ → Found
+found_by (Some k) = Rule k
+found_by None = NoRule
 
 -- anything but good from the check of whole tables is 30
 abbrev pub found_tables : TableCheck → (Unit {0} → Found) → Found

@@ -14,7 +14,7 @@ ghost use Rattle.matcher.specs.Sought.{found_of};
 
 use links::Ready;
 use replies::{Answer, Found, Lines};
-use table::{Named, TableCheck, limits};
+use table::{TableCheck, limits};
 
 // What a visit gives: the place after the match and the steps left, or the steps left where nothing
 // matched.
@@ -92,22 +92,12 @@ pub fn match_lines(
 pub fn rule_named(nodes: &[u32], rules: &[u32], store: &[u8], name: &[u8]) -> Found
     ensures { result ≡ found_of nodes.now rules.now store.now name.now }
 {
-    let check = table::check_tables(nodes, rules, store);
-    match check {
-        TableCheck::Good => {}
-        TableCheck::Shape => {
-            return Found::FalseTables;
-        }
-        TableCheck::Node(_) => {
-            return Found::FalseTables;
-        }
-        TableCheck::Rule(_) => {
-            return Found::FalseTables;
-        }
-    }
+    let TableCheck::Good = table::check_tables(nodes, rules, store) else {
+        return Found::FalseTables;
+    };
     let named = table::inner::names::rule_named(rules, store, name);
     match named {
-        Named::By(k) => Found::Rule(k),
-        Named::Nobody => Found::NoRule,
+        Some(k) => Found::Rule(k),
+        None => Found::NoRule,
     }
 }

@@ -10,90 +10,23 @@ const CHAIN: usize = NODE_SIZE * 1026;
 
 fn tell(answer: Answer) {
     let row = replies::row_of(answer);
-    io::write_all(1, b" ");
-    io::print_decimal(1, row.number);
-    io::write_all(1, b" ");
-    io::print_decimal(1, row.place);
-    io::write_all(1, b" ");
-    io::print_decimal(1, row.matched);
-    io::write_all(1, b" ");
-    io::print_decimal(1, row.length);
-    io::write_all(1, b" ");
-    io::print_decimal(1, row.steps);
+    vectors::write_numbers(&[row.number, row.place, row.matched, row.length, row.steps]);
 }
 
 fn tell_lines(lines: Lines) {
     let tally = replies::tally_of(lines);
-    io::write_all(1, b" ");
-    io::print_decimal(1, tally.number);
-    io::write_all(1, b" ");
-    io::print_decimal(1, tally.place);
-    io::write_all(1, b" ");
-    io::print_decimal(1, tally.lines);
-    io::write_all(1, b" ");
-    io::print_decimal(1, tally.next);
+    vectors::write_numbers(&[tally.number, tally.place, tally.lines, tally.next]);
 }
 
 fn tell_found(found: Found) {
     let finding = replies::finding_of(found);
-    io::write_all(1, b" ");
-    io::print_decimal(1, finding.number);
-    io::write_all(1, b" ");
-    io::print_decimal(1, finding.place);
-    io::write_all(1, b" ");
-    io::print_decimal(1, finding.rule);
+    vectors::write_numbers(&[finding.number, finding.place, finding.rule]);
 }
 
-fn write_records(records: &[u64]) {
-    let mut i = 0;
-    while i < records.len() {
-        io::write_all(1, b" ");
-        io::print_decimal(1, records[i]);
-        i += 1;
-    }
-}
-
-// m NODES RULES STORE START LINE ALLOWANCE
-fn run_match(
-    nodes: &[u32],
-    rules: &[u32],
-    store: &[u8],
-    start: usize,
-    line: &[u8],
-    allowance: u64,
-) {
-    tell(matcher::match_line(nodes, rules, store, start, line, allowance));
-}
-
+// m NODES RULES STORE START LINE ALLOWANCE; or, of many,
 // l NODES RULES STORE START TEXT ALLOWANCE ROOM, into numbers that stand at 7: the ones behind the room
 // stay. It writes the refusal's number and place, how many lines were run, where the next one begins, and
 // then all numbers.
-fn run_lines(
-    nodes: &[u32],
-    rules: &[u32],
-    store: &[u8],
-    start: usize,
-    text: &[u8],
-    allowance: u64,
-    room: usize,
-    records: &mut [u64],
-) {
-    if records.len() < room {
-        return;
-    }
-    let lines = matcher::match_lines(
-        nodes,
-        rules,
-        store,
-        start,
-        text,
-        allowance,
-        &mut records[..room],
-    );
-    tell_lines(lines);
-    write_records(records);
-}
-
 fn run_given(line: &[u8], many: bool) {
     let mut nodes = [0u32; 600];
     let mut rules = [0u32; 24];
@@ -107,27 +40,19 @@ fn run_given(line: &[u8], many: bool) {
     let m = vectors::numbers(vectors::word(line, 2), &mut rules);
     let k = vectors::unhex(vectors::word(line, 3), &mut store);
     let t = vectors::unhex(vectors::word(line, 5), &mut text);
-    if many {
-        run_lines(
-            &nodes[..n],
-            &rules[..m],
-            &store[..k],
-            start,
-            &text[..t],
-            allowance,
-            room,
-            &mut records,
-        );
+    let nodes = &nodes[..n];
+    let rules = &rules[..m];
+    let store = &store[..k];
+    let text = &text[..t];
+    if !many {
+        tell(matcher::match_line(nodes, rules, store, start, text, allowance));
         return;
     }
-    run_match(
-        &nodes[..n],
-        &rules[..m],
-        &store[..k],
-        start,
-        &text[..t],
-        allowance,
-    );
+    let Some(lent) = records.get_mut(..room) else {
+        return;
+    };
+    tell_lines(matcher::match_lines(nodes, rules, store, start, text, allowance, lent));
+    vectors::write_numbers(&records);
 }
 
 // n NODES RULES STORE NAME: the refusal's number and place, the index of the lowest rule of that name
@@ -144,64 +69,36 @@ fn run_named(line: &[u8]) {
 }
 
 // A string, and NegPred over NegPred.
-fn chain(nodes: &mut [u32]) {
-    if nodes.len() != CHAIN {
-        return;
-    }
+fn chain() -> [u32; CHAIN] {
+    let mut nodes = [0; CHAIN];
     nodes[0] = 1;
     nodes[3] = 1;
     nodes[4] = 1;
-    let mut i = 1;
-    while i < 1026 {
+    for i in 1..1026 {
         nodes[NODE_SIZE * i] = 7;
         nodes[NODE_SIZE * i + 3] = i as u32 - 1;
-        i += 1;
     }
-}
-
-fn prefix(nodes: &[u32], n: usize, allowance: u64) {
-    if nodes.len() < n {
-        return;
-    }
-    if n < NODE_SIZE {
-        return;
-    }
-    let root = n / NODE_SIZE - 1;
-    if 1026 < root {
-        return;
-    }
-    run_match(
-        &nodes[..n],
-        &[0, 1, 0, root as u32, 0, 0],
-        b"ra",
-        0,
-        b"a",
-        allowance,
-    );
+    nodes
 }
 
 // d N ALLOWANCE: as many times !, up to 1,025, before a string, over its own line
 fn run_deep(line: &[u8]) {
-    let mut nodes = [0u32; CHAIN];
-    chain(&mut nodes);
+    let nodes = chain();
     let n = vectors::number(vectors::word(line, 1));
-    if 1025 < n {
-        return;
+    let allowance = vectors::number(vectors::word(line, 2));
+    if n <= 1025 {
+        let nodes = &nodes[..NODE_SIZE * (n as usize + 1)];
+        let rules = [0, 1, 0, n as u32, 0, 0];
+        tell(matcher::match_line(nodes, &rules, b"ra", 0, b"a", allowance));
     }
-    prefix(
-        &nodes,
-        NODE_SIZE * (n as usize + 1),
-        vectors::number(vectors::word(line, 2)),
-    );
 }
 
 fn run_line(line: &[u8]) {
-    let op = vectors::word(line, 0);
     vectors::write(line);
-    if op.len() == 0 {
+    let Some(letter) = vectors::word(line, 0).first() else {
         return;
-    }
-    match op[0] {
+    };
+    match letter {
         b'm' => run_given(line, false),
         b'l' => run_given(line, true),
         b'd' => run_deep(line),
@@ -212,12 +109,5 @@ fn run_line(line: &[u8]) {
 }
 
 fn main() {
-    let mut input = io::large_buffer();
-    let n = io::read_full(0, &mut input);
-    let mut at = 0;
-    while at < n {
-        let end = vectors::line_end(&input[..n], at);
-        run_line(&input[at..end]);
-        at = end + 1;
-    }
+    vectors::run_lines(&mut io::large_buffer(), run_line);
 }

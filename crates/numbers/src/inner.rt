@@ -1,4 +1,6 @@
 // What each function answers, in the numbers that a caller in C is given; and the other way, what it gives.
+#![tactic(auto, unfolding(crate::specs::Numbers::level_of, crate::specs::Numbers::edition_of, printer::specs::Answers::numbered, reader::specs::Read::numbered))]
+
 ghost use Rattle.std.specs.Prelude.{◌≡◌};
 ghost use Rattle.token.specs.Lister.{numbers_of};
 ghost use Rattle.printer.specs.Answers.{numbered as printNumbered};
@@ -68,7 +70,7 @@ pub fn listed_numbers(at: usize, listed: Listed) -> [u64; 5]
     match listed {
         Listed::TooLong => [1, 0, 0, 0, 0],
         Listed::NotUtf8(place) => [2, place as u64, 0, 0, 0],
-        Listed::Next { kind, start, end } => [0, 0, kind as u64, start as u64, end as u64],
+        Listed::Next { kind, start, end } => [0, 0, u64::from(kind), start as u64, end as u64],
         Listed::End(n) => [0, 0, 0, n as u64, n as u64],
         Listed::NoToken(place) => [3, place as u64, 0, 0, 0],
     }

@@ -25,6 +25,7 @@ pub enum Printed {
 }
 
 // The number of an answer, as callers are told it; 0 is a text.
+#[tactic(auto, unfolding(crate::specs::Answers::numbered))]
 pub fn number_of(printed: Printed) -> u64
     ensures { result ≡ (numbered printed).number }
 {
@@ -43,8 +44,7 @@ pub fn print(style: Style, nodes: &[u32], rules: &[u32], store: &[u8], out: &mut
     ensures result_value { numbered result ≡ reported style nodes.now rules.now store.now (length out.old) }
     ensures out_after { out.new ≡ print_in style nodes.now rules.now store.now out.old result }
 {
-    let check = table::check_tables(nodes, rules, store);
-    match check {
+    match table::check_tables(nodes, rules, store) {
         TableCheck::Good => inner::walks::print_valid(style, nodes, rules, store, out),
         TableCheck::Shape => Printed::Shape,
         TableCheck::Node(i) => Printed::Node(i),

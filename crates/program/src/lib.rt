@@ -35,10 +35,7 @@ pub fn has_word(rt: &impl Env, i: usize) -> bool {
 pub fn word(rt: &impl Env, i: usize, buf: &mut [u8]) -> usize
     ensures { result ≤ length buf.new }
 {
-    match rt.arg(i, buf) {
-        Ok(n) => n,
-        Err(_) => 0,
-    }
+    rt.arg(i, buf).unwrap_or(0)
 }
 
 // Tells the launcher.
@@ -97,13 +94,10 @@ pub fn read_input(rt: &(impl Env + std::io::Input), name: &[u8], buf: &mut [u8])
     ensures { Within result (length buf.new) }
 {
     let input = fill(&mut rt.reader(), buf);
-    match input {
-        Input::Bytes(n) => Input::Bytes(n),
-        Input::Failed => {
-            fail(rt, name, b": standard input could not be read\n");
-            Input::Failed
-        }
+    if matches!(input, Input::Failed) {
+        fail(rt, name, b": standard input could not be read\n");
     }
+    input
 }
 
 // All that the programs desk and short do: a grammar from standard input, its text in a style or the line of its
@@ -122,7 +116,7 @@ pub fn print_input(rt: &(impl Env + std::io::Input), name: &[u8], style: Style) 
 fn write_output(rt: &impl Env, name: &[u8], out: &[u8], verdict: u8) {
     if io::write_all(1, out) {
         tell(rt, verdict);
-        return;
+    } else {
+        fail(rt, name, b": standard output could not be written\n");
     }
-    fail(rt, name, b": standard output could not be written\n");
 }

@@ -1,5 +1,6 @@
 -- A minimum above its maximum stands among the pieces if an operation has one, and only then. What a count is asked about stands with it in one
 -- operation, so that each unit brings what it holds, whatever stands behind it (`Brings`).
+use Rattle.std.specs.Prelude.{Some, None}
 use Prim.Native.Nat.{ℕ, zero, suc}
 use mathlib.Core.Path.{◌≡◌, refl, sym, ap, ◌∙◌}
 use mathlib.Core.Bool.{Bool, true, false, not}
@@ -14,7 +15,6 @@ use Rattle.table.specs.declared.Join.{Join}
 use Rattle.table.specs.declared.Join.TheVariants.{Seq, Choice}
 use Rattle.table.specs.declared.Unary.TheVariants.{PosPred, NegPred, Opt, Rep, RepOnce, RepExact, RepMin, RepMax, RepMinMax, Push}
 use Rattle.table.specs.declared.Sort.TheVariants.{Str, Insens, Ident, PushLiteral}
-use Rattle.table.specs.declared.End.TheVariants.{Open, At}
 use Rattle.table.specs.Tree.{Atom, text, range, peek_slice, Wrap, plain, node_tag, Tree, leaf, one, two, Rule}
 use Rattle.structure.specs.Counts.{small, positive, wrap_counts, counted, counted_rules}
 use Rattle.structure.specs.Values.{value_of, over_most}
@@ -45,8 +45,8 @@ brings_atom (text Insens t) ps = refl
 brings_atom (text Ident t) ps = refl
 brings_atom (text PushLiteral t) ps = refl
 brings_atom (range x y) ps = refl
-brings_atom (peek_slice x Open) ps = rw (and_second (eqb (signed_kind x) 20) false refl)
-brings_atom (peek_slice x (At y)) ps = rw (and_second (eqb (signed_kind x) 20) false refl, and_second (eqb (signed_kind y) 20) false refl)
+brings_atom (peek_slice x None) ps = rw (and_second (eqb (signed_kind x) 20) false refl)
+brings_atom (peek_slice x (Some y)) ps = rw (and_second (eqb (signed_kind x) 20) false refl, and_second (eqb (signed_kind y) 20) false refl)
 
 brings_before : (o : Wrap) → Brings (pieces_before o) false
 brings_before (plain PosPred) ps = refl

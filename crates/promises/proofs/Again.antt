@@ -1,5 +1,6 @@
 -- What was read prints, and its text is read again, unless that is too long or nests too deep: the rules of a reading are fine, their numbers are in
 -- bounds, in the order that the edition asks, and they fit the limits; so they come back from their text (Round).
+use Rattle.std.specs.Prelude.{None}
 use Prim.Native.Nat.{ℕ, ◌≤◌, ◌<◌}
 use mathlib.Core.Path.{◌≡◌, refl, sym, ap, ◌∙◌}
 use mathlib.Core.Bool.{Bool, true, false}
@@ -30,7 +31,6 @@ use Rattle.structure.specs.declared.Edition.{Edition}
 use Rattle.structure.specs.declared.Edition.TheVariants.{First, Second}
 use Rattle.structure.specs.declared.Level.{Level}
 use Rattle.structure.specs.declared.Level.TheVariants.{Tagged, Plain}
-use Rattle.structure.specs.declared.Fault.TheVariants as Fault
 use Rattle.structure.specs.Values.{faults}
 use Rattle.structure.specs.declared.Why.TheVariants.{NotAllowed}
 use Rattle.structure.specs.Structure.{rules, docs_in, grammar}
@@ -71,7 +71,7 @@ rules_push [] e = let z : ◌≡◌ {A = ℕ} 0 1 = cc in absurd (omega arith)
 rules_push (r ∷ us) e =
     or_by (pushing r.tree) (holds_push_literal us) e (λ h. Memᴰ.append_left (rules_values us) (tree_pushes r.tree h)) (λ h. Memᴰ.append_right (tree_values r.tree) (rules_push us h))
 
-none_pushed : (edition : Edition) (s : List ℕ) (us : List (Rule Span)) → grammar Plain s ≡ rules us → faults edition Plain s ≡ Fault.Sound → holds_push_literal us ≡ false
+none_pushed : (edition : Edition) (s : List ℕ) (us : List (Rule Span)) → grammar Plain s ≡ rules us → faults edition Plain s ≡ None → holds_push_literal us ≡ false
 none_pushed edition s us e f = go (holds_push_literal us) refl
   where
     go : (b : Bool) → holds_push_literal us ≡ b → holds_push_literal us ≡ false
@@ -129,7 +129,7 @@ rules_over [] e = no_test e
 rules_over (r ∷ us) e =
     and_by (wraps_pass wrap_ordered r.tree) _ e (λ h. over_left (rules_values us) (tree_over r.tree h)) (λ h. over_right (tree_values r.tree) (rules_over us h))
 
-ordered_by : (edition : Edition) (level : Level) (s : List ℕ) (us : List (Rule Span)) → grammar level s ≡ rules us → faults edition level s ≡ Fault.Sound → Ordered edition us
+ordered_by : (edition : Edition) (level : Level) (s : List ℕ) (us : List (Rule Span)) → grammar level s ≡ rules us → faults edition level s ≡ None → Ordered edition us
 ordered_by First level s us e f = tt
 ordered_by Second level s us e f = go (ordered_rules us) refl
   where

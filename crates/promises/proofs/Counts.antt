@@ -1,4 +1,5 @@
 -- The brackets of marked rules' pieces, where these stand, are those of the marks, of PUSH and of PUSH_LITERAL.
+use Rattle.std.specs.Prelude.{ℕ, Option, Some, None}
 use Prim.Native.Nat.{ℕ, zero, suc, ◌+◌}
 use mathlib.Core.Path.{◌≡◌, refl, ap}
 use mathlib.Core.Bool.{Bool, true, false}
@@ -13,8 +14,6 @@ use Rattle.table.specs.declared.Unary.TheVariants.{PosPred, NegPred, Opt, Rep, R
 use Rattle.table.specs.declared.Sort.TheVariants.{Str, Insens, Ident, PushLiteral}
 use Rattle.table.specs.declared.Join.{Join}
 use Rattle.table.specs.declared.Join.TheVariants.{Seq, Choice}
-use Rattle.table.specs.declared.End.{End}
-use Rattle.table.specs.declared.End.TheVariants.{Open, At}
 use Rattle.table.specs.Tree.{Atom, text, range, peek_slice, Wrap, plain, node_tag, Tree, leaf, one, two, Rule}
 use Rattle.table.specs.Check.{is_name, fine, fine_rule, fine_rules}
 use Rattle.promises.specs.Pieces.{Piece, gap, tok, lbrace, rbrace, space, signed_kind, end_pieces, enclosed, closes, atom_pieces, pieces_before, pieces_after, separator, pieces, mark_pieces, rule_pieces, rules_pieces, Stand}
@@ -54,10 +53,10 @@ count_integer n = go (ltb n 0x8000_0000)
     go true = refl
     go false = refl
 
-count_end : (e : End) → count (end_pieces e ++ (tok 5 (93 ∷ []) ∷ [])) ≡ 0
+count_end : (e : Option ℕ) → count (end_pieces e ++ (tok 5 (93 ∷ []) ∷ [])) ≡ 0
 unfolding count
-count_end Open = omega arith
-count_end (At n) = omega (arith, count_integer n)
+count_end None = omega arith
+count_end (Some n) = omega (arith, count_integer n)
 
 count_atom : (a : Atom) → count (atom_pieces a) ≡ atom_depth a
 unfolding count

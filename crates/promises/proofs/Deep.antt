@@ -1,5 +1,6 @@
 -- The reader answers 9 on a printed text exactly if more of its brackets are open at once than the limit.
 -- Too deep, its rules are refused (Sinks); else they are read, and values or room refuse for other reasons.
+use Rattle.std.specs.Prelude.{Option, Some, None}
 use Prim.Native.Nat.{ℕ, ◌≤◌}
 use mathlib.Core.Path.{◌≡◌, refl, sym, ◌∙◌}
 use mathlib.Core.Bool.{true}
@@ -11,7 +12,6 @@ use lib.ListN.{length, length-map}
 use borrow.Author.Tests.{le-leb}
 use Rattle.text.specs.Limits.{max_open, max_text}
 use Rattle.text.specs.Utf8.{first_bad}
-use Rattle.text.specs.declared.Scan.TheVariants.{Through}
 use Rattle.text.proofs.Booleans.{choose_by}
 use Rattle.token.specs.Lists.{tokens_of}
 use Rattle.token.specs.Table.{toks}
@@ -27,7 +27,6 @@ use Rattle.printer.specs.Bounds.{Narrow}
 use Rattle.printer.specs.Answers.{table_text}
 use Rattle.structure.specs.declared.Edition.{Edition}
 use Rattle.structure.specs.declared.Level.{Level}
-use Rattle.structure.specs.declared.Fault.{Fault}
 use Rattle.structure.specs.declared.Refusal.{Refusal}
 use Rattle.structure.specs.declared.Why.{Why}
 use Rattle.structure.specs.declared.Why.TheVariants.{TooDeep}
@@ -62,9 +61,9 @@ by_values edition w (inr (inr (inr (inl a)))) q = let z : ◌≡◌ {A = ℕ} 0 
 by_values edition w (inr (inr (inr (inr (inl a))))) q = let z : ◌≡◌ {A = ℕ} 0 1 = cc in omega arith
 by_values edition w (inr (inr (inr (inr (inr (o, a)))))) q = let z : ◌≡◌ {A = ℕ} 0 1 = cc in omega arith
 
-by_fault : (edition : Edition) (f : Fault) (g : Unit {0} → Reading) → ((r : Refusal) → f ≡ Fault.At r → OfValues edition r.why) → NotDeep (g tt) → NotDeep (faulty f g)
-by_fault edition Fault.Sound g h x = x
-by_fault edition (Fault.At r) g h x = by_values edition r.why (h r refl)
+by_fault : (edition : Edition) (f : Option Refusal) (g : Unit {0} → Reading) → ((r : Refusal) → f ≡ Some r → OfValues edition r.why) → NotDeep (g tt) → NotDeep (faulty f g)
+by_fault edition None g h x = x
+by_fault edition (Some r) g h x = by_values edition r.why (h r refl)
 
 by_room : (k c z n r b : ℕ) → NotDeep (room_by k c z n r b)
 unfolding room_by
@@ -84,7 +83,7 @@ module _ (edition : Edition) (level : Level) (s : List ℕ) (n r b : ℕ) where
   judged_unruled x e = rw e
 
   -- a text of legal length whose bytes and tokens are good
-  past_tokens : length s ≤ max_text → first_bad s ≡ Through → (tokens_of s).fault ≡ Through → read_of edition level s n r b ≡ judged_of edition level s n r b
+  past_tokens : length s ≤ max_text → first_bad s ≡ None → (tokens_of s).fault ≡ None → read_of edition level s n r b ≡ judged_of edition level s n r b
   unfolding read_of listed_of
   past_tokens h e₁ e₂ = rw (le-leb (length s) max_text h, e₁, e₂)
 

@@ -1,5 +1,6 @@
 -- How many brackets are open at once where a marked tree stands, from token to token: behind it as many are open as
 -- before it, and inside it at most as many more as the tree is deep (`Rises`). So the most in a text is the depth of its rules.
+use Rattle.std.specs.Prelude.{ℕ, Option, Some, None}
 use Prim.Native.Nat.{ℕ, zero, suc, ◌+◌, ◌-◌, ◌≤◌, max}
 use mathlib.Core.Path.{◌≡◌, refl, sym, ap, ◌∙◌}
 use mathlib.Core.Bool.{Bool, true, false}
@@ -18,8 +19,6 @@ use Rattle.table.specs.declared.Unary.TheVariants.{PosPred, NegPred, Opt, Rep, R
 use Rattle.table.specs.declared.Sort.TheVariants.{Str, Insens, Ident, PushLiteral}
 use Rattle.table.specs.declared.Join.{Join}
 use Rattle.table.specs.declared.Join.TheVariants.{Seq, Choice}
-use Rattle.table.specs.declared.End.{End}
-use Rattle.table.specs.declared.End.TheVariants.{Open, At}
 use Rattle.table.specs.Tree.{Atom, text, range, peek_slice, Wrap, plain, node_tag, Tree, leaf, one, two, Rule}
 use Rattle.table.specs.Check.{is_name, fine, fine_rule, fine_rules}
 use Rattle.promises.specs.Open.{one?, open_at, most_to, most_open, FirstOver}
@@ -143,9 +142,9 @@ module _ (s : List ℕ) where
 
   -- ---- marked trees
 
-  rises-end : (e : End) → RisesOf (end_pieces e ++ (tok 5 (93 ∷ []) ∷ [])) 0
-  rises-end Open = rises-tok refl refl rises-none
-  rises-end (At n) = rises-tok (integer_kind n 6 refl refl) (integer_kind n 7 refl refl) (rises-tok refl refl rises-none)
+  rises-end : (e : Option ℕ) → RisesOf (end_pieces e ++ (tok 5 (93 ∷ []) ∷ [])) 0
+  rises-end None = rises-tok refl refl rises-none
+  rises-end (Some n) = rises-tok (integer_kind n 6 refl refl) (integer_kind n 7 refl refl) (rises-tok refl refl rises-none)
 
   rises-atom : (a : Atom) → RisesOf (atom_pieces a) (atom_depth a)
   unfolding enclosed

@@ -1,8 +1,8 @@
 -- The descent on the tokens of a marked tree that has brackets enough comes to `whole` of it, at either level.
+use Rattle.std.specs.Prelude.{Option, Some, None}
 use Prim.Native.Nat.{ℕ, ◌+◌, ◌-◌, ◌≤◌}
 use mathlib.Core.Path.{◌≡◌, refl, sym, ap, ◌∙◌, subst}
 use mathlib.Core.Bool.{Bool, true, false}
-use mathlib.Core.Option.{Option, none, some}
 use mathlib.Core.List.{List, [], ◌∷◌, ◌++◌}
 use native.Mathlib.Omega.{arith}
 use lib.Dec.{eqb}
@@ -102,14 +102,14 @@ module _ (level : Level) (s : List ℕ) where
 
   -- a chain so far, with one more link
   abbrev pub grown : Join → Option (Tree Span) → Tree Span → Tree Span
-  grown j none t = t
-  grown j (some a) t = join j a t
+  grown j None t = t
+  grown j (Some a) t = join j a t
 
   abbrev pub Matches : Option (Tree Span) → Option (Tree Nowhere) → Type 0
-  Matches none none = Unit {0}
-  Matches none (some b) = ⊥
-  Matches (some a) none = ⊥
-  Matches (some a) (some b) = aside a ≡ sight level b
+  Matches None None = Unit {0}
+  Matches None (Some b) = ⊥
+  Matches (Some a) None = ⊥
+  Matches (Some a) (Some b) = aside a ≡ sight level b
 
   -- ---- the five levels: what was read from `at` to n, and how it begins
 
@@ -177,7 +177,7 @@ module _ (level : Level) (s : List ℕ) where
   chain_seq o c l m k = chain_law level s o c l m ∙ choose_true (is s m 10) _ _ (yes s m 10 k)
 
   pub chain_choice : (o : ℕ) (c : Option (Tree Span)) (l : Tree Span) (m : ℕ) → kind s m ≡ 11
-      → Run level s (chain o c l m) ≡ next (Run level s (term o (m + 1))) (λ t n. Run level s (chain o (some (closed c l)) t n))
+      → Run level s (chain o c l m) ≡ next (Run level s (term o (m + 1))) (λ t n. Run level s (chain o (Some (closed c l)) t n))
   chain_choice o c l m k = chain_law level s o c l m ∙ choose_false (is s m 10) _ _ (no s m 11 10 k refl) ∙ choose_true (is s m 11) _ _ (yes s m 11 k)
 
   -- a node that no predicate stands before
@@ -196,15 +196,15 @@ module _ (level : Level) (s : List ℕ) where
   join-sight q x y x₀ y₀ e h = ap (λ z. two tt q z (aside y)) e ∙ ap (two tt q (sight level x₀)) h ∙ sight_two level q x₀ y₀
 
   grown-same : (j : Join) (c : Option (Tree Span)) (a : Option (Tree Nowhere)) (t : Tree Span) (e : Tree Nowhere) → Matches c a → aside t ≡ sight level e → aside (grown j c t) ≡ sight level (put j a e)
-  grown-same j none none t e m h = h
-  grown-same j none (some b) t e m h = absurd m
-  grown-same j (some c) none t e m h = absurd m
-  grown-same j (some c) (some b) t e m h = join-sight j c t b e m h
+  grown-same j None None t e m h = h
+  grown-same j None (Some b) t e m h = absurd m
+  grown-same j (Some c) None t e m h = absurd m
+  grown-same j (Some c) (Some b) t e m h = join-sight j c t b e m h
 
   closed-grown : (c : Option (Tree Span)) (t : Tree Span) → closed c t ≡ grown Choice c t
   unfolding closed
-  closed-grown none t = refl
-  closed-grown (some c) t = refl
+  closed-grown None t = refl
+  closed-grown (Some c) t = refl
 
   -- ---- from one level to the next below it
 
@@ -234,9 +234,9 @@ module _ (level : Level) (s : List ℕ) where
           first = r.first;
         }
 
-    choice-by : (e : Tree Nowhere) (g f : Option (Tree Nowhere) → Tree Nowhere) → g none ≡ e → ((a : Option (Tree Nowhere)) → f a ≡ put Choice a e) → SeqOf x d g → ChoiceOf x d f
+    choice-by : (e : Tree Nowhere) (g f : Option (Tree Nowhere) → Tree Nowhere) → g None ≡ e → ((a : Option (Tree Nowhere)) → f a ≡ put Choice a e) → SeqOf x d g → ChoiceOf x d f
     choice-by e g f q p r o at n h l k acc a m =
-        let v = r o at n h l k acc none none tt in
+        let v = r o at n h l k acc None None tt in
         record {
           choices = acc;
           last = v.tree;
@@ -247,14 +247,14 @@ module _ (level : Level) (s : List ℕ) where
 
     -- as an expression, before what ends it
     expr-by : (f : Option (Tree Nowhere) → Tree Nowhere) → ChoiceOf x d f → (o at n k : ℕ) → Stand s at x n → o + d ≤ max_open → kind s n ≡ k → eqb k 10 ≡ false → eqb k 11 ≡ false
-        → among (2 ∷ 4 ∷ 12 ∷ 13 ∷ 14 ∷ []) k ≡ false → Reads (Run level s (expr o at)) (f none) n
+        → among (2 ∷ 4 ∷ 12 ∷ 13 ∷ 14 ∷ []) k ≡ false → Reads (Run level s (expr o at)) (f None) n
     unfolding closed
     expr-by f g o at n k h l e p q i =
-        let r = g o at n h l (ends_at_lem n k e i) none none tt in
+        let r = g o at n h l (ends_at_lem n k e i) None None tt in
         record { tree = closed r.choices r.last; reads = expr_law level s o at ∙ r.goes ∙ chain-ends o r.choices r.last n k e p q; same = r.same }
 
     -- in brackets
-    node_by : (f : Option (Tree Nowhere) → Tree Nowhere) → ChoiceOf x d f → NodeOf (enclosed true x) (d + 1) (f none)
+    node_by : (f : Option (Tree Nowhere) → Tree Nowhere) → ChoiceOf x d f → NodeOf (enclosed true x) (d + 1) (f None)
     node_by f g o at n h l _ =
         let c = Shapes.closed s at n x h in
         let r = expr-by f g (o + 1) (at + 1) c.stop 7 c.inner (omega arith) c.closing refl refl refl in
@@ -451,10 +451,10 @@ module _ (level : Level) (s : List ℕ) where
 
   -- ---- two children
 
-  seq-then : {o at i n : ℕ} {c acc : Option (Tree Span)} {e f : Tree Nowhere} (p : SeqAt o at i c acc e) → kind s i ≡ 10 → SeqAt o (i + 1) n c (some p.tree) f → SeqAt o at n c acc f
+  seq-then : {o at i n : ℕ} {c acc : Option (Tree Span)} {e f : Tree Nowhere} (p : SeqAt o at i c acc e) → kind s i ≡ 10 → SeqAt o (i + 1) n c (Some p.tree) f → SeqAt o at n c acc f
   seq-then {o} {at} {i} {n} {c} p k q = record { tree = q.tree; goes = p.goes ∙ chain_seq o c p.tree i k ∙ q.goes; same = q.same; first = p.first }
 
-  choice-then : {o at i n : ℕ} {acc : Option (Tree Span)} {e f : Tree Nowhere} (p : ChoiceAt o at i acc e) → kind s i ≡ 11 → ChoiceAt o (i + 1) n (some (closed p.choices p.last)) f
+  choice-then : {o at i n : ℕ} {acc : Option (Tree Span)} {e f : Tree Nowhere} (p : ChoiceAt o at i acc e) → kind s i ≡ 11 → ChoiceAt o (i + 1) n (Some (closed p.choices p.last)) f
       → ChoiceAt o at n acc f
   choice-then {o} {at} {i} p k q =
       record { choices = q.choices; last = q.last; goes = p.goes ∙ chain_choice o p.choices p.last i k ∙ q.goes; same = q.same; first = p.first }
@@ -466,7 +466,7 @@ module _ (level : Level) (s : List ℕ) where
         (λ o at n h d i c acc a m.
         let w = cut s (pieces x) (separator Seq ++ pieces y) at n (stand_as s (enclosed_none _) at n h) in
         let p = gx.seq_of lx o at w.0 w.1 (omega arith) (ends_at_lem w.0 10 w.2.0 refl) c acc a m in
-        seq-then p w.2.0 (gy.seq_of ly o (w.0 + 1) n w.2.2 (omega arith) i c (some p.tree) (some (back Seq a x)) p.same))
+        seq-then p w.2.0 (gy.seq_of ly o (w.0 + 1) n w.2.2 (omega arith) i c (Some p.tree) (Some (back Seq a x)) p.same))
 
     good-choices : Good (two false Choice x y)
     unfolding pieces depth back
@@ -474,7 +474,7 @@ module _ (level : Level) (s : List ℕ) where
         (λ o at n h d i acc a m.
         let w = cut s (pieces x) (separator Choice ++ pieces y) at n (stand_as s (enclosed_none _) at n h) in
         let p = gx.choice_of o at w.0 w.1 (omega arith) (ends_at_lem w.0 11 w.2.0 refl) acc a m in
-        choice-then p w.2.0 (gy.choice_of o (w.0 + 1) n w.2.2 (omega arith) i (some (closed p.choices p.last)) (some (back Choice a x)) p.same))
+        choice-then p w.2.0 (gy.choice_of o (w.0 + 1) n w.2.2 (omega arith) i (Some (closed p.choices p.last)) (Some (back Choice a x)) p.same))
 
   -- ---- every tree
 
@@ -503,5 +503,5 @@ module _ (level : Level) (s : List ℕ) where
       let r = expr-by (pieces m) (depth m) (λ a. back Choice a m) g 0 at n 3 h (omega arith) e refl refl refl in
       record {
         read = record { tree = r.tree; reads = r.reads; same = r.same ∙ ap (sight level) (back_free Choice m) };
-        first = (g 0 at n h (omega arith) (ends_at_lem n 3 e refl) none none tt).first;
+        first = (g 0 at n h (omega arith) (ends_at_lem n 3 e refl) None None tt).first;
       }

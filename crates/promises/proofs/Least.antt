@@ -1,9 +1,9 @@
 -- Every call that reads a tree passes at least as many `(` as the tree's short text has there: by induction over the descent.
+use Rattle.std.specs.Prelude.{Some, None, Option}
 use Prim.Native.Nat.{ℕ, zero, suc, ◌+◌, ◌-◌, ◌≤◌}
 use mathlib.Core.Path.{◌≡◌, refl, sym, ap, ◌∙◌}
 use mathlib.Core.Bool.{Bool, true, false}
 use mathlib.Core.List.{List}
-use mathlib.Core.Option.{Option, none, some}
 use native.Mathlib.Omega.{arith}
 use Rattle.text.specs.Booleans.{choose}
 use Rattle.text.specs.Words.{push}
@@ -15,7 +15,6 @@ use Rattle.table.specs.declared.Join.TheVariants.{Seq, Choice}
 use Rattle.table.specs.declared.Unary.{Unary}
 use Rattle.table.specs.declared.Unary.TheVariants.{PosPred, NegPred, Opt, Rep, RepOnce, RepExact, RepMin, RepMax, RepMinMax, Push}
 use Rattle.table.specs.declared.Sort.TheVariants.{Str, Insens, Ident, PushLiteral}
-use Rattle.table.specs.declared.End.TheVariants.{Open, At}
 use Rattle.forms.specs.declared.Place.{Place}
 use Rattle.forms.specs.declared.Place.TheVariants.{Alone, Prefixed, Operand, LeftOf, RightOf}
 use Rattle.forms.specs.declared.Form.TheVariants as Form
@@ -105,8 +104,8 @@ module _ (s : List ℕ) (at : ℕ) where
   unfolding slice_to
   slice_to_lem from i h e =
       split (is_integer s i) _ _
-      (λ a e₀. let (b, p, e₁) = want_got s (i + 1) 5 _ (omega arith) e₀ in leaf_is (i + 1 + 1) (across s at (i + 1)) (peek_slice from (At (integer s i))) (omega (arith, opens_more s at (i + 1 + 1) (omega arith))) e₁)
-      (λ a e₀. let (b, p, e₁) = want_got s i 5 _ (omega arith) e₀ in leaf_is (i + 1) (across s at i) (peek_slice from Open) (omega (arith, opens_more s at (i + 1) (omega arith))) e₁) e
+      (λ a e₀. let (b, p, e₁) = want_got s (i + 1) 5 _ (omega arith) e₀ in leaf_is (i + 1 + 1) (across s at (i + 1)) (peek_slice from (Some (integer s i))) (omega (arith, opens_more s at (i + 1 + 1) (omega arith))) e₁)
+      (λ a e₀. let (b, p, e₁) = want_got s i 5 _ (omega arith) e₀ in leaf_is (i + 1) (across s at i) (peek_slice from None) (omega (arith, opens_more s at (i + 1) (omega arith))) e₁) e
 
   slice_leaf : (i : ℕ) {t : Tree Span} {n : ℕ} → at ≤ i → slice s at i ≡ got t n → Leafs t n
   unfolding slice
@@ -154,8 +153,8 @@ asks (node o at) = Operand
 asks (posts t at) = Operand
 
 abbrev chained : Option (Tree Span) → Tree Span → ℕ
-chained none l = need (LeftOf Seq) l
-chained (some c) l = need Alone c + need (LeftOf Seq) l
+chained None l = need (LeftOf Seq) l
+chained (Some c) l = need Alone c + need (LeftOf Seq) l
 
 abbrev handed : Call → ℕ
 handed (expr o at) = 0
@@ -175,13 +174,13 @@ module _ (level : Level) (s : List ℕ) where
   -- what stands before a `|`, and at a chain's end
   closed_need : (c : Option (Tree Span)) (l : Tree Span) → need Alone (closed c l) ≤ chained c l
   unfolding closed join marked opens brackets
-  closed_need none l = need_more Alone (LeftOf Seq) l (omega arith)
-  closed_need (some c) l = omega (arith, need_more (LeftOf Choice) Alone c (omega arith), need_more (RightOf Choice) (LeftOf Seq) l (omega arith))
+  closed_need None l = need_more Alone (LeftOf Seq) l (omega arith)
+  closed_need (Some c) l = omega (arith, need_more (LeftOf Choice) Alone c (omega arith), need_more (RightOf Choice) (LeftOf Seq) l (omega arith))
 
   join_need : (c : Option (Tree Span)) (l r : Tree Span) → chained c (join Seq l r) ≡ chained c l + need (RightOf Seq) r
   unfolding join marked opens brackets
-  join_need none l r = omega arith
-  join_need (some c) l r = omega arith
+  join_need None l r = omega arith
+  join_need (Some c) l r = omega arith
 
   tag_need : (level : Level) (a : ℕ) (b : List ℕ) (t : Tree Span) → need (RightOf Seq) (in_tag level a b t) ≤ need Prefixed t
   unfolding in_tag prefixed marked opens brackets
@@ -245,12 +244,12 @@ module _ (level : Level) (s : List ℕ) where
     unfolding body closed
     body_least (expr o at) t n e =
         let (u, i, e₁, e₂) = next_got _ _ e in
-        omega (arith, ih (term o at) u i e₁, ih (chain o none u i) t n e₂, need_more (LeftOf Seq) (RightOf Seq) u (omega arith))
+        omega (arith, ih (term o at) u i e₁, ih (chain o None u i) t n e₂, need_more (LeftOf Seq) (RightOf Seq) u (omega arith))
     body_least (chain o c l at) t n e =
         split (is s at 10) _ _
         (λ v e₀. joined_least o at c l (λ r. c) (λ r. join Seq l r) t n (λ r. omega (arith, join_need c l r)) e₀)
         (λ v. split (is s at 11) _ _
-        (λ v e₀. joined_least o at c l (λ r. some (closed c l)) (λ r. r) t n (λ r. omega (arith, closed_need c l, need_more (LeftOf Seq) (RightOf Seq) r (omega arith))) e₀)
+        (λ v e₀. joined_least o at c l (λ r. Some (closed c l)) (λ r. r) t n (λ r. omega (arith, closed_need c l, need_more (LeftOf Seq) (RightOf Seq) r (omega arith))) e₀)
         (λ v e₀.
         let a : closed c l ≡ t = cc in
         let b : at ≡ n = cc in

@@ -1,4 +1,5 @@
 -- Every matching pair of brackets in the pieces of marked rules, but for those of PUSH and PUSH_LITERAL, is a mark.
+use Rattle.std.specs.Prelude.{ℕ, Option, Some, None}
 use Prim.Native.Nat.{ℕ, zero, suc}
 use mathlib.Core.Path.{◌≡◌, refl, sym, ap, ◌∙◌}
 use mathlib.Core.Bool.{Bool, true, false, not}
@@ -11,8 +12,6 @@ use Rattle.table.specs.declared.Unary.TheVariants.{PosPred, NegPred, Opt, Rep, R
 use Rattle.table.specs.declared.Sort.TheVariants.{Str, Insens, Ident, PushLiteral}
 use Rattle.table.specs.declared.Join.{Join}
 use Rattle.table.specs.declared.Join.TheVariants.{Seq, Choice}
-use Rattle.table.specs.declared.End.{End}
-use Rattle.table.specs.declared.End.TheVariants.{Open, At}
 use Rattle.table.specs.Tree.{Atom, text, range, peek_slice, Wrap, plain, node_tag, Tree, leaf, one, two, Rule}
 use Rattle.structure.specs.Tokens.{same, peek}
 use Rattle.promises.specs.Pieces.{Piece, gap, tok, lbrace, rbrace, space, equals, dots, signed_kind, integer, end_pieces, opens, closes, enclosed, atom_pieces, pieces_before, pieces_after, separator, pieces, mark_pieces, rule_pieces, rules_pieces}
@@ -67,10 +66,10 @@ even_token t b h g d q = rw (g, h)
 even_integer : (n : ℕ) (b : List ℕ) (d : ℕ) (q : List Piece) → unclosed d (tok (signed_kind n) b ∷ q) ≡ tok (signed_kind n) b ∷ unclosed d q
 even_integer n b = even_token (signed_kind n) b (signed_no n 6 refl refl) (signed_no n 7 refl refl)
 
-even_end : (e : End) (d : ℕ) (q : List Piece) → unclosed d ((end_pieces e ++ (tok 5 (93 ∷ []) ∷ [])) ++ q) ≡ (end_pieces e ++ (tok 5 (93 ∷ []) ∷ [])) ++ unclosed d q
+even_end : (e : Option ℕ) (d : ℕ) (q : List Piece) → unclosed d ((end_pieces e ++ (tok 5 (93 ∷ []) ∷ [])) ++ q) ≡ (end_pieces e ++ (tok 5 (93 ∷ []) ∷ [])) ++ unclosed d q
 unfolding unclosed
-even_end Open d q = refl
-even_end (At n) d q = even_integer n _ d _
+even_end None d q = refl
+even_end (Some n) d q = even_integer n _ d _
 
 even_atom : (a : Atom) → Even (atom_pieces a)
 unfolding Even unclosed
@@ -194,10 +193,10 @@ pass_token t b h k w q = rw h
 pass_integer : (n : ℕ) (b : List ℕ) (k : ℕ) (w : Bool) (q : List Piece) → unpaired k w (tok (signed_kind n) b ∷ q) ≡ tok (signed_kind n) b ∷ unpaired k (owns_pair (signed_kind n) b) q
 pass_integer n b = pass_token (signed_kind n) b (signed_no n 6 refl refl)
 
-pass_end : (e : End) (k : ℕ) (q : List Piece) → unpaired k false ((end_pieces e ++ (tok 5 (93 ∷ []) ∷ [])) ++ q) ≡ (end_pieces e ++ (tok 5 (93 ∷ []) ∷ [])) ++ unpaired k false q
+pass_end : (e : Option ℕ) (k : ℕ) (q : List Piece) → unpaired k false ((end_pieces e ++ (tok 5 (93 ∷ []) ∷ [])) ++ q) ≡ (end_pieces e ++ (tok 5 (93 ∷ []) ∷ [])) ++ unpaired k false q
 unfolding unpaired
-pass_end Open k q = refl
-pass_end (At n) k q = pass_integer n _ k false _
+pass_end None k q = refl
+pass_end (Some n) k q = pass_integer n _ k false _
 
 got_atom : {B : List Piece → Type 0} (a : Atom) (k : ℕ) → Got B k (atom_pieces a)
 unfolding unpaired begins

@@ -1,4 +1,5 @@
 -- Where the reader's 3 stands: only the list of tokens gives one, and its place is known.
+use Rattle.std.specs.Prelude.{ℕ, Option, Some, None}
 use Prim.Native.Nat.{ℕ, ◌≤◌}
 use mathlib.Core.Path.{◌≡◌, refl, ap}
 use mathlib.Core.Logic.{inl, inr, ⊎_elim}
@@ -9,7 +10,6 @@ use lib.ListN.{length}
 use borrow.Author.Tests.{le-leb}
 use Rattle.text.specs.Limits.{max_text}
 use Rattle.text.specs.Utf8.{first_bad}
-use Rattle.text.specs.declared.Scan.{Scan}
 use Rattle.text.proofs.Booleans.{choose_by}
 use Rattle.token.specs.Lists.{tokens_of, past_last}
 use Rattle.token.specs.Faults.{FaultFrom}
@@ -48,21 +48,21 @@ module _ (edition : Edition) (level : Level) (s : List ℕ) (n r b : ℕ) where
       ⊎_elim (λ h. not_structure h refl) (λ h. ⊎_elim (λ h. not_values h refl) (λ h. not_room h refl) h) (judged_why edition level s n r b (because NoToken p) e)
 
   module _ (p : ℕ) where
-    by_list : (c : Scan) → checked_by c (refused_by NoToken) (λ u. judged_of edition level s n r b) ≡ refused_by NoToken p → c ≡ Scan.StopsAt p
+    by_list : (c : Option ℕ) → checked_by c (refused_by NoToken) (λ u. judged_of edition level s n r b) ≡ refused_by NoToken p → c ≡ Some p
     unfolding numbered
-    by_list (Scan.StopsAt q) e = ap (λ (x : Reading). Scan.StopsAt (numbered x).place) e
-    by_list Scan.Through e = absurd (not_judged p e)
+    by_list (Some q) e = ap (λ (x : Reading). Some (numbered x).place) e
+    by_list None e = absurd (not_judged p e)
 
-    by_utf8 : (c : Scan) → checked_by c (refused_by NotUtf8) (λ u. listed_of edition level s n r b) ≡ refused_by NoToken p → (tokens_of s).fault ≡ Scan.StopsAt p
+    by_utf8 : (c : Option ℕ) → checked_by c (refused_by NotUtf8) (λ u. listed_of edition level s n r b) ≡ refused_by NoToken p → (tokens_of s).fault ≡ Some p
     unfolding listed_of numbered number_of
-    by_utf8 Scan.Through e = by_list (tokens_of s).fault e
-    by_utf8 (Scan.StopsAt q) e = let z : ◌≡◌ {A = ℕ} 2 3 = ap (λ (x : Reading). (numbered x).number) e in absurd (omega arith)
+    by_utf8 None e = by_list (tokens_of s).fault e
+    by_utf8 (Some q) e = let z : ◌≡◌ {A = ℕ} 2 3 = ap (λ (x : Reading). (numbered x).number) e in absurd (omega arith)
 
     -- the reader's 3 is that of the text's list of tokens
-    pub reader_3 : read_of edition level s n r b ≡ refused_by NoToken p → (tokens_of s).fault ≡ Scan.StopsAt p
+    pub reader_3 : read_of edition level s n r b ≡ refused_by NoToken p → (tokens_of s).fault ≡ Some p
     unfolding read_of numbered number_of
     reader_3 =
-        choose_by (λ (x : Reading). x ≡ refused_by NoToken p → (tokens_of s).fault ≡ Scan.StopsAt p) (leb (length s) max_text) _ _ (λ _ e. by_utf8 (first_bad s) e)
+        choose_by (λ (x : Reading). x ≡ refused_by NoToken p → (tokens_of s).fault ≡ Some p) (leb (length s) max_text) _ _ (λ _ e. by_utf8 (first_bad s) e)
         (λ _ e.
         let z : ◌≡◌ {A = ℕ} 1 3 = ap (λ (x : Reading). (numbered x).number) e in
         absurd (omega arith))
@@ -72,6 +72,6 @@ module _ (edition : Edition) (level : Level) (s : List ℕ) (n r b : ℕ) where
     reader_place e = text_place s p (reader_3 e)
 
     -- and the other way: where nothing comes before it, the list's 3 is the reader's
-    pub reads_3 : length s ≤ max_text → first_bad s ≡ Scan.Through → (tokens_of s).fault ≡ Scan.StopsAt p → read_of edition level s n r b ≡ refused_by NoToken p
+    pub reads_3 : length s ≤ max_text → first_bad s ≡ None → (tokens_of s).fault ≡ Some p → read_of edition level s n r b ≡ refused_by NoToken p
     unfolding read_of listed_of
     reads_3 l u e = rw (le-leb (length s) max_text l, u, e) refl

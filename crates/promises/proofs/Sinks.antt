@@ -1,9 +1,9 @@
 -- Marked trees that are too deep where they stand: the descent refuses the first `(` that makes more open than the limit.
 -- What stands left of it is read, as Descent says; how many are open where a part begins is known from Depths (`Sinks`).
+use Rattle.std.specs.Prelude.{Option, Some, None}
 use Prim.Native.Nat.{ℕ, zero, suc, ◌+◌, ◌≤◌, ◌<◌}
 use mathlib.Core.Path.{◌≡◌, refl, ap, ◌∙◌}
 use mathlib.Core.Bool.{Bool, true, false}
-use mathlib.Core.Option.{Option, none, some}
 use mathlib.Core.List.{List, [], ◌∷◌, ◌++◌}
 use native.Mathlib.Omega.{arith}
 use native.Mathlib.Decide.{dec_le}
@@ -139,7 +139,7 @@ module _ (level : Level) (s : List ℕ) where
     sunk-choice e f = record { sign_of = λ h. absurd (omega arith); term_of = λ h. absurd (omega arith); seq_of = λ h. absurd (omega arith); choice_of = f }
 
     seq-choice : SeqDeep (pieces m) (depth m) → ChoiceDeep (pieces m) (depth m)
-    seq-choice f o at n h k acc a e = f o at n h k acc none none tt
+    seq-choice f o at n h k acc a e = f o at n h k acc None None tt
 
     sunk-seq : stands m ≡ 1 → SeqDeep (pieces m) (depth m) → Sunk m
     sunk-seq e f = record { sign_of = λ h. absurd (omega arith); term_of = λ h. absurd (omega arith); seq_of = λ h. f; choice_of = seq-choice f }
@@ -155,7 +155,7 @@ module _ (level : Level) (s : List ℕ) where
 
   -- as an expression
   expr-deep : (m : Tree Bool) → Sunk m → (o at n : ℕ) → Stand s at (pieces m) n → Sinks s o (depth m) at → (is s at 11 ≡ false) × Deep s refused (Run level s (expr o at))
-  expr-deep m f o at n h k = let r = f.choice_of o at n h k none none tt in (r.0, deep-by s (expr_law level s o at) r.1)
+  expr-deep m f o at n h k = let r = f.choice_of o at n h k None None tt in (r.0, deep-by s (expr_law level s o at) r.1)
 
   -- a node that no predicate stands before
   unsigned : (o at : ℕ) → is s at 8 ≡ false → is s at 9 ≡ false → Deep s refused (Run level s (node o at)) → Deep s refused (Run level s (signed o at))
@@ -271,7 +271,7 @@ module _ (level : Level) (s : List ℕ) where
         (λ l.
         let p = gx.seq_of lx o at w.0 w.1 l (ends_at_lem level s w.0 10 w.2.0 refl) c acc a m in
         let z = sinks-past s 10 w.2.0 refl refl (sinks-over s ((rises_tree s x).by at w.0 w.1) l (omega (arith, k.over)) k) in
-        (p.first, deep-by s (p.goes ∙ chain_seq level s o c p.tree w.0 w.2.0) (fy.seq_of ly o (w.0 + 1) n w.2.2 z c (some p.tree) (some (back Seq a x)) p.same).1))
+        (p.first, deep-by s (p.goes ∙ chain_seq level s o c p.tree w.0 w.2.0) (fy.seq_of ly o (w.0 + 1) n w.2.2 z c (Some p.tree) (Some (back Seq a x)) p.same).1))
         (λ l. fx.seq_of lx o at w.0 w.1 (sinks-as s l k) c acc a m))
 
     sunk-choices : Sunk (two false Choice x y)
@@ -282,9 +282,9 @@ module _ (level : Level) (s : List ℕ) where
         by_side o (depth x)
         (λ l.
         let p = gx.choice_of o at w.0 w.1 l (ends_at_lem level s w.0 11 w.2.0 refl) acc a m in
-        let c = some (closed p.choices p.last) in
+        let c = Some (closed p.choices p.last) in
         let z = sinks-past s 11 w.2.0 refl refl (sinks-over s ((rises_tree s x).by at w.0 w.1) l (omega (arith, k.over)) k) in
-        (p.first, deep-by s (p.goes ∙ chain_choice level s o p.choices p.last w.0 w.2.0) (fy.choice_of o (w.0 + 1) n w.2.2 z c (some (back Choice a x)) p.same).1))
+        (p.first, deep-by s (p.goes ∙ chain_choice level s o p.choices p.last w.0 w.2.0) (fy.choice_of o (w.0 + 1) n w.2.2 z c (Some (back Choice a x)) p.same).1))
         (λ l. fx.choice_of o at w.0 w.1 (sinks-as s l k) acc a m))
 
   -- ---- every tree

@@ -1,8 +1,8 @@
 -- What each style's marks come to: enough brackets, the same leaves, and the tree that is read back.
+use Rattle.std.specs.Prelude.{Some, None}
 use Prim.Native.Nat.{◌≤◌}
 use mathlib.Core.Path.{◌≡◌, refl, sym, ap, ◌∙◌}
 use mathlib.Core.Bool.{Bool, false}
-use mathlib.Core.Option.{none, some}
 use mathlib.Core.List.{List, [], ◌∷◌, map}
 use lib.Dec.{leb}
 use Rattle.structure.specs.declared.Level.{Level}
@@ -68,7 +68,7 @@ short_back w (leaf s a) = refl
 short_back w (one s o t) = ap (one tt o) (short_back (under (wrap_form o)) t)
 short_back w (two s j a b) =
     back_two Seq j (brackets Short w (Joined j)) (marked Short (LeftOf j) a) (marked Short (RightOf j) b)
-    ∙ back_put j (marked Short (RightOf j) b) (no_short j b) (some (back j none (marked Short (LeftOf j) a)))
+    ∙ back_put j (marked Short (RightOf j) b) (no_short j b) (Some (back j None (marked Short (LeftOf j) a)))
     ∙ ap (λ z. two tt j z (whole (marked Short (RightOf j) b))) (back_free j (marked Short (LeftOf j) a) ∙ short_back (LeftOf j) a)
     ∙ ap (two tt j a) (short_back (RightOf j) b)
 
@@ -86,27 +86,27 @@ no_left Choice (two s Choice a b) = refl
 -- alone, and behind a chain
 record Regroups (t : Tree Nowhere) : Type 0 where
   all : (w : Place) → whole (marked Full w t) ≡ regroup t
-  on : (j : Join) (l : Tree Nowhere) → back j (some l) (marked Full (RightOf j) t) ≡ joined j l (links j t)
+  on : (j : Join) (l : Tree Nowhere) → back j (Some l) (marked Full (RightOf j) t) ≡ joined j l (links j t)
 
-last_on : (j : Join) (m : Tree Bool) (t l : Tree Nowhere) → goes_on j m ≡ false → is_join j t ≡ false → whole m ≡ regroup t → back j (some l) m ≡ joined j l (links j t)
+last_on : (j : Join) (m : Tree Bool) (t l : Tree Nowhere) → goes_on j m ≡ false → is_join j t ≡ false → whole m ≡ regroup t → back j (Some l) m ≡ joined j l (links j t)
 unfolding joined
-last_on j m t l h k e = back_put j m h (some l) ∙ ap (two tt j l) e ∙ sym (ap (joined j l) (links_last j t k))
+last_on j m t l h k e = back_put j m h (Some l) ∙ ap (two tt j l) e ∙ sym (ap (joined j l) (links_last j t k))
 
 module _ (s : Nowhere) (a b : Tree Nowhere) (f : Regroups a) (g : Regroups b) where
   two_all : (k : Join) (w : Place) → whole (marked Full w (two s k a b)) ≡ regroup (two s k a b)
   unfolding marked
   two_all k w =
       back_two Seq k (brackets Full w (Joined k)) (marked Full (LeftOf k) a) (marked Full (RightOf k) b)
-      ∙ ap (λ z. back k (some z) (marked Full (RightOf k) b)) (back_free k (marked Full (LeftOf k) a) ∙ f.all (LeftOf k)) ∙ g.on k (regroup a) ∙ sym (regroup_two s k a b)
+      ∙ ap (λ z. back k (Some z) (marked Full (RightOf k) b)) (back_free k (marked Full (LeftOf k) a) ∙ f.all (LeftOf k)) ∙ g.on k (regroup a) ∙ sym (regroup_two s k a b)
 
   -- behind the chain's links so far: its left child is the next link, its right child goes on
-  two_more : (j : Join) (l : Tree Nowhere) → back j (some (back j (some l) (marked Full (LeftOf j) a))) (marked Full (RightOf j) b) ≡ joined j l (links j (two s j a b))
+  two_more : (j : Join) (l : Tree Nowhere) → back j (Some (back j (Some l) (marked Full (LeftOf j) a))) (marked Full (RightOf j) b) ≡ joined j l (links j (two s j a b))
   unfolding joined
   two_more j l =
-      ap (λ z. back j (some z) (marked Full (RightOf j) b)) (back_put j (marked Full (LeftOf j) a) (no_left j a) (some l) ∙ ap (two tt j l) (f.all (LeftOf j)))
+      ap (λ z. back j (Some z) (marked Full (RightOf j) b)) (back_put j (marked Full (LeftOf j) a) (no_left j a) (Some l) ∙ ap (two tt j l) (f.all (LeftOf j)))
       ∙ g.on j (two tt j l (regroup a)) ∙ sym (ap (joined j l) (links_same s j a b))
 
-  two_on : (k j : Join) (l : Tree Nowhere) → back j (some l) (marked Full (RightOf j) (two s k a b)) ≡ joined j l (links j (two s k a b))
+  two_on : (k j : Join) (l : Tree Nowhere) → back j (Some l) (marked Full (RightOf j) (two s k a b)) ≡ joined j l (links j (two s k a b))
   unfolding marked back brackets
   two_on Seq Seq l = two_more Seq l
   two_on Choice Choice l = two_more Choice l

@@ -1,4 +1,5 @@
 -- A printed text is UTF-8, in either style, for all rules that are fine: it is made of bytes below 128, of words and decimals, and of literals.
+use Rattle.std.specs.Prelude.{ℕ, Option, Some, None}
 use Prim.Native.Nat.{ℕ, zero, suc, ◌-◌}
 use mathlib.Core.Path.{◌≡◌, refl}
 use mathlib.Core.Bool.{Bool, true, false}
@@ -14,8 +15,6 @@ use Rattle.text.specs.Words.{starts_word, in_word, is_word}
 use Rattle.text.specs.Utf8.{scalar, encoded, seq_look, first_bad}
 use Rattle.text.specs.Digits.{decimal}
 use Rattle.text.specs.Splice.{fronted}
-use Rattle.text.specs.declared.Scan.TheVariants.{Through}
-use Rattle.text.specs.declared.Value.TheVariants.{Number}
 use Rattle.text.proofs.Tests.{within_is}
 use Rattle.text.proofs.Booleans.{and_true, choose_by, split, or_by, or_second}
 use Rattle.literal.specs.Escapes.{simple_of}
@@ -32,8 +31,6 @@ use Rattle.table.specs.declared.Join.TheVariants.{Seq, Choice}
 use Rattle.table.specs.declared.Unary.TheVariants.{PosPred, NegPred, Opt, Rep, RepOnce, RepExact, RepMin, RepMax, RepMinMax, Push}
 use Rattle.table.specs.declared.Sort.{Sort}
 use Rattle.table.specs.declared.Sort.TheVariants.{Str, Insens, Ident, PushLiteral}
-use Rattle.table.specs.declared.End.{End}
-use Rattle.table.specs.declared.End.TheVariants.{Open, At}
 use Rattle.table.specs.Tree.{Atom, text, range, peek_slice, Wrap, plain, node_tag, Tree, leaf, one, two, Rule}
 use Rattle.table.specs.Record.{rules_of}
 use Rattle.table.specs.Check.{is_name, fine_text, fine_atom, fine_wrap, fine, fine_rule, fine_rules, tables}
@@ -95,10 +92,10 @@ good_none = record { over = over_none seq_look }
 good_then : {x y : List ℕ} → Good x → Good y → Good (x ++ y)
 good_then {x} {y} a b = record { over = over_append seq_look x y a.over b.over }
 
-good_text : (x : List ℕ) → first_bad x ≡ Through → Good x
+good_text : (x : List ℕ) → first_bad x ≡ None → Good x
 good_text x h = record { over = chars_by (λ (l : List ℕ). Over seq_look l) (over_none seq_look) (λ c l g k ih. over_append seq_look (encoded c) l (over_char c g) ih) x h }
 
-good_utf8 : (x : List ℕ) → Good x → first_bad x ≡ Through
+good_utf8 : (x : List ℕ) → Good x → first_bad x ≡ None
 unfolding first_bad
 good_utf8 x g = over_good seq_look x g.over
 
@@ -115,11 +112,11 @@ good_word w h = record { over = over_ascii w (spelled_ascii w h) }
 good_decimal : (n : ℕ) → Good (decimal n)
 good_decimal n = record { over = over_ascii (decimal n) (all_ascii in_digits digit_ascii (decimal n) (decimal_digits n)) }
 
-good_literal : (q : ℕ) (t : List ℕ) → simple_of q ≡ Number q → low (q ∷ []) ≡ true → first_bad t ≡ Through → Good (literal q t)
+good_literal : (q : ℕ) (t : List ℕ) → simple_of q ≡ Some q → low (q ∷ []) ≡ true → first_bad t ≡ None → Good (literal q t)
 unfolding literal
 good_literal q t w a h = good_then (good_low (q ∷ []) a) (good_then (good_text (inside q t) (inside_utf8 q w t h)) (good_low (q ∷ []) a))
 
-pub encoded_good : (c : ℕ) → scalar c ≡ true → first_bad (encoded c) ≡ Through
+pub encoded_good : (c : ℕ) → scalar c ≡ true → first_bad (encoded c) ≡ None
 unfolding first_bad
 encoded_good c h = over_good seq_look (encoded c) (over_char c h)
 
@@ -129,9 +126,9 @@ good_signed : (n : ℕ) → Good (signed n)
 unfolding signed all
 good_signed n = choose_by Good (ltb n 0x8000_0000) _ _ (λ t. good_decimal n) (λ f. good_then (good_low (45 ∷ []) refl) (good_decimal (0x1_0000_0000 - n)))
 
-good_end : (e : End) → Good (end_text e)
-good_end Open = good_none
-good_end (At n) = good_signed n
+good_end : (e : Option ℕ) → Good (end_text e)
+good_end None = good_none
+good_end (Some n) = good_signed n
 
 good_character : (c : ℕ) → scalar c ≡ true → Good (character c)
 unfolding simple_of all
@@ -234,14 +231,14 @@ module _ {P : Type 0} (v : Style) where
   good_rules [] f = good_none
   good_rules (r ∷ us) f = let g = and_true (fine_rule r) (fine_rules us) f in good_then (good_rule_lem r g.0) (good_rules us g.1)
 
-  pub rules_utf8 : (us : List (Rule P)) → fine_rules us ≡ true → first_bad (printed_rules v us) ≡ Through
+  pub rules_utf8 : (us : List (Rule P)) → fine_rules us ≡ true → first_bad (printed_rules v us) ≡ None
   rules_utf8 us f = good_utf8 (printed_rules v us) (good_rules us f)
 
 -- ---- tables
 
 module _ (v : Style) (ns rs st : List ℕ) where
   -- the text of tables that aren't false, with zero counts, without rules and of any length too
-  pub printed_utf8 : tables ns rs st ≡ Table.Good → first_bad (table_text v ns rs st) ≡ Through
+  pub printed_utf8 : tables ns rs st ≡ Table.Good → first_bad (table_text v ns rs st) ≡ None
   unfolding table_text
   printed_utf8 e = rules_utf8 v (rules_of ns rs st) (valid_fine (tables_valid ns rs st e))
 
@@ -253,7 +250,7 @@ module _ (v : Style) (ns rs st : List ℕ) where
   used_by k n (Table.Rule i) e = let z : ◌≡◌ {A = ℕ} 0 1 = cc in absurd (omega arith)
 
   -- where the printer answers that n bytes are used, the first n bytes of what it leaves in the output are UTF-8
-  pub print_utf8 : (k n : ℕ) (o : List ℕ) → print_of v ns rs st k ≡ Used n → first_bad (take n (print_in v ns rs st o (Used n))) ≡ Through
+  pub print_utf8 : (k n : ℕ) (o : List ℕ) → print_of v ns rs st k ≡ Used n → first_bad (take n (print_in v ns rs st o (Used n))) ≡ None
   unfolding print_of print_in fronted
   print_utf8 k n o e =
       let (g, l) = used_by k n (tables ns rs st) e in

@@ -1,6 +1,5 @@
 -- Marked trees: how deep their brackets are, the levels of the grammar, brackets enough, how many there are, and what is read back.
-use Rattle.std.specs.Prelude.{ℕ, ◌+◌, ◌≤◌, max, Bool, false, not, List, [], ◌∷◌}
-use Rattle.std.proofs.Math.Option.{Option, none, some}
+use Rattle.std.specs.Prelude.{ℕ, ◌+◌, ◌≤◌, max, Bool, false, not, List, [], ◌∷◌, Option, Some, None}
 use Rattle.text.specs.Booleans.{choose, and}
 use Rattle.table.specs.declared.Join.{Join}
 use Rattle.table.specs.declared.Join.TheVariants.{Seq, Choice}
@@ -97,8 +96,8 @@ Fits (two b j x y) = (least (LeftOf j) ≤ stands x) × (least (RightOf j) ≤ s
 
 -- behind the chain of j so far, if there is one
 abbrev pub put : Join → Option (Tree Nowhere) → Tree Nowhere → Tree Nowhere
-put j none t = t
-put j (some a) t = two tt j a t
+put j None t = t
+put j (Some a) t = two tt j a t
 
 -- an operator without brackets that goes on a chain of j
 abbrev pub goes_on : Join → Tree Bool → Bool
@@ -109,11 +108,11 @@ goes_on j (two b k x y) = and (not b) (same_join j k)
 -- all chains grouped left, as far as no brackets part them
 unfoldable pub back : Join → Option (Tree Nowhere) → Tree Bool → Tree Nowhere
 back j c (leaf b a) = put j c (leaf tt a)
-back j c (one b o t) = put j c (one tt o (back Seq none t))
-back j c (two b k x y) = choose (and (not b) (same_join j k)) (λ u. back j (some (back j c x)) y) (λ u. put j c (back k (some (back k none x)) y))
+back j c (one b o t) = put j c (one tt o (back Seq None t))
+back j c (two b k x y) = choose (and (not b) (same_join j k)) (λ u. back j (Some (back j c x)) y) (λ u. put j c (back k (Some (back k None x)) y))
 
 abbrev pub whole : Tree Bool → Tree Nowhere
-whole m = back Seq none m
+whole m = back Seq None m
 
 unfoldable pub FitRules : List (Rule Bool) → Type 0
 FitRules [] = Unit {0}

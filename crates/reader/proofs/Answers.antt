@@ -1,4 +1,5 @@
 -- The phases of a reading: what each of them answers, and what it leaves in the lent buffers.
+use Rattle.std.specs.Prelude.{ℕ, Option, Some, None, Result, Ok, Err}
 use Prim.Native.Nat.{ℕ, ◌*◌, ◌≤◌, ◌<◌}
 use mathlib.Core.Path.{◌≡◌, refl, sym, ap, ◌∙◌}
 use mathlib.Core.Bool.{false}
@@ -12,9 +13,8 @@ use borrow.Author.Tests.{le-leb, lt-leb}
 use Rattle.text.specs.Booleans.{choose, or}
 use Rattle.text.specs.Splice.{fronted}
 use Rattle.text.specs.Utf8.{first_bad}
-use Rattle.text.specs.declared.Scan.{Scan}
 use Rattle.token.specs.Lists.{tokens_of, filled_of}
-use Rattle.token.specs.declared.Filled.{Filled}
+use Rattle.token.specs.declared.FillError.{FillError}
 use Rattle.token.proofs.Lists.{few}
 use Rattle.token.proofs.Table.{flat_length}
 use Rattle.token.proofs.Fills.{used, filled_all, filled_none, filled_over}
@@ -25,12 +25,11 @@ use Rattle.table.specs.Flat.{no_line, nodes_of}
 use Rattle.table.proofs.Rules.{length_nodes}
 use Rattle.structure.specs.declared.Edition.{Edition}
 use Rattle.structure.specs.declared.Level.{Level}
-use Rattle.structure.specs.declared.Fault.{Fault}
 use Rattle.structure.specs.declared.Refusal.{Refusal}
 use Rattle.structure.specs.declared.Why.{Why}
 use Rattle.structure.specs.Refusals.{because}
 use Rattle.structure.specs.declared.Why.TheVariants.{TooLong, NotUtf8, NoToken, NotAllowed, TooDeep, Over, Zero, PeekRange, NotScalar, NotPlain, Above, RulesRoom, NodesRoom, StoreRoom}
-use Rattle.structure.specs.declared.Counted.{Counted}
+use Rattle.structure.specs.declared.Counts.{Counts as RuleCounts}
 use Rattle.structure.specs.Values.{faults}
 use Rattle.structure.specs.Structure.{Ruled, rules, unruled, grammar}
 use Rattle.structure.specs.Answers.{summaries}
@@ -39,9 +38,9 @@ use Rattle.text.proofs.Booleans.{choose_false, choose_true, or_first, or_second}
 use Rattle.text.specs.Limits.{max_text}
 use Rattle.token.specs.Table.{token_size, flat, room_of, toks, is, Lent}
 use Rattle.structure.proofs.Fine.{sound_characters}
+use Rattle.structure.proofs.Wants.{rule_counts}
 use Rattle.structure.proofs.Stores.{stored_fits}
 use Rattle.reader.specs.declared.Reading.{Reading}
-use Rattle.reader.specs.declared.Attempt.{Attempt}
 use Rattle.reader.proofs.Counts.{Counts, judged_counts}
 use Rattle.reader.proofs.Lines.{lines_fronted}
 use Rattle.reader.specs.Lines.{line_in, with_lines}
@@ -72,39 +71,41 @@ module _ (k c z n r b : ℕ) where
 
 -- ---- structure, values, room
 
-counted_refused : (m : Ruled) (r : Counted) (x : Refusal) → r ≡ summaries m → r ≡ Counted.Refused x → m ≡ unruled x
+counted_refused : (m : Ruled) (r : Result RuleCounts Refusal) (x : Refusal) → r ≡ summaries m → r ≡ Err x → m ≡ unruled x
 unfolding summaries
 counted_refused (rules us) r x e q = let z : ◌≡◌ {A = ℕ} 0 1 = cc in absurd (omega arith)
 counted_refused (unruled y) r x e q = cc
 
-counted_rules_lem : (m : Ruled) (r : Counted) (a b c : ℕ) → r ≡ summaries m → r ≡ Counted.Rules a b c
+counted_rules_lem : (m : Ruled) (r : Result RuleCounts Refusal) (a b c : ℕ) → r ≡ summaries m → r ≡ Ok (rule_counts a b c)
     → (us : List (Rule Span)) × (m ≡ rules us) × (length us ≡ a) × (counts us ≡ b) × (length (rules_stored us) ≡ c)
 unfolding summaries
-counted_rules_lem (rules us) r a b c e q = (us, refl, cc, cc, cc)
+counted_rules_lem (rules us) r a b c e q =
+    let h : ◌≡◌ {A = RuleCounts} (rule_counts (length us) (counts us) (length (rules_stored us))) (rule_counts a b c) = cc in
+    (us, refl, ap (λ (z : RuleCounts). z.rules) h, ap (λ (z : RuleCounts). z.nodes) h, ap (λ (z : RuleCounts). z.bytes) h)
 counted_rules_lem (unruled y) r a b c e q = let z : ◌≡◌ {A = ℕ} 0 1 = cc in absurd (omega arith)
 
-module _ (edition : Edition) (level : Level) (s : List ℕ) (n r b : ℕ) (c : Counted) (e : c ≡ summaries (grammar level s)) where
-  pub judge_refused : (x : Refusal) → c ≡ Counted.Refused x → Reading.Refused x ≡ judged_of edition level s n r b
+module _ (edition : Edition) (level : Level) (s : List ℕ) (n r b : ℕ) (c : Result RuleCounts Refusal) (e : c ≡ summaries (grammar level s)) where
+  pub judge_refused : (x : Refusal) → c ≡ Err x → Reading.Refused x ≡ judged_of edition level s n r b
   unfolding judged_of
   judge_refused x q = sym (ap (λ (m : Ruled). ruled_by m (λ us. faulty (faults edition level s) (λ u. room_by (length us) (counts us) (length (rules_stored us)) n r b))) (counted_refused (grammar level s) c x e q))
 
-  module _ (k l z : ℕ) (q : c ≡ Counted.Rules k l z) (f : Fault) (g : f ≡ faults edition level s) where
-    pub judge_by : (y : Fault) → f ≡ y → faulty y (λ u. room_by k l z n r b) ≡ judged_of edition level s n r b
+  module _ (k l z : ℕ) (q : c ≡ Ok (rule_counts k l z)) (f : Option Refusal) (g : f ≡ faults edition level s) where
+    pub judge_by : (y : Option Refusal) → f ≡ y → faulty y (λ u. room_by k l z n r b) ≡ judged_of edition level s n r b
     unfolding judged_of
     judge_by y w =
         let (us, m, e₁, e₂, e₃) = counted_rules_lem (grammar level s) c k l z e q in
         sym (ap (λ (m : Ruled). ruled_by m (λ us. faulty (faults edition level s) (λ u. room_by (length us) (counts us) (length (rules_stored us)) n r b))) m
-        ∙ ap (λ (x : Fault). faulty x (λ u. room_by (length us) (counts us) (length (rules_stored us)) n r b)) (sym g ∙ w)
+        ∙ ap (λ (x : Option Refusal). faulty x (λ u. room_by (length us) (counts us) (length (rules_stored us)) n r b)) (sym g ∙ w)
         ∙ rw (e₁, e₂, e₃))
 
-    pub judge_room : f ≡ Fault.Sound → (y : Reading) → y ≡ room_by k l z n r b → y ≡ judged_of edition level s n r b
-    judge_room w y h = h ∙ judge_by Fault.Sound w
+    pub judge_room : f ≡ None → (y : Reading) → y ≡ room_by k l z n r b → y ≡ judged_of edition level s n r b
+    judge_room w y h = h ∙ judge_by None w
 
 -- ---- a text whose values are sound
 
 module _ (edition : Edition) (level : Level) (s : List ℕ) where
   -- every string means characters
-  pub sound_scalars : faults edition level s ≡ Fault.Sound → Scalars s
+  pub sound_scalars : faults edition level s ≡ None → Scalars s
   sound_scalars e = record {
     strings = λ i q. sound_characters edition level s e i (or_first (is s i 23) (or (is s i 24) (is s i 25)) q);
     insens = λ i q. sound_characters edition level s e i (or_second (is s i 23) (or (is s i 24) (is s i 25)) (or_first (is s i 24) (is s i 25) q));
@@ -167,65 +168,56 @@ module _ (edition : Edition) (level : Level) (s ns rs st : List ℕ) (x : Readin
 -- ---- tokens in the table
 
 module _ (m : ℕ) (edition : Edition) (level : Level) (s : List ℕ) (n r b : ℕ) where
-  tried_fits : length (toks s) ≤ m → attempt_of m edition level s n r b ≡ Attempt.Done (listed_of edition level s n r b)
+  tried_fits : length (toks s) ≤ m → attempt_of m edition level s n r b ≡ Some (listed_of edition level s n r b)
   unfolding attempt_of
   tried_fits h = rw (le-leb (length (toks s)) m h)
 
-  tried_over : m < length (toks s) → attempt_of m edition level s n r b ≡ Attempt.Full
+  tried_over : m < length (toks s) → attempt_of m edition level s n r b ≡ None
   unfolding attempt_of
   tried_over h = rw (lt-leb (length (toks s)) m h)
 
   -- what was done is what the text gets
-  tried_done : {t : Attempt} {x : Reading} → t ≡ attempt_of m edition level s n r b → t ≡ Attempt.Done x → x ≡ listed_of edition level s n r b
+  pub tried_done : {t : Option Reading} {x : Reading} → t ≡ attempt_of m edition level s n r b → t ≡ Some x → x ≡ listed_of edition level s n r b
   tried_done {t} {x} e q =
       ⊎_elim
       (λ h.
-      let w : Attempt.Full ≡ Attempt.Done x = sym (tried_over h) ∙ sym e ∙ q in
+      let w : None ≡ Some x = sym (tried_over h) ∙ sym e ∙ q in
       let z : ◌≡◌ {A = ℕ} 0 1 = cc in
       absurd (omega arith))
       (λ h.
-      let w : Attempt.Done x ≡ Attempt.Done (listed_of edition level s n r b) = sym q ∙ e ∙ tried_fits h in
+      let w : Some x ≡ Some (listed_of edition level s n r b) = sym q ∙ e ∙ tried_fits h in
       cc)
       (lt_or_ge m (length (toks s)))
 
   -- as many tokens as bytes are enough
-  pub tried_all : {t : Attempt} → length s ≤ m → t ≡ attempt_of m edition level s n r b → t ≡ Attempt.Full → ⊥
+  pub tried_all : {t : Option Reading} → length s ≤ m → t ≡ attempt_of m edition level s n r b → t ≡ None → ⊥
   tried_all {t} h e q =
       let l = few s in
-      let w : Attempt.Full ≡ Attempt.Done (listed_of edition level s n r b) = sym q ∙ e ∙ tried_fits (omega arith) in
+      let w : None ≡ Some (listed_of edition level s n r b) = sym q ∙ e ∙ tried_fits (omega arith) in
       let z : ◌≡◌ {A = ℕ} 0 1 = cc in
       omega arith
 
--- one size of table did
-pub listed_done : (m : ℕ) (edition : Edition) (level : Level) (s ns rs st ns₁ rs₁ st₁ : List ℕ) {t : Attempt} {x : Reading} → t ≡ attempt_of m edition level s (room_for_nodes ns) (room_for_rules rs) (length st)
-    → AttemptLeaves level s t ns rs st ns₁ rs₁ st₁ → t ≡ Attempt.Done x → (x ≡ listed_of edition level s (room_for_nodes ns) (room_for_rules rs) (length st)) × Leaves level s x ns rs st ns₁ rs₁ st₁
-listed_done m edition level s ns rs st ns₁ rs₁ st₁ e w q = (tried_done m edition level s (room_for_nodes ns) (room_for_rules rs) (length st) e q, rw q at w)
-
--- or was full, and all is as it was for the next
-pub full_kept : (level : Level) (s ns rs st ns₁ rs₁ st₁ : List ℕ) {t : Attempt} → AttemptLeaves level s t ns rs st ns₁ rs₁ st₁ → t ≡ Attempt.Full → (ns₁ ≡ ns) × (rs₁ ≡ rs) × (st₁ ≡ st)
-full_kept level s ns rs st ns₁ rs₁ st₁ w q = rw q at w
-
-module _ (s o₀ : List ℕ) (f : Filled) (e : f ≡ filled_of (room_of o₀) s) where
-  pub list_and_read_full : (edition : Edition) (level : Level) (ns rs st : List ℕ) (n r b : ℕ) → f ≡ Filled.Full → (Attempt.Full ≡ attempt_of (room_of o₀) edition level s n r b) × AttemptLeaves level s Attempt.Full ns rs st ns rs st
+module _ (s o₀ : List ℕ) (f : Result ℕ FillError) (e : f ≡ filled_of (room_of o₀) s) where
+  pub list_and_read_full : (edition : Edition) (level : Level) (ns rs st : List ℕ) (n r b : ℕ) → f ≡ Err FillError.Full → (None ≡ attempt_of (room_of o₀) edition level s n r b) × AttemptLeaves level s None ns rs st ns rs st
   list_and_read_full edition level ns rs st n r b q = (sym (tried_over (room_of o₀) edition level s n r b (filled_over (room_of o₀) s (sym e ∙ q))), (refl, refl, refl))
 
-  pub list_and_read_stopped : (edition : Edition) (level : Level) (ns rs st : List ℕ) (n r b p : ℕ) → f ≡ Filled.NoToken p → (y : Reading) → y ≡ refused_by NoToken p
-      → (Attempt.Done y ≡ attempt_of (room_of o₀) edition level s n r b) × AttemptLeaves level s (Attempt.Done y) ns rs st ns rs st
+  pub list_and_read_stopped : (edition : Edition) (level : Level) (ns rs st : List ℕ) (n r b p : ℕ) → f ≡ Err (FillError.NoToken p) → (y : Reading) → y ≡ refused_by NoToken p
+      → (Some y ≡ attempt_of (room_of o₀) edition level s n r b) × AttemptLeaves level s (Some y) ns rs st ns rs st
   unfolding listed_of
   list_and_read_stopped edition level ns rs st n r b p q y h =
       let w = filled_none (room_of o₀) s p (sym e ∙ q) in
-      let z : refused_by NoToken p ≡ listed_of edition level s n r b = sym (ap (λ (x : Scan). checked_by x (refused_by NoToken) (λ u. judged_of edition level s n r b)) w.1) in
-      (ap Attempt.Done (h ∙ z) ∙ sym (tried_fits (room_of o₀) edition level s n r b w.0), rw h (kept level s ns rs st (because NoToken p)))
+      let z : refused_by NoToken p ≡ listed_of edition level s n r b = sym (ap (λ (x : Option ℕ). checked_by x (refused_by NoToken) (λ u. judged_of edition level s n r b)) w.1) in
+      (ap Some (h ∙ z) ∙ sym (tried_fits (room_of o₀) edition level s n r b w.0), rw h (kept level s ns rs st (because NoToken p)))
 
-  module _ (n : ℕ) (q : f ≡ Filled.All n) where
-    all : (length (toks s) ≤ room_of o₀) × (n ≡ length (toks s)) × ((tokens_of s).fault ≡ Scan.Through)
+  module _ (n : ℕ) (q : f ≡ Ok n) where
+    all : (length (toks s) ≤ room_of o₀) × (n ≡ length (toks s)) × ((tokens_of s).fault ≡ None)
     all = filled_all (room_of o₀) s n (sym e ∙ q)
 
-    pub list_and_read_filled : (edition : Edition) (level : Level) (x : Reading) (k r b : ℕ) → x ≡ judged_of edition level s k r b → Attempt.Done x ≡ attempt_of (room_of o₀) edition level s k r b
+    pub list_and_read_filled : (edition : Edition) (level : Level) (x : Reading) (k r b : ℕ) → x ≡ judged_of edition level s k r b → Some x ≡ attempt_of (room_of o₀) edition level s k r b
     unfolding listed_of
     list_and_read_filled edition level x k r b h =
-        let z : x ≡ listed_of edition level s k r b = h ∙ sym (ap (λ (y : Scan). checked_by y (refused_by NoToken) (λ u. judged_of edition level s k r b)) all.2) in
-        ap Attempt.Done z ∙ sym (tried_fits (room_of o₀) edition level s k r b all.0)
+        let z : x ≡ listed_of edition level s k r b = h ∙ sym (ap (λ (y : Option ℕ). checked_by y (refused_by NoToken) (λ u. judged_of edition level s k r b)) all.2) in
+        ap Some z ∙ sym (tried_fits (room_of o₀) edition level s k r b all.0)
 
     -- the product that is the used part's length is a small number
     pub few_numbers : length s ≤ max_text → n * token_size ≤ 196608
@@ -272,18 +264,18 @@ module _ (edition : Edition) (level : Level) (s ns rs st : List ℕ) where
   unfolding read_of
   read_long h y w = met (w ∙ sym (choose_false (leb (length s) max_text) _ _ (lt-leb (length s) max_text h))) (rw w (kept level s ns rs st (because TooLong 0)))
 
-  module _ (h : length s ≤ max_text) (c : Scan) (e : c ≡ first_bad s) where
-    by_check : {y : Scan} → c ≡ y
+  module _ (h : length s ≤ max_text) (c : Option ℕ) (e : c ≡ first_bad s) where
+    by_check : {y : Option ℕ} → c ≡ y
         → checked_by y (refused_by NotUtf8) (λ u. listed_of edition level s (room_for_nodes ns) (room_for_rules rs) (length st)) ≡ read_of edition level s (room_for_nodes ns) (room_for_rules rs) (length st)
     unfolding read_of
     by_check q =
         sym (choose_true (leb (length s) max_text) _ _ (le-leb (length s) max_text h)
-        ∙ ap (λ (x : Scan). checked_by x (refused_by NotUtf8) (λ u. listed_of edition level s (room_for_nodes ns) (room_for_rules rs) (length st))) (sym e ∙ q))
+        ∙ ap (λ (x : Option ℕ). checked_by x (refused_by NotUtf8) (λ u. listed_of edition level s (room_for_nodes ns) (room_for_rules rs) (length st))) (sym e ∙ q))
 
-    pub read_bad : (p : ℕ) → c ≡ Scan.StopsAt p → (y : Reading) → y ≡ refused_by NotUtf8 p → Meets edition level s ns rs st y ns rs st
+    pub read_bad : (p : ℕ) → c ≡ Some p → (y : Reading) → y ≡ refused_by NotUtf8 p → Meets edition level s ns rs st y ns rs st
     read_bad p q y w = met (w ∙ by_check q) (rw w (kept level s ns rs st (because NotUtf8 p)))
 
-    pub read_good : c ≡ Scan.Through → (r : Reading) (ns' rs' st' : List ℕ) → r ≡ listed_of edition level s (room_for_nodes ns) (room_for_rules rs) (length st) → Leaves level s r ns rs st ns' rs' st'
+    pub read_good : c ≡ None → (r : Reading) (ns' rs' st' : List ℕ) → r ≡ listed_of edition level s (room_for_nodes ns) (room_for_rules rs) (length st) → Leaves level s r ns rs st ns' rs' st'
         → Meets edition level s ns rs st r ns' rs' st'
     read_good q r ns' rs' st' w l = met (w ∙ by_check q) l
 

@@ -1,4 +1,5 @@
 -- A reading that succeeded: the text is one of tokens, the grammar gave rules, no value was at fault, the counts are those of the rules, and they fit the room.
+use Rattle.std.specs.Prelude.{ℕ, Option, Some, None}
 use Prim.Native.Nat.{ℕ, ◌≤◌}
 use mathlib.Core.Path.{◌≡◌, refl}
 use mathlib.Core.List.{List}
@@ -7,7 +8,6 @@ use lib.Dec.{leb}
 use lib.ListN.{length}
 use borrow.Author.Tests.{leb-true}
 use Rattle.text.specs.Utf8.{first_bad}
-use Rattle.text.specs.declared.Scan.{Scan}
 use Rattle.text.proofs.Booleans.{split}
 use Rattle.text.specs.Limits.{max_text}
 use Rattle.token.specs.Lists.{tokens_of}
@@ -16,16 +16,16 @@ use Rattle.structure.specs.declared.Edition.{Edition}
 use Rattle.structure.specs.declared.Level.{Level}
 use Rattle.structure.specs.declared.Why.{Why}
 use Rattle.structure.specs.declared.Why.TheVariants.{NotUtf8, NoToken}
-use Rattle.structure.specs.declared.Fault.{Fault}
 use Rattle.structure.specs.Values.{faults}
 use Rattle.structure.specs.Structure.{Ruled, rules, unruled, grammar}
 use Rattle.build.specs.Rules.{ruled_of, rules_read}
 use Rattle.reader.specs.declared.Reading.{Reading}
 use Rattle.reader.specs.Read.{room_by, faulty, checked_by, refused_by, ruled_by, judged_of, listed_of, read_of}
+use Rattle.structure.specs.declared.Refusal.{Refusal}
 
 pub record Counts (edition : Edition) (level : Level) (s : List ℕ) (n r b x y z : ℕ) : Type 0 where
   pub read : grammar level s ≡ rules (rules_read level s)
-  pub sound : faults edition level s ≡ Fault.Sound
+  pub sound : faults edition level s ≡ None
   pub nodes_are : x ≡ counts (rules_read level s)
   pub rules_are : y ≡ length (rules_read level s)
   pub store_is : z ≡ length (rules_stored (rules_read level s))
@@ -36,8 +36,8 @@ pub record Counts (edition : Edition) (level : Level) (s : List ℕ) (n r b x y 
 -- a text of legal length, of UTF-8, and of tokens up to its end
 pub record Text (s : List ℕ) : Type 0 where
   pub short : length s ≤ max_text
-  pub utf8 : first_bad s ≡ Scan.Through
-  pub lexed : (tokens_of s).fault ≡ Scan.Through
+  pub utf8 : first_bad s ≡ None
+  pub lexed : (tokens_of s).fault ≡ None
 
 module _ {x y z : ℕ} where
   room_read : (k c w n r b : ℕ) → room_by k c w n r b ≡ Reading.Read x y z → ((x ≡ c) × (c ≤ n)) × ((y ≡ k) × (k ≤ r)) × ((z ≡ w) × (w ≤ b))
@@ -51,17 +51,17 @@ module _ {x y z : ℕ} where
       (λ f q. let z : ◌≡◌ {A = ℕ} 0 1 = cc in absurd (omega arith)))
       (λ e q. let z : ◌≡◌ {A = ℕ} 0 1 = cc in absurd (omega arith))
 
-  faulty_read : (f : Fault) (g : Unit {0} → Reading) → faulty f g ≡ Reading.Read x y z → (f ≡ Fault.Sound) × (g tt ≡ Reading.Read x y z)
-  faulty_read Fault.Sound g e = (refl, e)
-  faulty_read (Fault.At r) g e = let z : ◌≡◌ {A = ℕ} 0 1 = cc in absurd (omega arith)
+  faulty_read : (f : Option Refusal) (g : Unit {0} → Reading) → faulty f g ≡ Reading.Read x y z → (f ≡ None) × (g tt ≡ Reading.Read x y z)
+  faulty_read None g e = (refl, e)
+  faulty_read (Some r) g e = let z : ◌≡◌ {A = ℕ} 0 1 = cc in absurd (omega arith)
 
   ruled_read : (m : Ruled) (f : List (Rule Span) → Reading) → ruled_by m f ≡ Reading.Read x y z → (m ≡ rules (ruled_of m)) × (f (ruled_of m) ≡ Reading.Read x y z)
   ruled_read (rules us) f e = (refl, e)
   ruled_read (unruled r) f e = let z : ◌≡◌ {A = ℕ} 0 1 = cc in absurd (omega arith)
 
-  checked_read : (w : Why) (c : Scan) (g : Unit {0} → Reading) → checked_by c (refused_by w) g ≡ Reading.Read x y z → (c ≡ Scan.Through) × (g tt ≡ Reading.Read x y z)
-  checked_read w (Scan.StopsAt p) g e = let z : ◌≡◌ {A = ℕ} 0 1 = cc in absurd (omega arith)
-  checked_read w Scan.Through g e = (refl, e)
+  checked_read : (w : Why) (c : Option ℕ) (g : Unit {0} → Reading) → checked_by c (refused_by w) g ≡ Reading.Read x y z → (c ≡ None) × (g tt ≡ Reading.Read x y z)
+  checked_read w (Some p) g e = let z : ◌≡◌ {A = ℕ} 0 1 = cc in absurd (omega arith)
+  checked_read w None g e = (refl, e)
 
   module _ (edition : Edition) (level : Level) (s : List ℕ) (n r b : ℕ) where
     pub judged_counts : judged_of edition level s n r b ≡ Reading.Read x y z → Counts edition level s n r b x y z

@@ -1,5 +1,6 @@
 -- The editions side by side, in what is answered: where an edition doesn't give 15, its answer is that of the first. (That the first never gives it is
 -- `first_numbers` of Reasons.)
+use Rattle.std.specs.Prelude.{ℕ, Option, Some, None}
 use Prim.Native.Nat.{ℕ}
 use mathlib.Core.Path.{◌≡◌, refl, ap}
 use mathlib.Core.Bool.{Bool, true, false}
@@ -9,35 +10,34 @@ use lib.ListN.{length}
 use Rattle.text.specs.Booleans.{choose}
 use Rattle.text.specs.Limits.{max_text}
 use Rattle.text.specs.Utf8.{first_bad}
-use Rattle.text.specs.declared.Scan.{Scan}
 use Rattle.token.specs.Lists.{tokens_of}
 use Rattle.table.specs.Tree.{Span, Rule}
 use Rattle.structure.specs.declared.Edition.{Edition}
 use Rattle.structure.specs.declared.Edition.TheVariants.{First}
 use Rattle.structure.specs.declared.Level.{Level}
 use Rattle.structure.specs.declared.Why.TheVariants.{NotUtf8, NoToken, Above}
-use Rattle.structure.specs.declared.Fault.{Fault}
 use Rattle.structure.specs.Refusals.{fault_by}
 use Rattle.structure.specs.Values.{faults}
 use Rattle.structure.specs.Structure.{Ruled, rules, unruled, grammar}
 use Rattle.structure.proofs.Editions.{second_adds}
 use Rattle.reader.specs.declared.Reading.{Reading}
 use Rattle.reader.specs.Read.{room_for, faulty, checked_by, refused_by, ruled_by, judged_of, listed_of, read_of}
+use Rattle.structure.specs.declared.Refusal.{Refusal}
 
 -- an answer is another one, unless it is 15
 abbrev Alike : Reading → Reading → Type 0
 Alike a b = ((p : ℕ) → a ≡ refused_by Above p → ⊥) → a ≡ b
 
-by_fault : (f g : Fault) (x : Unit {0} → Reading) → (((p : ℕ) → f ≡ fault_by Above p → ⊥) → f ≡ g) → Alike (faulty f x) (faulty g x)
+by_fault : (f g : Option Refusal) (x : Unit {0} → Reading) → (((p : ℕ) → f ≡ fault_by Above p → ⊥) → f ≡ g) → Alike (faulty f x) (faulty g x)
 by_fault f g x k h = ap (λ y. faulty y x) (k (λ p e. h p (ap (λ y. faulty y x) e)))
 
 by_rules : (m : Ruled) (x y : List (Rule Span) → Reading) → ((us : List (Rule Span)) → Alike (x us) (y us)) → Alike (ruled_by m x) (ruled_by m y)
 by_rules (rules us) x y k h = k us h
 by_rules (unruled r) x y k h = refl
 
-by_check : (c : Scan) (w : ℕ → Reading) (x y : Unit {0} → Reading) → Alike (x tt) (y tt) → Alike (checked_by c w x) (checked_by c w y)
-by_check (Scan.StopsAt p) w x y k h = refl
-by_check Scan.Through w x y k h = k h
+by_check : (c : Option ℕ) (w : ℕ → Reading) (x y : Unit {0} → Reading) → Alike (x tt) (y tt) → Alike (checked_by c w x) (checked_by c w y)
+by_check (Some p) w x y k h = refl
+by_check None w x y k h = k h
 
 by_length : (b : Bool) (x y z : Unit {0} → Reading) → Alike (x tt) (y tt) → Alike (choose b x z) (choose b y z)
 by_length true x y z k h = k h

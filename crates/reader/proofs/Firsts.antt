@@ -1,5 +1,6 @@
 -- What a reading says of values: one that succeeded has numbers in their bounds, and one refused for a value is refused for the first of the trees that is wrong.
 -- No other phase gives the numbers of values, so the refusal is that of `faults`.
+use Rattle.std.specs.Prelude.{ℕ, Option, Some, None}
 use Prim.Native.Nat.{ℕ}
 use mathlib.Core.Path.{◌≡◌, refl, sym, ap, ◌∙◌}
 use mathlib.Core.Bool.{true, false}
@@ -11,7 +12,6 @@ use lib.ListN.{length}
 use Rattle.text.specs.Booleans.{among}
 use Rattle.text.specs.Limits.{max_text}
 use Rattle.text.specs.Utf8.{first_bad}
-use Rattle.text.specs.declared.Scan.{Scan}
 use Rattle.text.proofs.Booleans.{choose_by}
 use Rattle.token.specs.Lists.{tokens_of}
 use Rattle.table.specs.Tree.{Span, Rule}
@@ -20,7 +20,6 @@ use Rattle.structure.specs.declared.Level.{Level}
 use Rattle.structure.specs.declared.Why.{Why}
 use Rattle.structure.specs.declared.Why.TheVariants.{TooLong, NotUtf8, NoToken, RulesRoom, NodesRoom, StoreRoom}
 use Rattle.structure.specs.declared.Refusal.{Refusal}
-use Rattle.structure.specs.declared.Fault.{Fault}
 use Rattle.structure.specs.Values.{faults}
 use Rattle.structure.specs.Structure.{Ruled, rules, unruled, grammar}
 use Rattle.structure.specs.Counts.{counted_rules}
@@ -65,17 +64,17 @@ module _ (edition : Edition) (level : Level) (s : List ℕ) (n r b : ℕ) where
       choose_by Told (leb k r) _ _
       (λ e. choose_by Told (leb c n) _ _ (λ e. choose_by Told (leb z b) _ _ (λ e. tt) (λ e. not_values edition StoreRoom refl)) (λ e. not_values edition NodesRoom refl)) (λ e. not_values edition RulesRoom refl)
 
-  by_fault : (us : List (Rule Span)) → grammar level s ≡ rules us → (f : Fault) (g : Unit {0} → Reading) → faults edition level s ≡ f → Told (g tt) → Told (faulty f g)
-  by_fault us h Fault.Sound g e x = x
-  by_fault us h (Fault.At y) g e x = λ v. first_wrong edition level s (rules_read level s) y (h ∙ ap rules (sym (ap ruled_of h))) e
+  by_fault : (us : List (Rule Span)) → grammar level s ≡ rules us → (f : Option Refusal) (g : Unit {0} → Reading) → faults edition level s ≡ f → Told (g tt) → Told (faulty f g)
+  by_fault us h None g e x = x
+  by_fault us h (Some y) g e x = λ v. first_wrong edition level s (rules_read level s) y (h ∙ ap rules (sym (ap ruled_of h))) e
 
   by_rules : (m : Ruled) (g : List (Rule Span) → Reading) → grammar level s ≡ m → ((us : List (Rule Span)) → grammar level s ≡ rules us → Told (g us)) → Told (ruled_by m g)
   by_rules (rules us) g e x = x us e
   by_rules (unruled y) g e x = not_structure edition y.why (grammar_why s level y e)
 
-  by_check : (w : Why) (c : Scan) (g : Unit {0} → Reading) → among (5 ∷ 6 ∷ 7 ∷ 8 ∷ 13 ∷ 15 ∷ []) (number_of w) ≡ false → Told (g tt) → Told (checked_by c (refused_by w) g)
-  by_check w (Scan.StopsAt p) g e x = not_values edition w e
-  by_check w Scan.Through g e x = x
+  by_check : (w : Why) (c : Option ℕ) (g : Unit {0} → Reading) → among (5 ∷ 6 ∷ 7 ∷ 8 ∷ 13 ∷ 15 ∷ []) (number_of w) ≡ false → Told (g tt) → Told (checked_by c (refused_by w) g)
+  by_check w (Some p) g e x = not_values edition w e
+  by_check w None g e x = x
 
   told : Told (read_of edition level s n r b)
   unfolding read_of listed_of judged_of number_of

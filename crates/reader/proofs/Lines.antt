@@ -9,8 +9,9 @@ use native.Mathlib.Nat.{eq-or-lt_of_le}
 use native.Mathlib.Numerals.{add-one}
 use native.Mathlib.Omega.{arith}
 use lib.Dec.{eqb}
-use lib.ListN.{length, get_or, set, take, drop, length-append, length-take, length-set}
+use lib.ListN.{length, get_or, set, take, drop, length-append, length-take, length-drop, length-set}
 use lib.Seq.{take_all, take-length, take-suc, get_or-append-add, set_at, get_or-set_same, get_or-set_other}
+use Rattle.std.proofs.lemmas.List.{get_or-take, get_or-drop}
 use Rattle.text.specs.Booleans.{choose}
 use Rattle.text.specs.Splice.{fronted}
 use Rattle.text.proofs.Splices.{length_fronted}
@@ -61,13 +62,20 @@ unfolding line_in
 line_most s a = omega (arith, feeds_most (take a s), length-take a s)
 
 -- a byte more adds 1 if it is LF
-pub line_more : (s : List ℕ) (i j : ℕ) → i < length s → i + 1 ≡ j → line_in s i + feed (get_or s i 0) ≡ line_in s j
+line_more : (s : List ℕ) (i j : ℕ) → i < length s → i + 1 ≡ j → line_in s i + feed (get_or s i 0) ≡ line_in s j
 unfolding line_in
 line_more s i j h z =
     let e : feeds (take (i + 1) s) ≡ feeds (take i s) + feed (get_or s i 0) =
     rw (add-one, take-suc s i 0) (feeds_append (take i s) (get_or s i 0 ∷ []) ∙ ap (λ (n : ℕ). feeds (take i s) + n) (feeds_one (get_or s i 0))) in
     let m : (1 + feeds (take i s)) + feed (get_or s i 0) ≡ 1 + feeds (take (i + 1) s) = omega arith in
     m ∙ ap (λ (k : ℕ). 1 + feeds (take k s)) z
+
+-- and so does the next one of a part of a text
+pub line_more_in : (s : List ℕ) (a m k : ℕ) → k < length (take m (drop a s)) → line_in s (a + k) + feed (get_or (take m (drop a s)) k 0) ≡ line_in s (a + (k + 1))
+line_more_in s a m k h =
+    let t : k < m = omega (arith, h, length-take m (drop a s), length-drop a s) in
+    let i : a + k < length s = omega (arith, h, length-take m (drop a s), length-drop a s) in
+    rw (get_or-take m (drop a s) k 0 t, get_or-drop a s k 0) (line_more s (a + k) (a + (k + 1)) i (omega arith))
 
 -- nothing is past the end
 pub line_end_lem : (s : List ℕ) (a : ℕ) → length s ≤ a → line_in s (length s) ≡ line_in s a

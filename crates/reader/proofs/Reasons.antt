@@ -1,4 +1,5 @@
 -- Past the list of tokens a text is refused by structure, by a value or for want of room, and for nothing else.
+use Rattle.std.specs.Prelude.{ℕ, Option, Some, None}
 use Prim.Native.Nat.{ℕ, ◌≤◌}
 use mathlib.Core.Path.{◌≡◌, refl}
 use mathlib.Core.Logic.{◌⊎◌, inl, inr, ⊎_elim}
@@ -8,7 +9,6 @@ use lib.Dec.{leb}
 use lib.ListN.{length}
 use Rattle.text.specs.Limits.{max_text}
 use Rattle.text.specs.Utf8.{first_bad}
-use Rattle.text.specs.declared.Scan.{Scan}
 use Rattle.token.specs.Lists.{tokens_of}
 use Rattle.text.proofs.Booleans.{choose_by}
 use Rattle.table.specs.Tree.{Span, Rule}
@@ -18,7 +18,6 @@ use Rattle.structure.specs.declared.Level.{Level}
 use Rattle.structure.specs.declared.Why.{Why}
 use Rattle.structure.specs.declared.Why.TheVariants.{TooLong, NotUtf8, NoToken, NotAllowed, TooDeep, Over, Zero, PeekRange, NotScalar, NotPlain, Above, RulesRoom, NodesRoom, StoreRoom}
 use Rattle.structure.specs.declared.Refusal.{Refusal}
-use Rattle.structure.specs.declared.Fault.{Fault}
 use Rattle.structure.specs.Values.{faults}
 use Rattle.structure.specs.Structure.{Ruled, rules, unruled, grammar}
 use Rattle.structure.proofs.Reasons.{OfStructure, OfValues, grammar_why, faults_why}
@@ -42,9 +41,9 @@ module _ (edition : Edition) where
       (λ e. choose_by Judged (leb z b) _ _ (λ e. tt) (λ e. inr (inr (inr (inr refl))))) (λ e. inr (inr (inr (inl refl)))))
       (λ e. inr (inr (inl refl)))
 
-  by_fault : (f : Fault) (g : Unit {0} → Reading) → ((r : Refusal) → f ≡ Fault.At r → OfValues edition r.why) → Judged (g tt) → Judged (faulty f g)
-  by_fault Fault.Sound g h x = x
-  by_fault (Fault.At r) g h x = inr (inl (h r refl))
+  by_fault : (f : Option Refusal) (g : Unit {0} → Reading) → ((r : Refusal) → f ≡ Some r → OfValues edition r.why) → Judged (g tt) → Judged (faulty f g)
+  by_fault None g h x = x
+  by_fault (Some r) g h x = inr (inl (h r refl))
 
   by_rules : (m : Ruled) (g : List (Rule Span) → Reading) → ((r : Refusal) → m ≡ unruled r → OfStructure r.why) → ((us : List (Rule Span)) → Judged (g us)) → Judged (ruled_by m g)
   by_rules (rules us) g h x = x us
@@ -105,9 +104,9 @@ abbrev LowReading : Reading → Type 0
 LowReading (Reading.Read n r b) = Unit {0}
 LowReading (Reading.Refused x) = Low x.why
 
-low_check : (w : Why) (c : Scan) (g : Unit {0} → Reading) → Low w → LowReading (g tt) → LowReading (checked_by c (refused_by w) g)
-low_check w (Scan.StopsAt p) g h x = h
-low_check w Scan.Through g h x = x
+low_check : (w : Why) (c : Option ℕ) (g : Unit {0} → Reading) → Low w → LowReading (g tt) → LowReading (checked_by c (refused_by w) g)
+low_check w (Some p) g h x = h
+low_check w None g h x = x
 
 module _ (level : Level) (s : List ℕ) (n r b : ℕ) where
   low_judged : (a : Reading) → judged_of First level s n r b ≡ a → LowReading a

@@ -1,9 +1,8 @@
 -- What the reader answers, and what it leaves in the lent buffers.
-use Rattle.std.specs.Prelude.{ℕ, min, ◌≡◌, List, leb, length}
+use Rattle.std.specs.Prelude.{ℕ, min, ◌≡◌, List, leb, length, Option, Some, None}
 use Rattle.text.specs.Booleans.{choose}
 use Rattle.text.specs.Splice.{fronted}
 use Rattle.text.specs.Utf8.{first_bad}
-use Rattle.text.specs.declared.Scan.{Scan}
 use Rattle.text.specs.Limits.{max_nodes, max_rules, max_text}
 use Rattle.token.specs.Lists.{tokens_of}
 use Rattle.table.specs.Tree.{Span, Rule, counts, rules_stored}
@@ -11,9 +10,7 @@ use Rattle.table.specs.Record.{nodes_in, rules_in}
 use Rattle.table.specs.Flat.{nodes_of, records_of}
 use Rattle.structure.specs.declared.Edition.{Edition}
 use Rattle.structure.specs.declared.Level.{Level}
-use Rattle.structure.specs.declared.Fault.{Fault}
 use Rattle.reader.specs.declared.Reading.{Reading}
-use Rattle.reader.specs.declared.Attempt.{Attempt}
 use Rattle.structure.specs.declared.Why.{Why}
 use Rattle.structure.specs.declared.Why.TheVariants.{TooLong, NotUtf8, NoToken, NotAllowed, TooDeep, Over, Zero, PeekRange, NotScalar, NotPlain, Above, RulesRoom, NodesRoom, StoreRoom}
 use Rattle.structure.specs.Refusals.{because}
@@ -21,6 +18,7 @@ use Rattle.structure.specs.Values.{faults}
 use Rattle.structure.specs.Structure.{Ruled, rules, unruled, grammar}
 use Rattle.build.specs.Rules.{rules_read}
 use Rattle.reader.specs.Lines.{line_in}
+use Rattle.structure.specs.declared.Refusal.{Refusal}
 
 -- a text that is refused
 abbrev pub refused_by : Why → ℕ → Reading
@@ -43,13 +41,13 @@ room_by k c z n r b =
 abbrev pub room_for : List (Rule Span) → ℕ → ℕ → ℕ → Reading
 room_for us n r b = room_by (length us) (counts us) (length (rules_stored us)) n r b
 
-abbrev pub faulty : Fault → (Unit {0} → Reading) → Reading
-faulty Fault.Sound f = f tt
-faulty (Fault.At r) f = Reading.Refused r
+abbrev pub faulty : Option Refusal → (Unit {0} → Reading) → Reading
+faulty None f = f tt
+faulty (Some r) f = Reading.Refused r
 
-abbrev pub checked_by : Scan → (ℕ → Reading) → (Unit {0} → Reading) → Reading
-checked_by (Scan.StopsAt p) f g = f p
-checked_by Scan.Through f g = g tt
+abbrev pub checked_by : Option ℕ → (ℕ → Reading) → (Unit {0} → Reading) → Reading
+checked_by (Some p) f g = f p
+checked_by None f g = g tt
 
 abbrev pub ruled_by : Ruled → (List (Rule Span) → Reading) → Reading
 ruled_by (rules us) f = f us
@@ -64,8 +62,8 @@ unfoldable pub listed_of : Edition → Level → List ℕ → ℕ → ℕ → �
 listed_of edition level s n r b = checked_by (tokens_of s).fault (refused_by NoToken) (λ u. judged_of edition level s n r b)
 
 -- by a table of m tokens: it has to hold all before the first 3
-unfoldable pub attempt_of : ℕ → Edition → Level → List ℕ → ℕ → ℕ → ℕ → Attempt
-attempt_of m edition level s n r b = choose (leb (length (tokens_of s).list) m) (λ u. Attempt.Done (listed_of edition level s n r b)) (λ u. Attempt.Full)
+unfoldable pub attempt_of : ℕ → Edition → Level → List ℕ → ℕ → ℕ → ℕ → Option Reading
+attempt_of m edition level s n r b = choose (leb (length (tokens_of s).list) m) (λ u. Some (listed_of edition level s n r b)) (λ u. None)
 
 -- 1 and 2 before those; each phase covers the whole text first
 unfoldable pub read_of : Edition → Level → List ℕ → ℕ → ℕ → ℕ → Reading
@@ -120,6 +118,6 @@ pub record Leaves (level : Level) (s : List ℕ) (r : Reading) (ns rs st ns' rs'
   pub store : st' ≡ left_in r (rules_stored (rules_read level s)) st
 
 -- a full table leaves all as it was
-abbrev pub AttemptLeaves : Level → List ℕ → Attempt → List ℕ → List ℕ → List ℕ → List ℕ → List ℕ → List ℕ → Type 0
-AttemptLeaves level s (Attempt.Done r) ns rs st ns' rs' st' = Leaves level s r ns rs st ns' rs' st'
-AttemptLeaves level s Attempt.Full ns rs st ns' rs' st' = (ns' ≡ ns) × (rs' ≡ rs) × (st' ≡ st)
+abbrev pub AttemptLeaves : Level → List ℕ → Option Reading → List ℕ → List ℕ → List ℕ → List ℕ → List ℕ → List ℕ → Type 0
+AttemptLeaves level s (Some r) ns rs st ns' rs' st' = Leaves level s r ns rs st ns' rs' st'
+AttemptLeaves level s None ns rs st ns' rs' st' = (ns' ≡ ns) × (rs' ≡ rs) × (st' ≡ st)

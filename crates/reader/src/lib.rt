@@ -13,20 +13,13 @@ ghost use Rattle.reader.specs.Lines.{line_in};
 ghost use Rattle.build.specs.Rules.{rules_read};
 
 use structure::{Edition, Level, Refusal, Why};
-use text::{Scan, limits};
+use text::limits;
 
 // The nodes, rules and store bytes used, or why nothing was read, and where.
 #[derive(Clone, Copy)]
 pub enum Reading {
     Read(usize, usize, usize),
     Refused(Refusal),
-}
-
-// What a text got whose tokens were listed in a table; or there are more tokens than it holds.
-#[derive(Clone, Copy)]
-pub enum Attempt {
-    Done(Reading),
-    Full,
 }
 
 // A place in a text and its line.
@@ -77,7 +70,7 @@ pub fn read(
         return inner::phases::refused(Why::TooLong, 0);
     }
     let utf8 = text::first_bad(text);
-    if let Scan::StopsAt(place) = utf8 {
+    if let Some(place) = utf8 {
         return inner::phases::refused(Why::NotUtf8, place);
     }
     let t = text::inner::classes::classes();

@@ -1,4 +1,5 @@
 -- What stores into the table of records leave: records one after another, and numbers of the last record that change.
+use Rattle.std.specs.Prelude.{ℕ, Option}
 use Prim.Native.Nat.{ℕ, suc, ◌+◌, ◌-◌, ◌*◌, ◌<◌}
 use mathlib.Core.Path.{◌≡◌, refl, sym, ap, ◌∙◌}
 use mathlib.Core.List.{List, [], ◌∷◌, ◌++◌, append_assoc}
@@ -9,7 +10,6 @@ use Rattle.text.proofs.Splices.{sets_append}
 use Rattle.table.specs.declared.Join.{Join}
 use Rattle.table.specs.declared.Unary.{Unary}
 use Rattle.table.specs.declared.Sort.{Sort}
-use Rattle.table.specs.declared.End.{End}
 use Rattle.table.specs.declared.Leaf.TheVariants.{Text, PeekSlice}
 use Rattle.table.specs.declared.Op.TheVariants.{Plain}
 use Rattle.table.specs.declared.Node.TheVariants.{Tip, One, Two}
@@ -146,7 +146,7 @@ module _ (l l' : List ℕ) (f a z : ℕ) where
   unfolding numbers_of
   text_is c d e q = q ∙ ap (λ (w : Sort). written l f (record_of no_line (spanned a z) (Tip (Text w c d)))) (sym e)
 
-  pub slice_is : (c : ℕ) {j k : End} → j ≡ k → l' ≡ written l f (node_record no_line (spanned a z) (leaf_numbers (PeekSlice c k)))
+  pub slice_is : (c : ℕ) {j k : Option ℕ} → j ≡ k → l' ≡ written l f (node_record no_line (spanned a z) (leaf_numbers (PeekSlice c k)))
       → l' ≡ written l f (record_of no_line (spanned a z) (Tip (PeekSlice c j)))
   unfolding numbers_of
-  slice_is c e q = q ∙ ap (λ (w : End). written l f (record_of no_line (spanned a z) (Tip (PeekSlice c w)))) (sym e)
+  slice_is c e q = q ∙ ap (λ (w : Option ℕ). written l f (record_of no_line (spanned a z) (Tip (PeekSlice c w)))) (sym e)

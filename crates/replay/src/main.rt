@@ -24,16 +24,16 @@ ghost use Rattle.std.specs.Prelude.{◌≤◌, ◌+◌, length};
 ghost use Rattle.io.specs.Counts.{IsPrefixLen};
 
 use forms::Style;
+use lending::{Room, Tables};
 use structure::{Edition, Level};
-use table::inner::layout::{NODE_SIZE, RULE_SIZE};
 use token::Listed;
 
 fn write_bytes(s: &[u8]) {
-    if s.len() == 0 {
+    if s.is_empty() {
         vectors::write(b" -");
-        return;
+    } else {
+        vectors::write_hex(s);
     }
-    vectors::write_hex(s);
 }
 
 fn write_changed(met: bool) {
@@ -42,104 +42,60 @@ fn write_changed(met: bool) {
     }
 }
 
-fn write_five(number: usize, place: usize, first: usize, second: usize, third: usize) {
-    vectors::write_number(number);
-    vectors::write_number(place);
-    vectors::write_number(first);
-    vectors::write_number(second);
-    vectors::write_number(third);
-}
-
-fn write_tables(long: bool, nodes: &[u32], rules: &[u32], store: &[u8]) {
+fn write_tables(long: bool, tables: Tables) {
     if long {
-        vectors::write_small(vectors::numbers_sum(nodes));
-        vectors::write_small(vectors::numbers_sum(rules));
-        vectors::write_small(vectors::bytes_sum(store));
-        return;
+        vectors::write_small(vectors::numbers_sum(tables.nodes));
+        vectors::write_small(vectors::numbers_sum(tables.rules));
+        vectors::write_small(vectors::bytes_sum(tables.store));
+    } else {
+        vectors::write_list(tables.nodes);
+        vectors::write_list(tables.rules);
+        write_bytes(tables.store);
     }
-    vectors::write_list(nodes);
-    vectors::write_list(rules);
-    write_bytes(store);
 }
 
-// The tables that were read, of the numbers and bytes used.
-fn answer_read(
-    used: usize,
-    count: usize,
-    bytes: usize,
-    long: bool,
-    nodes: &[u32],
-    rules: &[u32],
-    store: &[u8],
-) {
-    if 5000 < used {
-        return;
-    }
-    if 5000 < count {
-        return;
-    }
-    let n = NODE_SIZE * used;
-    let m = RULE_SIZE * count;
-    if nodes.len() < n {
-        return;
-    }
-    if rules.len() < m {
-        return;
-    }
-    if store.len() < bytes {
-        return;
-    }
-    write_tables(long, &nodes[..n], &rules[..m], &store[..bytes]);
-    write_changed(vectors::numbers_alone(nodes, n) != nodes.len() - n);
-    write_changed(vectors::numbers_alone(rules, m) != rules.len() - m);
-    write_changed(vectors::bytes_alone(store, bytes) != store.len() - bytes);
+// For each buffer, whether what is left of it has changed.
+fn write_changes(left: Tables) {
+    write_changed(vectors::numbers_alone(left.nodes, 0) != left.nodes.len());
+    write_changed(vectors::numbers_alone(left.rules, 0) != left.rules.len());
+    write_changed(vectors::bytes_alone(left.store, 0) != left.store.len());
 }
 
-fn answer_refused(nodes: &[u32], rules: &[u32], store: &[u8]) {
-    write_changed(vectors::numbers_alone(nodes, 0) != nodes.len());
-    write_changed(vectors::numbers_alone(rules, 0) != rules.len());
-    write_changed(vectors::bytes_alone(store, 0) != store.len());
-}
-
-fn answer_text(told: &[u64; 5], long: bool, nodes: &[u32], rules: &[u32], store: &[u8]) {
-    let used = told[2] as usize;
-    let count = told[3] as usize;
-    let bytes = told[4] as usize;
-    write_five(told[0] as usize, told[1] as usize, used, count, bytes);
-    if told[0] == 0 {
-        answer_read(used, count, bytes, long, nodes, rules, store);
+fn answer_text(told: &[u64; 5], long: bool, whole: Tables) {
+    vectors::write_numbers(told);
+    if told[0] != 0 {
+        write_changes(whole);
         return;
     }
-    answer_refused(nodes, rules, store);
+    let Some((used, left)) = lending::parts(told, whole) else {
+        return;
+    };
+    write_tables(long, used);
+    write_changes(left);
 }
 
 fn run_next(text: &[u8], at: usize) {
     let listed = token::next_token(text, at);
     match listed {
-        Listed::TooLong => write_five(1, 0, 0, 0, 0),
-        Listed::NotUtf8(place) => write_five(2, place, 0, 0, 0),
-        Listed::Next { kind, start, end } => write_five(0, 0, kind as usize, start, end),
-        Listed::End(n) => write_five(0, 0, 0, n, n),
-        Listed::NoToken(place) => write_five(3, place, 0, 0, 0),
+        Listed::TooLong => vectors::write_numbers(&[1, 0, 0, 0, 0]),
+        Listed::NotUtf8(place) => vectors::write_numbers(&[2, place as u64, 0, 0, 0]),
+        Listed::Next { kind, start, end } => {
+            vectors::write_numbers(&[0, 0, u64::from(kind), start as u64, end as u64])
+        }
+        Listed::End(n) => vectors::write_numbers(&[0, 0, 0, n as u64, n as u64]),
+        Listed::NoToken(place) => vectors::write_numbers(&[3, place as u64, 0, 0, 0]),
     }
-}
-
-fn write_three(number: usize, place: usize, used: usize) {
-    vectors::write_number(number);
-    vectors::write_number(place);
-    vectors::write_number(used);
 }
 
 fn answer_printed(told: &[u64; 3], out: &[u8]) {
-    let used = told[2] as usize;
-    write_three(told[0] as usize, told[1] as usize, used);
-    if out.len() < used {
+    vectors::write_numbers(told);
+    let Some((text, left)) = out.split_at_checked(told[2] as usize) else {
         return;
-    }
+    };
     if told[0] == 0 {
-        write_bytes(&out[..used]);
+        write_bytes(text);
     }
-    write_changed(vectors::bytes_alone(out, used) != out.len() - used);
+    write_changed(vectors::bytes_alone(left, 0) != left.len());
 }
 
 fn text_of(s: &[u8], long: bool, out: &mut [u8]) -> usize
@@ -162,21 +118,26 @@ fn run_text(line: &[u8], edition: Edition, level: Level, long: bool) {
     let mut rules = [2863311530u32; 6200];
     let mut store = [170u8; 65600];
     let used = text_of(vectors::word(line, 2), long, &mut text);
-    let n = vectors::number(vectors::word(line, 3)) as usize;
-    let m = vectors::number(vectors::word(line, 4)) as usize;
-    let k = vectors::number(vectors::word(line, 5)) as usize;
+    let room = Room {
+        nodes: vectors::number(vectors::word(line, 3)) as usize,
+        rules: vectors::number(vectors::word(line, 4)) as usize,
+        store: vectors::number(vectors::word(line, 5)) as usize,
+    };
     let told = lending::read_within(
         &text[..used],
         edition,
         level,
-        n,
-        m,
-        k,
+        room,
         &mut nodes,
         &mut rules,
         &mut store,
     );
-    answer_text(&told, long, &nodes, &rules, &store);
+    let whole = Tables {
+        nodes: &nodes,
+        rules: &rules,
+        store: &store,
+    };
+    answer_text(&told, long, whole);
 }
 
 fn run_lister(line: &[u8], at: usize, long: bool) {
@@ -193,116 +154,28 @@ fn run_tables(style: Style, line: &[u8], room: usize) {
     let n = vectors::numbers(vectors::word(line, 2), &mut nodes);
     let m = vectors::numbers(vectors::word(line, 3), &mut rules);
     let k = vectors::unhex(vectors::word(line, 4), &mut store);
-    let told = lending::print_within(style, &nodes[..n], &rules[..m], &store[..k], room, &mut out);
+    let tables = Tables {
+        nodes: &nodes[..n],
+        rules: &rules[..m],
+        store: &store[..k],
+    };
+    let told = lending::print_within(style, tables, room, &mut out);
     answer_printed(&told, &out);
 }
 
-fn write_wide(v: u64) {
-    vectors::write(b" ");
-    io::print_decimal(1, v);
-}
-
-// A number of a record that was written; or whether one that wasn't has changed.
-fn write_or_look(v: u64, used: bool) -> bool {
-    if used {
-        io::print_decimal(1, v);
-        vectors::write(b",");
-        return false;
-    }
-    v != 2863311530
-}
-
 fn write_records(records: &[u64], used: usize) {
+    let Some((written, left)) = records.split_at_checked(used) else {
+        return;
+    };
     vectors::write(b" ");
-    if used == 0 {
+    if written.is_empty() {
         vectors::write(b"-");
     }
-    let mut changed = false;
-    let mut i = 0;
-    while i < records.len() {
-        if write_or_look(records[i], i < used) {
-            changed = true;
-        }
-        i += 1;
+    for v in written {
+        io::print_decimal(1, *v);
+        vectors::write(b",");
     }
-    write_changed(changed);
-}
-
-fn run_match(
-    nodes: &[u32],
-    rules: &[u32],
-    store: &[u8],
-    start: usize,
-    text: &[u8],
-    allowance: u64,
-) {
-    let row = replies::row_of(matcher::match_line(nodes, rules, store, start, text, allowance));
-    write_wide(row.number);
-    write_wide(row.place);
-    write_wide(row.matched);
-    write_wide(row.length);
-    write_wide(row.steps);
-}
-
-fn run_lines(
-    nodes: &[u32],
-    rules: &[u32],
-    store: &[u8],
-    start: usize,
-    text: &[u8],
-    allowance: u64,
-    room: usize,
-    records: &mut [u64],
-) {
-    if records.len() < room {
-        return;
-    }
-    let lines = matcher::match_lines(
-        nodes,
-        rules,
-        store,
-        start,
-        text,
-        allowance,
-        &mut records[..room],
-    );
-    let tally = replies::tally_of(lines);
-    write_wide(tally.number);
-    write_wide(tally.place);
-    write_wide(tally.lines);
-    write_wide(tally.next);
-    if 1000 < tally.lines {
-        return;
-    }
-    write_records(records, 5 * tally.lines as usize);
-}
-
-// Over a line, or over lines in some room.
-fn run_over(
-    nodes: &[u32],
-    rules: &[u32],
-    store: &[u8],
-    start: usize,
-    text: &[u8],
-    allowance: u64,
-    many: bool,
-    room: usize,
-) {
-    let mut records = [2863311530u64; 120];
-    if many {
-        run_lines(
-            nodes,
-            rules,
-            store,
-            start,
-            text,
-            allowance,
-            room,
-            &mut records,
-        );
-        return;
-    }
-    run_match(nodes, rules, store, start, text, allowance);
+    write_changed(left.iter().any(|v| *v != 2863311530));
 }
 
 fn run_rule(line: &[u8], allowance: u64, many: bool) {
@@ -316,16 +189,25 @@ fn run_rule(line: &[u8], allowance: u64, many: bool) {
     let n = vectors::numbers(vectors::word(line, 4), &mut nodes);
     let m = vectors::numbers(vectors::word(line, 5), &mut rules);
     let k = vectors::unhex(vectors::word(line, 6), &mut store);
-    run_over(
-        &nodes[..n],
-        &rules[..m],
-        &store[..k],
-        start,
-        &text[..t],
-        allowance,
-        many,
-        room,
-    );
+    let nodes = &nodes[..n];
+    let rules = &rules[..m];
+    let store = &store[..k];
+    let text = &text[..t];
+    if !many {
+        let row = replies::row_of(matcher::match_line(nodes, rules, store, start, text, allowance));
+        vectors::write_numbers(&[row.number, row.place, row.matched, row.length, row.steps]);
+        return;
+    }
+    let mut records = [2863311530u64; 120];
+    let Some(lent) = records.get_mut(..room) else {
+        return;
+    };
+    let lines = matcher::match_lines(nodes, rules, store, start, text, allowance, lent);
+    let tally = replies::tally_of(lines);
+    vectors::write_numbers(&[tally.number, tally.place, tally.lines, tally.next]);
+    if tally.lines <= 24 {
+        write_records(&records, 5 * tally.lines as usize);
+    }
 }
 
 fn run_line(line: &[u8]) {
@@ -357,7 +239,7 @@ fn run_line(line: &[u8]) {
 fn ask(line: &[u8]) -> u64
     ensures { result ≤ 1 }
 {
-    if line.len() == 0 {
+    if line.is_empty() {
         return 0;
     }
     run_line(line);
@@ -368,9 +250,10 @@ fn run_block(block: &[u8]) -> u64
     ensures { result ≤ 1 + length block.now }
 {
     let mut answers = 0;
+    // the place bounds the answers; over a `split`, how many pieces it gives would have to be shown first
     let mut at = 0;
     while at < block.len() {
-        let end = vectors::line_end(block, at);
+        let end = vectors::find(block, at, b'\n', true);
         answers += ask(&block[at..end]);
         at = end + 1;
     }
@@ -380,14 +263,12 @@ fn run_block(block: &[u8]) -> u64
 fn main() {
     let mut input = io::large_buffer();
     let mut answers = 0;
-    let mut blocks: usize = 0;
-    while blocks < 1024 {
+    for _block in 0..1024u64 {
         let n = io::read_full(0, &mut input);
         if n == 0 {
             break;
         }
         answers += run_block(&input[..n]);
-        blocks += 1;
     }
     io::print_decimal(1, answers);
     vectors::write(b" answers\n");

@@ -1,5 +1,5 @@
 // Replies: what the matcher answers, in cases and in numbers.
-#![tactic(auto)]
+#![tactic(auto, unfolding(crate::specs::Replies::numbered, crate::specs::Replies::tallied, crate::specs::Replies::finding))]
 
 ghost use Rattle.std.specs.Prelude.{◌≡◌};
 ghost use Rattle.replies.specs.Replies.{numbered, refused_as, tallied, missed_as, finding};

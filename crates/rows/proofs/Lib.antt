@@ -1,5 +1,4 @@
 -- Lines that programs write: what the proofs cite.
-pub mod Lines
 pub mod Records
 pub mod Blocks
 pub mod Listings

@@ -1,4 +1,5 @@
 -- Laws of tokens' lines: what a line needs at most, and the lines of records one behind the other.
+use Rattle.std.specs.Prelude.{Some, None}
 use Prim.Native.Nat.{ℕ, zero, suc, ◌+◌, ◌*◌, ◌/◌, ◌≤◌, ◌<◌}
 use mathlib.Core.Path.{◌≡◌, refl, sym, ap, ◌∙◌}
 use mathlib.Core.List.{List, [], ◌∷◌, ◌++◌, append_assoc, append-nil}
@@ -9,18 +10,12 @@ use lib.Seq.{drop-drop, get_or-drop}
 use borrow.Author.Tests.{le-leb, lt-leb}
 use Rattle.text.specs.Digits.{decimal}
 use Rattle.text.specs.Splice.{Wrote}
-use Rattle.text.specs.declared.Put.TheVariants as Put
 use Rattle.text.proofs.Splices.{wrote_then, wrote_none, wrote_front}
-use Rattle.forms.proofs.Rows.{row}
 use Rattle.printer.proofs.Bounds.{decimal_short}
 use Rattle.rows.specs.Put.{PutFits}
 use Rattle.rows.specs.Tokens.{token_line, token_size, record_line, token_lines, list_lines, longest_token, tokens_put, tokens_in}
 
 -- ---- one line
-
-pub token_row : (k a b : ℕ) → token_line k a b ≡ row (decimal k) ((32 ∷ []) ∷ decimal a ∷ (32 ∷ []) ∷ decimal b ∷ (10 ∷ []) ∷ [])
-unfolding row token_line
-token_row k a b = refl
 
 pub token_fits : (k a b : ℕ) → k < 4294967296 → a < 4294967296 → b < 4294967296 → length (token_line k a b) ≤ longest_token
 unfolding token_line
@@ -71,12 +66,12 @@ module _ {ts : List ℕ} {k : ℕ} {o₀ o : List ℕ} {i at : ℕ} (p : Listing
 
 -- ---- a list's lines
 
-pub no_room : (ts o : List ℕ) → length o / longest_token < length ts / token_size → (Put.NoRoom ≡ tokens_put ts (length o)) × ((o ≡ tokens_in ts o Put.NoRoom) × PutFits Put.NoRoom (length o))
+pub no_room : (ts o : List ℕ) → length o / longest_token < length ts / token_size → (None ≡ tokens_put ts (length o)) × ((o ≡ tokens_in ts o None) × PutFits None (length o))
 unfolding tokens_put tokens_in
 no_room ts o h = (rw (lt-leb (longest_token * (length ts / token_size)) (length o) (omega arith)), (refl, tt))
 
 pub has_room : (ts o : List ℕ) {o' : List ℕ} {n : ℕ} → length ts / token_size ≤ length o / longest_token → Wrote o 0 (list_lines ts) o' n → n ≤ longest_token * (length ts / token_size)
-    → (Put.Wrote n ≡ tokens_put ts (length o)) × ((o' ≡ tokens_in ts o (Put.Wrote n)) × PutFits (Put.Wrote n) (length o))
+    → (Some n ≡ tokens_put ts (length o)) × ((o' ≡ tokens_in ts o (Some n)) × PutFits (Some n) (length o))
 unfolding tokens_put tokens_in
 has_room ts o {o'} {n} h w f =
     let r = wrote_front w (omega (arith, w.next)) in

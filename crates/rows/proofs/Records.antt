@@ -9,54 +9,21 @@ use native.Mathlib.Numerals.{add-one}
 use lib.Dec.{eqb}
 use lib.ListN.{length, drop, get_or, length-append}
 use lib.Seq.{drop-drop, get_or-drop}
-use borrow.Author.Tests.{eq-eqb, ne_eqb}
 use Rattle.text.specs.Booleans.{choose}
 use Rattle.text.specs.Digits.{decimal}
-use Rattle.text.specs.Splice.{Room, Wrote, spent}
+use Rattle.text.specs.Splice.{Room, Wrote}
 use Rattle.text.proofs.Tests.{lt_or_ge}
 use Rattle.text.proofs.Decimals.{decimal_one, decimal_more}
 use Rattle.text.proofs.Splices.{wrote_then, wrote_none, wrote_length}
-use Rattle.forms.proofs.Rows.{row}
 use Rattle.replies.specs.declared.Row.{Row}
 use Rattle.matcher.specs.Lines.{row_size}
 use Rattle.rows.specs.Line.{refusal_line}
 use Rattle.rows.specs.Rows.{length_word, run_line, row_line, row_refused, Small, longest_line, row_from, record_lines, records_refused}
 
--- ---- a line by its numbers
-
-pub word_none : (m l : ℕ) → m ≡ 0 → length_word m l ≡ 110 ∷ 111 ∷ 110 ∷ 101 ∷ []
-unfolding length_word
-word_none m l e = rw (eq-eqb m 0 e)
-
-pub word_some : (m l : ℕ) → (m ≡ 0 → ⊥) → length_word m l ≡ decimal l
-unfolding length_word
-word_some m l h = rw (ne_eqb m 0 h)
-
-pub run_row : (m l n : ℕ) → run_line m l n ≡ row (length_word m l) ((32 ∷ []) ∷ decimal n ∷ (10 ∷ []) ∷ [])
-unfolding row run_line
-run_row m l n = refl
-
-pub row_run : (r : Row) → r.number ≡ 0 → row_line r ≡ run_line r.matched r.length r.steps
-unfolding row_line
-row_run r e = rw (eq-eqb r.number 0 e)
-
-pub row_refused_lem : (r : Row) → (r.number ≡ 0 → ⊥) → row_line r ≡ refusal_line r.number r.place
-unfolding row_line
-row_refused_lem r h = rw (ne_eqb r.number 0 h)
-
 run_size : (m l n : ℕ) → length (run_line m l n) ≡ length (length_word m l) + (1 + (length (decimal n) + 1))
 unfolding run_line
 run_size m l n =
     omega (arith, length-append (length_word m l) (32 ∷ (decimal n ++ (10 ∷ []))), length-append (decimal n) (10 ∷ []))
-
--- the room that is left after it
-pub spent_none_line : (left m l n : ℕ) {a r : ℕ} → m ≡ 0 → a ≡ spent left (110 ∷ 111 ∷ 110 ∷ 101 ∷ 32 ∷ 10 ∷ []) → r ≡ spent a (decimal n) → r ≡ spent left (run_line m l n)
-unfolding spent
-spent_none_line left m l n e x y = omega (arith, x, y, run_size m l n, ap length (word_none m l e))
-
-pub spent_run_line : (left m l n : ℕ) {a b r : ℕ} → (m ≡ 0 → ⊥) → a ≡ spent left (32 ∷ 10 ∷ []) → b ≡ spent a (decimal l) → r ≡ spent b (decimal n) → r ≡ spent left (run_line m l n)
-unfolding spent
-spent_run_line left m l n h x y z = omega (arith, x, y, z, run_size m l n, ap length (word_some m l h))
 
 -- ---- a line's bytes at most
 

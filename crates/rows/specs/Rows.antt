@@ -1,10 +1,8 @@
 -- A camera line's answer as a line: `LENGTH STEPS`, `none STEPS`, or the refusal's.
-use Rattle.std.specs.Prelude.{ℕ, zero, suc, ◌+◌, ◌<◌, List, [], ◌∷◌, ◌++◌, leb, eqb, length, drop, get_or}
+use Rattle.std.specs.Prelude.{ℕ, zero, suc, ◌+◌, ◌<◌, List, [], ◌∷◌, ◌++◌, leb, eqb, length, drop, get_or, Option, Some, None}
 use Rattle.text.specs.Booleans.{choose}
 use Rattle.text.specs.Digits.{decimal}
 use Rattle.text.specs.Splice.{fronted}
-use Rattle.text.specs.declared.Put.{Put}
-use Rattle.text.specs.declared.Put.TheVariants.{Wrote, NoRoom}
 use Rattle.replies.specs.declared.Row.{Row}
 use Rattle.matcher.specs.Lines.{row_size}
 use Rattle.rows.specs.Line.{refusal_line}
@@ -26,13 +24,13 @@ unfoldable pub row_refused : Row → ℕ
 row_refused r = choose (eqb r.number 0) (λ u. 0) (λ u. 1)
 
 -- what writing the line to the front of an output of m bytes answers
-unfoldable pub row_put : Row → ℕ → Put
-row_put r m = choose (leb (length (row_line r)) m) (λ u. Wrote (length (row_line r))) (λ u. NoRoom)
+unfoldable pub row_put : Row → ℕ → Option ℕ
+row_put r m = choose (leb (length (row_line r)) m) (λ u. Some (length (row_line r))) (λ u. None)
 
 -- and what it leaves there
-unfoldable pub row_in : Row → List ℕ → Put → List ℕ
-row_in r o (Wrote k) = fronted (row_line r) o
-row_in r o NoRoom = o
+unfoldable pub row_in : Row → List ℕ → Option ℕ → List ℕ
+row_in r o (Some k) = fronted (row_line r) o
+row_in r o None = o
 
 -- numbers of 64 bits, and the bytes that their line has at most: `refused `, ` at `, LF and twice twenty digits
 pub record Small (r : Row) : Type 0 where

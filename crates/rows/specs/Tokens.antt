@@ -1,10 +1,8 @@
 -- Tokens as lines: `KIND START END`.
-use Rattle.std.specs.Prelude.{ℕ, zero, suc, ◌*◌, ◌/◌, List, [], ◌∷◌, ◌++◌, leb, length, drop, get_or}
+use Rattle.std.specs.Prelude.{ℕ, zero, suc, ◌*◌, ◌/◌, List, [], ◌∷◌, ◌++◌, leb, length, drop, get_or, Option, Some, None}
 use Rattle.text.specs.Booleans.{choose}
 use Rattle.text.specs.Digits.{decimal}
 use Rattle.text.specs.Splice.{fronted}
-use Rattle.text.specs.declared.Put.{Put}
-use Rattle.text.specs.declared.Put.TheVariants.{Wrote, NoRoom}
 
 -- the three in decimal, blanks between them, and LF
 unfoldable pub token_line : ℕ → ℕ → ℕ → List ℕ
@@ -32,10 +30,10 @@ abbrev pub longest_token : ℕ
 longest_token = 33
 
 -- what writing them to the front of an output of m bytes answers
-unfoldable pub tokens_put : List ℕ → ℕ → Put
-tokens_put ts m = choose (leb (longest_token * (length ts / token_size)) m) (λ u. Wrote (length (list_lines ts))) (λ u. NoRoom)
+unfoldable pub tokens_put : List ℕ → ℕ → Option ℕ
+tokens_put ts m = choose (leb (longest_token * (length ts / token_size)) m) (λ u. Some (length (list_lines ts))) (λ u. None)
 
 -- and what it leaves there
-unfoldable pub tokens_in : List ℕ → List ℕ → Put → List ℕ
-tokens_in ts o (Wrote k) = fronted (list_lines ts) o
-tokens_in ts o NoRoom = o
+unfoldable pub tokens_in : List ℕ → List ℕ → Option ℕ → List ℕ
+tokens_in ts o (Some k) = fronted (list_lines ts) o
+tokens_in ts o None = o

@@ -15,7 +15,6 @@ ghost use Rattle.rows.specs.Block.{refused_block, block_of, block_in, Inside, wh
 ghost use Rattle.rows.specs.Tokens.{tokens_put, tokens_in};
 
 use replies::{Lines, Row};
-use text::Put;
 
 // The bytes of records' lines, and how many of the records are refusals.
 #[derive(Clone, Copy)]
@@ -41,28 +40,29 @@ pub enum Block {
 }
 
 // Writes the line `refused N at P`, LF behind it.
-pub fn refusal(number: u64, place: u64, out: &mut [u8]) -> Put
+pub fn refusal(number: u64, place: u64, out: &mut [u8]) -> Option<usize>
     ensures answered { result ≡ refusal_put number place (length out.old) }
     ensures written { out.new ≡ refusal_in number place out.old result }
 {
     if line::spend_line(out.len() + 1, number, place) == 0 {
-        return Put::NoRoom;
+        return None;
     }
-    Put::Wrote(line::put_line(number, place, out, 0))
+    Some(line::put_line(number, place, out, 0))
 }
 
 // Writes the line of a camera line's answer: `LENGTH STEPS`, `none STEPS` or `refused N at P`.
-pub fn answer_line(row: Row, out: &mut [u8]) -> Put
+pub fn answer_line(row: Row, out: &mut [u8]) -> Option<usize>
     ensures answered { result ≡ row_put row (length out.old) }
     ensures written { out.new ≡ row_in row out.old result }
 {
     if row::spend_row(out.len() + 1, row) == 0 {
-        return Put::NoRoom;
+        return None;
     }
-    Put::Wrote(row::put_row(row, out, 0))
+    Some(row::put_row(row, out, 0))
 }
 
 // A call's refusal.
+#[tactic(auto, unfolding(crate::specs::Block::refused_block))]
 fn refused_block(answer: replies::Answer) -> Block
     ensures { result ≡ refused_block (numbered answer) }
 {
@@ -113,27 +113,24 @@ pub fn answer_block(
 pub fn whole_lines(text: &[u8]) -> usize
     ensures { result ≡ whole_size text.now }
 {
-    let mut i = text.len();
-    while 0 < i {
-        let before = i - 1;
-        if text[before] == 10 {
-            return i;
+    for i in (0..text.len()).rev() {
+        if text[i] == b'\n' {
+            return i + 1;
         }
-        i = before;
     }
     0
 }
 
 // Writes a line for each whole record of a list of tokens: `KIND START END`. An output of 33 bytes for each
 // is enough; a smaller one has no room.
-pub fn token_lines(list: &[u32], out: &mut [u8]) -> Put
+pub fn token_lines(list: &[u32], out: &mut [u8]) -> Option<usize>
     ensures answered { result ≡ tokens_put list.now (length out.old) }
     ensures written { out.new ≡ tokens_in list.now out.old result }
     ensures inside { PutFits result (length out.old) }
 {
     let k = list.len() / 3;
     if out.len() / 33 < k {
-        return Put::NoRoom;
+        return None;
     }
-    Put::Wrote(tokens::put_tokens(list, k, out))
+    Some(tokens::put_tokens(list, k, out))
 }

@@ -1,4 +1,6 @@
 // The line `refused N at P`: room for it, and its bytes.
+#![tactic(auto, unfolding(text::specs::Splice::spent, crate::specs::Line::refusal_line))]
+
 ghost use Rattle.std.specs.Prelude.{◌≡◌};
 ghost use Rattle.text.specs.Splice.{Room, Wrote, spent};
 ghost use Rattle.rows.specs.Line.{refusal_line};

@@ -1,4 +1,6 @@
 // The line of a camera line's answer: room for it, its bytes, and the lines of many records.
+#![tactic(auto, unfolding(text::specs::Splice::spent, crate::specs::Rows::length_word, crate::specs::Rows::run_line, crate::specs::Rows::row_line, crate::specs::Rows::row_refused))]
+
 ghost use Rattle.std.specs.Prelude.{◌≡◌, ◌+◌, ◌*◌, ◌≤◌, ◌<◌, length, drop};
 ghost use Rattle.text.specs.Splice.{Room, Wrote, spent};
 ghost use Rattle.matcher.specs.Lines.{row_size};
@@ -57,7 +59,7 @@ pub fn put_row(row: Row, out: &mut [u8], at: usize) -> usize
 fn count_refused(row: Row) -> usize
     ensures { result ≡ row_refused row }
 {
-    if row.number == 0 { 0 } else { 1 }
+    usize::from(row.number != 0)
 }
 
 // The record at an index.
@@ -84,14 +86,12 @@ pub fn put_rows(records: &[u64], k: usize, out: &mut [u8]) -> Rows
     ensures refused_value { result.refused ≡ records_refused k records.now }
     ensures size_bound { result.size ≤ longest_line * k }
 {
-    let mut i = 0;
     let mut at = 0;
     let mut refused = 0;
-    while i < k {
+    for i in 0..k {
         let row = row_at(records, i);
         at = put_row(row, out, at);
         refused += count_refused(row);
-        i += 1;
     }
     Rows { size: at, refused }
 }

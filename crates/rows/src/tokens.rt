@@ -1,4 +1,6 @@
 // The lines of tokens: `KIND START END` for each record of a list.
+#![tactic(auto, unfolding(crate::specs::Tokens::token_line))]
+
 ghost use Rattle.std.specs.Prelude.{◌+◌, ◌*◌, ◌≤◌, length, drop};
 ghost use Rattle.text.specs.Splice.{Room, Wrote};
 ghost use Rattle.rows.specs.Tokens.{token_line, token_size, record_line, token_lines, longest_token};
@@ -36,11 +38,9 @@ pub fn put_tokens(list: &[u32], k: usize, out: &mut [u8]) -> usize
     ensures wrote { Wrote out.old 0 (token_lines k list.now) out.new result }
     ensures upper_bound { result ≤ longest_token * k }
 {
-    let mut i = 0;
     let mut at = 0;
-    while i < k {
+    for i in 0..k {
         at = put_record(list, i, out, at);
-        i += 1;
     }
     at
 }

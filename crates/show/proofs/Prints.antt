@@ -1,4 +1,5 @@
 -- What was read prints. The tables of a reading that succeeded are good, so the printer gives their text, or 23 where it is longer than the output.
+use Rattle.std.specs.Prelude.{ℕ, Option, Some, None}
 use Prim.Native.Nat.{ℕ, ◌≤◌, ◌<◌}
 use mathlib.Core.Path.{◌≡◌, refl, sym, ap, ◌∙◌}
 use mathlib.Core.Bool.{Bool, true, false}
@@ -14,7 +15,6 @@ use Rattle.text.specs.Splice.{fronted}
 use Rattle.text.proofs.Booleans.{split}
 use Rattle.table.specs.Tree.{rules_stored}
 use Rattle.table.specs.Flat.{records_of}
-use Rattle.table.specs.declared.Named.{Named}
 use Rattle.table.specs.Names.{rule_named}
 use Rattle.structure.specs.declared.Edition.TheVariants.{First}
 use Rattle.structure.specs.declared.Level.TheVariants.{Tagged}
@@ -94,10 +94,10 @@ module _ (style : Style) (s : List ℕ) where
 -- ---- a layout
 
 module _ (s name : List ℕ) (n r b : ℕ) (h : n ≤ max_nodes) (l : r ≤ max_rules) {k p : ℕ} where
-  found_none : (x y z : ℕ) (f : Named) → layout_by x y z (found_by f) ≡ Layout.Refused k p → ⊥
+  found_none : (x y z : ℕ) (f : Option ℕ) → layout_by x y z (found_by f) ≡ Layout.Refused k p → ⊥
   unfolding layout_by
-  found_none x y z (Named.By j) e = let z : ◌≡◌ {A = ℕ} 0 1 = cc in omega arith
-  found_none x y z Named.Nobody e = let z : ◌≡◌ {A = ℕ} 0 1 = cc in omega arith
+  found_none x y z (Some j) e = let z : ◌≡◌ {A = ℕ} 0 1 = cc in omega arith
+  found_none x y z None e = let z : ◌≡◌ {A = ℕ} 0 1 = cc in omega arith
 
   layout_by_lem : (a : Reading) → Read.read_of First Tagged s n r b ≡ a → layout_of s name n r b ≡ Layout.Refused k p → (1 ≤ k) × (k ≤ 13)
   unfolding layout_of layout_in found_of Read.reported

@@ -1,4 +1,5 @@
 -- What is shown lies in the output: the printed text as its report says, the refusal's line as it was put.
+use Rattle.std.specs.Prelude.{ℕ, Option, Some, None}
 use Prim.Native.Nat.{ℕ, ◌≤◌}
 use mathlib.Core.Path.{◌≡◌, refl, sym, subst, ◌∙◌}
 use mathlib.Core.Bool.{Bool, true, false}
@@ -8,7 +9,6 @@ use lib.Dec.{leb, eqb}
 use lib.ListN.{length}
 use borrow.Author.Tests.{leb-true}
 use Rattle.text.specs.Booleans.{choose}
-use Rattle.text.specs.declared.Put.{Put}
 use Rattle.table.specs.Tree.{rules_stored}
 use Rattle.table.specs.declared.TableCheck.{TableCheck}
 use Rattle.table.specs.declared.TableCheck.TheVariants as Table
@@ -35,7 +35,7 @@ text_shown style s o {x} {n} e f g =
     let h : answer_of style s (length o) ≡ Answer.Printed n = sym e ∙ g in
     (rw h, f ∙ rw (g, h))
 
-pub line_shown : (style : Style) (s o : List ℕ) {x : Answer} {n p : ℕ} {o' o'' : List ℕ} {r : Put} {t : Shown} → x ≡ answer_of style s (length o) → o' ≡ answer_in style s o x
+pub line_shown : (style : Style) (s o : List ℕ) {x : Answer} {n p : ℕ} {o' o'' : List ℕ} {r : Option ℕ} {t : Shown} → x ≡ answer_of style s (length o) → o' ≡ answer_in style s o x
     → x ≡ Answer.Refused n p → r ≡ refusal_put n p (length o') → o'' ≡ refusal_in n p o' r → t ≡ refused_by r
     → (t ≡ desk_of style s (length o)) × (o'' ≡ desk_in style s o)
 unfolding answer_in shown_by desk_of left_by desk_in
@@ -70,7 +70,7 @@ used_fits style s n =
     by_tables (tables ns (records_of us) (rules_stored us)) _ n
     (room_fits (leb (length (Printer.table_text style ns (records_of us) (rules_stored us))) n) _ n (leb-true _ n))
 
-put_fits : (b : Bool) (k n : ℕ) → (b ≡ true → k ≤ n) → Fits (refused_by (choose b (λ u. Put.Wrote k) (λ u. Put.NoRoom))) n
+put_fits : (b : Bool) (k n : ℕ) → (b ≡ true → k ≤ n) → Fits (refused_by (choose b (λ u. Some k) (λ u. None))) n
 unfolding refused_by
 put_fits true k n h = h refl
 put_fits false k n h = tt

@@ -1,6 +1,5 @@
 -- What is shown: bytes at the front of a lent output.
-use Rattle.std.specs.Prelude.{ℕ, ◌≤◌}
-use Rattle.text.specs.declared.Put.{Put}
+use Rattle.std.specs.Prelude.{ℕ, ◌≤◌, Option, Some, None}
 use Rattle.show.specs.declared.Shown.{Shown}
 use Rattle.show.specs.declared.Shown.TheVariants.{Text, Refused, NoRoom}
 
@@ -11,6 +10,6 @@ Fits (Refused n) k = n ≤ k
 Fits NoRoom k = Unit {0}
 
 -- a refusal's line, written or not
-unfoldable pub refused_by : Put → Shown
-refused_by (Put.Wrote n) = Refused n
-refused_by Put.NoRoom = NoRoom
+unfoldable pub refused_by : Option ℕ → Shown
+refused_by (Some n) = Refused n
+refused_by None = NoRoom

@@ -18,7 +18,7 @@ use reader::Reading;
 use replies::Found;
 use structure::{Edition, Level};
 use table::inner::layout::{NODE_SIZE, RULE_SIZE};
-use text::{Put, limits};
+use text::limits;
 
 // The bytes of a text or of a refusal's line; or not even the line has room.
 #[derive(Clone, Copy)]
@@ -53,6 +53,7 @@ pub enum Layout {
 }
 
 // What the printer answers, as the desk's answer.
+#[tactic(auto, unfolding(printer::specs::Answers::numbered, crate::specs::Desk::printed))]
 fn answer_of(printed: Printed) -> Answer
     ensures { result ≡ answered (printNumbered printed) }
 {
@@ -67,8 +68,7 @@ fn answer_of(printed: Printed) -> Answer
             number,
             place: k as u64,
         },
-        Printed::Shape => Answer::Refused { number, place: 0 },
-        Printed::NoRoom => Answer::Refused { number, place: 0 },
+        Printed::Shape | Printed::NoRoom => Answer::Refused { number, place: 0 },
     }
 }
 
@@ -105,12 +105,13 @@ fn print_back(style: Style, text: &[u8], out: &mut [u8]) -> Answer
 }
 
 // A refusal's line as what is shown.
-fn refused(line: Put) -> Shown
+#[tactic(auto, unfolding(crate::specs::Shown::refused_by))]
+fn refused(line: Option<usize>) -> Shown
     ensures { result ≡ refused_by line }
 {
     match line {
-        Put::Wrote(n) => Shown::Refused(n),
-        Put::NoRoom => Shown::NoRoom,
+        Some(n) => Shown::Refused(n),
+        None => Shown::NoRoom,
     }
 }
 
@@ -127,6 +128,7 @@ pub fn desk(style: Style, text: &[u8], out: &mut [u8]) -> Shown
 }
 
 // The refusal of tables.
+#[tactic(auto, unfolding(crate::specs::Layout::refused_layout))]
 fn refused_layout(answer: replies::Answer) -> Layout
     ensures { result ≡ refused_layout (numbered answer) }
 {
@@ -138,6 +140,7 @@ fn refused_layout(answer: replies::Answer) -> Layout
 }
 
 // The rule of a name in tables that are lent whole.
+#[tactic(auto, unfolding(crate::specs::Layout::layout_in, crate::specs::Layout::layout_by))]
 fn layout_in(nodes: &[u32], rules: &[u32], store: &[u8], name: &[u8]) -> Layout
     ensures { result ≡ layout_in nodes.now rules.now store.now name.now }
 {

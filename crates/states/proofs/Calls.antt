@@ -1,4 +1,5 @@
 -- Packets fed in numbers, with one list lent to all calls, are the packets of the definitions; so the whole list of a good text stands there.
+use Rattle.std.specs.Prelude.{Some, None}
 use Prim.Native.Nat.{ℕ, ◌+◌, ◌*◌, ◌/◌, ◌≤◌}
 use mathlib.Core.Path.{◌≡◌, refl, sym, ap, ◌∙◌}
 use mathlib.Core.List.{List, [], ◌∷◌, ◌++◌, append-nil, append_assoc}
@@ -9,7 +10,6 @@ use lib.ListN.{length, length-append}
 use lib.Seq.{sets, length-sets}
 use Rattle.text.specs.Splice.{fronted}
 use Rattle.text.specs.Utf8.{first_bad}
-use Rattle.text.specs.declared.Scan.TheVariants.{Through, StopsAt}
 use Rattle.text.specs.Limits.{max_text}
 use Rattle.token.specs.Lists.{Tok, tokens_of}
 use Rattle.token.specs.Table.{flat, room_of}
@@ -153,8 +153,8 @@ module _ (xss : List (List ℕ)) (o : List ℕ) where
   answer_is = rw (in_numbers o xss) (end_is o (fed_by (lent r xss)).next (fed_by (lent r xss)).gives (made_all r xss (Open begin) fitting_begin)).0
 
   -- 3 in numbers: given exactly if the whole text has it, at the same place
-  pub same_calls : length s ≤ max_text → first_bad s ≡ Through → ((end_of kept.feed kept.list).number ≡ 14 → ⊥)
-      → (p : ℕ) → (((end_of kept.feed kept.list).number ≡ 3) × ((end_of kept.feed kept.list).place ≡ p)) ↔ ((tokens_of s).fault ≡ StopsAt p)
+  pub same_calls : length s ≤ max_text → first_bad s ≡ None → ((end_of kept.feed kept.list).number ≡ 14 → ⊥)
+      → (p : ℕ) → (((end_of kept.feed kept.list).number ≡ 3) × ((end_of kept.feed kept.list).place ≡ p)) ↔ ((tokens_of s).fault ≡ Some p)
   unfolding reported
   same_calls l u h p =
       let n : (end_of kept.feed kept.list).number ≡ number_of (ended r (lent r xss)).next = ap (λ (c : Call). c.number) answer_is in

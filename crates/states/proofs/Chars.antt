@@ -1,4 +1,5 @@
 -- A raw character in a literal: the UTF-8 rows.
+use Rattle.std.specs.Prelude.{ℕ, Option, Some, None}
 use Prim.Native.Nat.{ℕ, zero, suc, ◌≤◌}
 use mathlib.Core.Path.{◌≡◌, refl, ◌∙◌}
 use mathlib.Core.Bool.{Bool, true, false}
@@ -10,8 +11,6 @@ use borrow.Author.Tests.{eqb-true, eqb-false, ltb-true, ltb-false}
 use Rattle.text.specs.Booleans.{choose, within}
 use Rattle.text.specs.Classes.{class_of}
 use Rattle.text.specs.Utf8.{char_of}
-use Rattle.text.specs.declared.Sequence.{Sequence}
-use Rattle.text.specs.declared.Sequence.TheVariants.{Is, Broken}
 use Rattle.text.proofs.Tests.{lt_or_ge}
 use Rattle.text.proofs.Booleans.{choose_by, choose_same}
 use Rattle.token.specs.Blanks.{first, opener_blank, blank_by}
@@ -30,16 +29,16 @@ unfolding blank_by class_of opener_blank token_by opener_token char_token
 raw_open a x rest e = from_first a 39 (x ∷ rest) (raw_by (x ∷ rest) (char_of (x ∷ rest))) refl (rw e)
 
 module _ (a x : ℕ) (rest : List ℕ) where
-  abbrev E : Sequence → Tokens
+  abbrev E : Option (ℕ × ℕ) → Tokens
   E q = ended a 0 (39 ∷ x ∷ rest) (raw_by (x ∷ rest) q)
 
-  broken : E Broken ≡ fault_at a
+  broken : E None ≡ fault_at a
   broken = none a 0 (39 ∷ x ∷ rest)
 
   abbrev K : ℕ → List ℕ → Tokens
   K j r = quote_l a (suc (suc j)) r
 
-  is : (c i : ℕ) → E (Is c (suc i)) ≡ K i (drop i rest)
+  is : (c i : ℕ) → E (Some (c, suc i)) ≡ K i (drop i rest)
   is c i = quoted_law a i x rest
 
   tails_same : (k j : ℕ) (r : List ℕ) → tails_of E (fault_at a) broken K k j r ≡ tails k a (suc (suc j)) r

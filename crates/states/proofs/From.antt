@@ -1,4 +1,5 @@
 -- The tokens of what is left, its first byte at a place: the list by suffixes.
+use Rattle.std.specs.Prelude.{ℕ, Option, Some, None}
 use Prim.Native.Nat.{ℕ, zero, suc, ◌+◌, ◌-◌, ◌≤◌, ◌<◌}
 use mathlib.Core.Path.{◌≡◌, refl, sym, ap, ◌∙◌}
 use mathlib.Core.List.{List, [], ◌∷◌}
@@ -7,9 +8,6 @@ use native.Mathlib.Omega.{arith}
 use lib.ListN.{length, drop, length-drop}
 use lib.Seq.{drop-drop}
 use Rattle.text.specs.Scans.{later, sought}
-use Rattle.text.specs.declared.Scan.{Scan}
-use Rattle.text.specs.declared.Scan.TheVariants.{Through, StopsAt}
-use Rattle.text.specs.declared.Look.TheVariants.{Past, Stop}
 use Rattle.text.proofs.Walks.{sought_pending, past_head, later_later}
 use Rattle.token.specs.Blanks.{blank_of}
 use Rattle.token.specs.Tokens.{moved, past_blanks, token_of, token_at, first_token}
@@ -131,11 +129,11 @@ none a n rest = rw (add-zero a)
 
 -- ---- blanks
 
-past_later : (m : ℕ) (xs : List ℕ) (r : Scan) → past_blanks xs (later m r) ≡ moved m (past_blanks (drop m xs) r)
-past_later m xs Through = refl
-past_later m xs (StopsAt k) = rw (moved_moved m k (first_token (drop k (drop m xs))), drop-drop k m xs)
+past_later : (m : ℕ) (xs : List ℕ) (r : Option ℕ) → past_blanks xs (later m r) ≡ moved m (past_blanks (drop m xs) r)
+past_later m xs None = refl
+past_later m xs (Some k) = rw (moved_moved m k (first_token (drop k (drop m xs))), drop-drop k m xs)
 
-token_past : (x : ℕ) (xs : List ℕ) (n : ℕ) → blank_of (x ∷ xs) ≡ Past n → token_of (x ∷ xs) ≡ moved (suc n) (token_of (drop n xs))
+token_past : (x : ℕ) (xs : List ℕ) (n : ℕ) → blank_of (x ∷ xs) ≡ Some n → token_of (x ∷ xs) ≡ moved (suc n) (token_of (drop n xs))
 unfolding token_of
 token_past x xs n h =
     let z : 1 + n ≡ suc n = omega arith in
@@ -156,16 +154,16 @@ ended_moved a n x xs (NoToken p) =
     rw i
 
 -- a blank that stands first is passed
-pub from_blank : (a x : ℕ) (xs : List ℕ) (n : ℕ) → blank_of (x ∷ xs) ≡ Past n → from a (x ∷ xs) ≡ from (a + suc n) (drop n xs)
+pub from_blank : (a x : ℕ) (xs : List ℕ) (n : ℕ) → blank_of (x ∷ xs) ≡ Some n → from a (x ∷ xs) ≡ from (a + suc n) (drop n xs)
 from_blank a x xs n h =
     from_law a (x ∷ xs) ∙ ap (ended a 0 (x ∷ xs)) (token_past x xs n h) ∙ ended_moved a n x xs (token_of (drop n xs)) ∙ sym (from_law (a + suc n) (drop n xs))
 
-token_first : (x : ℕ) (xs : List ℕ) → blank_of (x ∷ xs) ≡ Stop → token_of (x ∷ xs) ≡ first_token (x ∷ xs)
+token_first : (x : ℕ) (xs : List ℕ) → blank_of (x ∷ xs) ≡ None → token_of (x ∷ xs) ≡ first_token (x ∷ xs)
 unfolding token_of sought
 token_first x xs h = rw h (moved_zero (first_token (x ∷ xs)))
 
 -- a token that stands first
-pub from_first : (a x : ℕ) (xs : List ℕ) (t : Token) → blank_of (x ∷ xs) ≡ Stop → first_token (x ∷ xs) ≡ t → from a (x ∷ xs) ≡ ended a 0 (x ∷ xs) t
+pub from_first : (a x : ℕ) (xs : List ℕ) (t : Token) → blank_of (x ∷ xs) ≡ None → first_token (x ∷ xs) ≡ t → from a (x ∷ xs) ≡ ended a 0 (x ∷ xs) t
 from_first a x xs t h e = from_law a (x ∷ xs) ∙ ap (ended a 0 (x ∷ xs)) (token_first x xs h ∙ e)
 
 pub next_two : (a x y : ℕ) (rest : List ℕ) (t : Token) → Beyond 0 t → Beyond 1 t → ended a 0 (x ∷ y ∷ rest) t ≡ ended a 2 rest t

@@ -1,4 +1,5 @@
 -- What calls make always passes the test at the entry, so that a stream comes back from its numbers as it was.
+use Rattle.std.specs.Prelude.{Some, None}
 use Prim.Native.Nat.{ℕ, suc, ◌+◌, ◌-◌, ◌≤◌, ◌<◌}
 use mathlib.Core.Path.{◌≡◌, refl, ap, ◌∙◌}
 use mathlib.Core.Bool.{Bool, true, false}
@@ -9,7 +10,6 @@ use lib.Dec.{leb, ltb, eqb}
 use lib.ListN.{length}
 use borrow.Author.Tests.{ltb-true, ltb-false, leb-true, lt-ltb, le-leb, ne_eqb}
 use Rattle.text.specs.Booleans.{choose, among}
-use Rattle.text.specs.declared.Scan.TheVariants.{Through, StopsAt}
 use Rattle.text.proofs.Booleans.{and_both, and_true, choose_by}
 use Rattle.text.specs.Limits.{max_text}
 use Rattle.token.specs.Lists.{Tok}
@@ -44,13 +44,13 @@ fitting_begin = record { short = omega arith; fit = record { sum = refl; count =
 
 -- ---- a byte
 
-pub long_good : (n : ℕ) → long_at n ≡ Through → n ≤ max_text
+pub long_good : (n : ℕ) → long_at n ≡ None → n ≤ max_text
 unfolding long_at
-long_good n = choose_by (λ k. k ≡ Through → n ≤ max_text) (ltb max_text n) _ _ (λ e g. let z : ◌≡◌ {A = ℕ} 0 1 = cc in absurd (omega arith)) (λ e g. ltb-false max_text n e)
+long_good n = choose_by (λ k. k ≡ None → n ≤ max_text) (ltb max_text n) _ _ (λ e g. let z : ◌≡◌ {A = ℕ} 0 1 = cc in absurd (omega arith)) (λ e g. ltb-false max_text n e)
 
-pub refused_good : (c : Conf) → refused_at c ≡ Through → code_of c.state ≡ refused_code → ⊥
+pub refused_good : (c : Conf) → refused_at c ≡ None → code_of c.state ≡ refused_code → ⊥
 unfolding refused_at
-refused_good c g e = let z : StopsAt c.start ≡ Through = rw e at g in let y : ◌≡◌ {A = ℕ} 0 1 = cc in omega arith
+refused_good c g e = let z : Some c.start ≡ None = rw e at g in let y : ◌≡◌ {A = ℕ} 0 1 = cc in omega arith
 
 next_fits : (t : Tail) (s n : ℕ) → s < n → utf_fits (utf_next t s) n ≡ true
 next_fits T1 s n h = refl
@@ -63,7 +63,7 @@ next_fits TF4 s n h = lt-ltb s n h
 
 -- a sequence that is in hand began before the next byte
 abbrev Mids : ℕ → Utf → Type 0
-Mids n u = broken_at u ≡ Through → utf_fits u n ≡ true
+Mids n u = broken_at u ≡ None → utf_fits u n ≡ true
 
 mids_broke : (n p : ℕ) → Mids n (Broke p)
 mids_broke n p g = let z : ◌≡◌ {A = ℕ} 0 1 = cc in absurd (omega arith)
@@ -92,7 +92,7 @@ utf_fits_lem (Mid t s) n x f =
     mids_two (suc n) (tail_ok t x) _ _ (λ g. next_fits t s (suc n) (omega arith)) (mids_broke (suc n) s)
 utf_fits_lem (Broke p) n x f = never f
 
-fit_of : (s k : ℕ) (o : Out) → refused_at o.next ≡ Through → FitO s k o → Fit o.next.state o.next.start o.next.size (suc s) (k + length o.gives)
+fit_of : (s k : ℕ) (o : Out) → refused_at o.next ≡ None → FitO s k o → Fit o.next.state o.next.start o.next.size (suc s) (k + length o.gives)
 fit_of s k o g (inl e) = absurd (refused_good o.next g e)
 fit_of s k o g (inr f) = f
 

@@ -1,4 +1,5 @@
 -- What each state means: the tokens that are still to come, as a function of what is left.
+use Rattle.std.specs.Prelude.{ℕ, Option, Some, None}
 use Prim.Native.Nat.{ℕ, zero, suc, ◌+◌, ◌-◌}
 use mathlib.Core.Bool.{Bool, true}
 use mathlib.Core.List.{List, [], ◌∷◌}
@@ -7,13 +8,9 @@ use lib.ListN.{drop}
 use Rattle.text.specs.Booleans.{choose, and, or, within, next_is}
 use Rattle.text.specs.Words.{begins, push}
 use Rattle.literal.specs.Escapes.{digits_of, after_of}
-use Rattle.literal.specs.declared.Escape.{Escape}
-use Rattle.literal.specs.declared.Escape.TheVariants.{Means, Plain}
 use Rattle.token.specs.Blanks.{first, words, digit_run, zeros, line, close_of}
 use Rattle.token.specs.Tokens.{push_literal, string_of}
 use Rattle.token.specs.Lists.{tok, Tokens, onto}
-use Rattle.token.specs.declared.Close.{Close}
-use Rattle.token.specs.declared.Close.TheVariants.{At, Never}
 use Rattle.token.specs.declared.Token.{Token}
 use Rattle.token.specs.declared.Token.TheVariants.{Found, NoToken}
 use Rattle.states.specs.declared.Lit.{Lit}
@@ -58,9 +55,9 @@ abbrev pub bad_l : ℕ → ℕ → Tokens
 bad_l a b = fault_at (a + b)
 
 -- after a backslash, by the escape that it begins
-abbrev pub esc_by : Lit → ℕ → ℕ → ℕ → List ℕ → Escape → Tokens
-esc_by k b a n rest (Means c m) = back_l k a (n + (m - 1)) (drop (m - 1) rest)
-esc_by k b a n rest Plain = bad_l a b
+abbrev pub esc_by : Lit → ℕ → ℕ → ℕ → List ℕ → Option (ℕ × ℕ) → Tokens
+esc_by k b a n rest (Some (c, m)) = back_l k a (n + (m - 1)) (drop (m - 1) rest)
+esc_by k b a n rest None = bad_l a b
 
 abbrev pub x1_l : Lit → ℕ → ℕ → ℕ → List ℕ → Tokens
 x1_l k b a n rest = choose (first is_hex rest) (λ u. back_l k a (suc n) (drop 1 rest)) (λ u. bad_l a b)
@@ -79,9 +76,9 @@ un_l k b j a n rest = un_by k b j a n rest (digits_of 6 0 j rest).count
 abbrev pub u_l : Lit → ℕ → ℕ → ℕ → List ℕ → Tokens
 u_l k b a n rest = choose (next_is 123 rest) (λ u. un_l k b 0 a (suc n) (drop 1 rest)) (λ u. bad_l a b)
 
-abbrev pub com_by : ℕ → ℕ → List ℕ → Close → Tokens
-com_by a n rest Never = fault_at a
-com_by a n rest (At m) = from (a + (n + m)) (drop m rest)
+abbrev pub com_by : ℕ → ℕ → List ℕ → Option ℕ → Tokens
+com_by a n rest None = fault_at a
+com_by a n rest (Some m) = from (a + (n + m)) (drop m rest)
 
 abbrev pub com_l : ℕ → ℕ → ℕ → List ℕ → Tokens
 com_l d a n rest = com_by a n rest (close_of d rest)

@@ -1,4 +1,5 @@
 -- The machine's list is that of the whole text: a law for each row, and the rest by induction on the bytes.
+use Rattle.std.specs.Prelude.{Some}
 use Prim.Native.Nat.{ℕ, suc, ◌+◌, ◌-◌}
 use mathlib.Core.Path.{◌≡◌, refl, sym, ap, ◌∙◌}
 use mathlib.Core.Bool.{Bool, true, false}
@@ -10,7 +11,6 @@ use Rattle.text.specs.Classes.{class_of}
 use Rattle.text.specs.Words.{in_word}
 use Rattle.text.specs.Scans.{sought}
 use Rattle.text.specs.Utf8.{char_of}
-use Rattle.text.specs.declared.Scan.TheVariants.{StopsAt}
 use Rattle.literal.specs.Escapes.{digits_of, after_of}
 use Rattle.token.specs.Blanks.{run, first, in_digits, in_line, close_of, slash_blank, return_blank, opener_blank, blank_by}
 use Rattle.token.specs.Tokens.{tag_token, dots_token, string_of, insens_token, char_token, doc_token, opener_token, token_by}
@@ -195,7 +195,7 @@ pub continued : (s ys : List ℕ) → tokens_of (s ++ ys) ≡ onto (feed fresh s
 continued s ys = sym (from_text (s ++ ys)) ∙ left_feed s ys fresh
 
 -- in a refused state every continuation has the fault, at that place
-pub refused_3 : (s ys : List ℕ) → (feed fresh s).next.state ≡ Refused → (tokens_of (s ++ ys)).fault ≡ StopsAt (feed fresh s).next.start
+pub refused_3 : (s ys : List ℕ) → (feed fresh s).next.state ≡ Refused → (tokens_of (s ++ ys)).fault ≡ Some (feed fresh s).next.start
 refused_3 s ys e =
     let z : left (feed fresh s).next ys ≡ fault_at (feed fresh s).next.start = rw e in
     ap (λ (r : Tokens). r.fault) (continued s ys) ∙ ap (λ (r : Tokens). r.fault) z

@@ -1,5 +1,6 @@
 -- Calls in numbers: what a call leaves is read as it was; a refused call changes nothing and is repeated; a good end leaves zeros; and
 -- any packets in numbers are those packets.
+use Rattle.std.specs.Prelude.{ℕ, Option, Some, None}
 use Prim.Native.Nat.{ℕ, suc, ◌+◌, ◌*◌}
 use mathlib.Core.Path.{◌≡◌, refl, ap}
 use mathlib.Core.Bool.{true}
@@ -10,8 +11,6 @@ use lib.Dec.{eqb}
 use lib.ListN.{length}
 use lib.Seq.{sets}
 use Rattle.text.specs.Booleans.{among}
-use Rattle.text.specs.declared.Scan.{Scan}
-use Rattle.text.specs.declared.Scan.TheVariants.{Through, StopsAt}
 use Rattle.text.proofs.Booleans.{choose_by}
 use Rattle.token.specs.Lists.{Tok}
 use Rattle.token.specs.Table.{flat, room_of}
@@ -34,9 +33,9 @@ use Rattle.states.proofs.Runs.{unless_goes, followed_faults}
 abbrev Named : Step → Type 0
 Named z = (n p : ℕ) → z ≡ Faults n p → among refusals n ≡ true
 
-named_unless : (m : ℕ) (k : Scan) (f : Unit {0} → Step) → among refusals m ≡ true → Named (f tt) → Named (unless m k f)
-named_unless m Through f a h n p e = h n p e
-named_unless m (StopsAt q) f a h n p e = let z : m ≡ n = cc in rw (← z) a
+named_unless : (m : ℕ) (k : Option ℕ) (f : Unit {0} → Step) → among refusals m ≡ true → Named (f tt) → Named (unless m k f)
+named_unless m None f a h n p e = h n p e
+named_unless m (Some q) f a h n p e = let z : m ≡ n = cc in rw (← z) a
 
 named_goes : (ts : List Tok) (c : Stand) → Named (Goes ts c)
 named_goes ts c n p e = let z : ◌≡◌ {A = ℕ} 0 1 = cc in absurd (omega arith)

@@ -1,4 +1,5 @@
 -- With one list lent to all calls, 14 is about the token behind as many as there is room for: the list never holds more.
+use Rattle.std.specs.Prelude.{Some, None}
 use Prim.Native.Nat.{ℕ, suc, ◌+◌, ◌≤◌, ◌<◌}
 use mathlib.Core.Path.{◌≡◌, refl, sym, ap, ◌∙◌}
 use mathlib.Core.Bool.{Bool, true, false}
@@ -9,7 +10,6 @@ use lib.Dec.{ltb}
 use lib.ListN.{length}
 use borrow.Author.Tests.{ltb-true}
 use Rattle.text.specs.Booleans.{choose}
-use Rattle.text.specs.declared.Scan.TheVariants.{Through, StopsAt}
 use Rattle.token.specs.Lists.{Tok, tok, start_of, tokens_of}
 use Rattle.states.specs.declared.Stand.{Stand}
 use Rattle.states.specs.declared.Status.TheVariants.{Open, Held}
@@ -24,13 +24,13 @@ use Rattle.states.proofs.Promises.{fed_by, open_after, held_after, first_of, goe
 
 -- ---- the list never holds more than there is room for
 
-over_good : (room : ℕ) (ts : List Tok) (n : ℕ) → over_at room n ts ≡ Through → n ≤ room → n + length ts ≤ room
+over_good : (room : ℕ) (ts : List Tok) (n : ℕ) → over_at room n ts ≡ None → n ≤ room → n + length ts ≤ room
 unfolding over_at
 over_good room [] n e h = omega arith
 over_good room (t ∷ ts) n e h = over_by room t ts n (ltb n room) refl (λ f g. over_good room ts (suc n) f g) e
   where
-    over_by : (room : ℕ) (t : Tok) (ts : List Tok) (n : ℕ) (b : Bool) → ltb n room ≡ b → (over_at room (suc n) ts ≡ Through → suc n ≤ room → suc n + length ts ≤ room)
-        → choose b (λ u. over_at room (suc n) ts) (λ u. StopsAt (start_of t)) ≡ Through → n + suc (length ts) ≤ room
+    over_by : (room : ℕ) (t : Tok) (ts : List Tok) (n : ℕ) (b : Bool) → ltb n room ≡ b → (over_at room (suc n) ts ≡ None → suc n ≤ room → suc n + length ts ≤ room)
+        → choose b (λ u. over_at room (suc n) ts) (λ u. Some (start_of t)) ≡ None → n + suc (length ts) ≤ room
     over_by room t ts n true f g e =
         let h = g e (ltb-true n room f) in
         omega (arith, h)

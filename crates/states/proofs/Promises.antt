@@ -1,4 +1,5 @@
 -- The theorems, for any packets with any room: the list of a good text, when a refusal shows, and that 3 is the whole text's 3.
+use Rattle.std.specs.Prelude.{Some, None}
 use Prim.Native.Nat.{ℕ, ◌≤◌, ◌<◌}
 use mathlib.Core.Path.{◌≡◌, refl, sym, ap, ◌∙◌}
 use mathlib.Core.Bool.{Bool, true, false}
@@ -10,7 +11,6 @@ use lib.ListN.{length}
 use borrow.Author.Tests.{eqb-true}
 use Rattle.text.specs.Booleans.{or, among}
 use Rattle.text.specs.Utf8.{first_bad}
-use Rattle.text.specs.declared.Scan.TheVariants.{Through, StopsAt}
 use Rattle.text.specs.Limits.{max_text}
 use Rattle.token.specs.Lists.{Tok, tok, tokens_of}
 use Rattle.states.specs.declared.Stand.{Stand}
@@ -102,13 +102,13 @@ module _ (ps : List Packet) (p k : ℕ) where
       (s.0, λ ys. rw (goes_on_lem ps f.spot ys) (s.1 _))
 
   -- 2: in every continuation the first bad sequence starts there
-  pub shows_2 : (fed_by ps).next ≡ Held 2 p k → (ys : List ℕ) → first_bad (joined ps ++ ys) ≡ StopsAt p
+  pub shows_2 : (fed_by ps).next ≡ Held 2 p k → (ys : List ℕ) → first_bad (joined ps ++ ys) ≡ Some p
   shows_2 e ys =
       let f = order ps 2 p k e in
       rw (goes_on_lem ps f.spot ys) (f.says.shows_2 refl _)
 
   -- 3: every continuation has it at that place
-  pub shows_3 : (fed_by ps).next ≡ Held 3 p k → (ys : List ℕ) → (tokens_of (joined ps ++ ys)).fault ≡ StopsAt p
+  pub shows_3 : (fed_by ps).next ≡ Held 3 p k → (ys : List ℕ) → (tokens_of (joined ps ++ ys)).fault ≡ Some p
   shows_3 e ys =
       let f = order ps 3 p k e in
       rw (goes_on_lem ps f.spot ys) (f.says.shows_3 refl _)
@@ -175,7 +175,7 @@ module _ (ps : List Packet) where
 abbrev pub ended : ℕ → List Packet → Moved
 ended room ps = done_of room (fed_by ps).next
 
-bad_good : {A : Type 0} (p : ℕ) → StopsAt p ≡ Through → A
+bad_good : {A : Type 0} (p : ℕ) → Some p ≡ None → A
 bad_good p e = let z : ◌≡◌ {A = ℕ} 0 1 = cc in absurd (omega arith)
 
 -- the number of a refusal
@@ -208,8 +208,8 @@ roomy_in n ps before p behind e h = roomy_at n before p behind (rw e at h)
 -- a text that is not too long, is UTF-8, and has no 3
 pub record Fine (s : List ℕ) : Type 0 where
   pub short : length s ≤ max_text
-  pub utf : first_bad s ≡ Through
-  pub fault : (tokens_of s).fault ≡ Through
+  pub utf : first_bad s ≡ None
+  pub fault : (tokens_of s).fault ≡ None
 
 module _ (ps : List Packet) where
   abbrev s : List ℕ
@@ -285,17 +285,17 @@ module _ (ps : List Packet) where
   Three q p = (number_of q ≡ 3) × (place_of q ≡ p)
 
   abbrev Same-3 : Status → Type 0
-  Same-3 q = (p : ℕ) → Three q p ↔ ((tokens_of s).fault ≡ StopsAt p)
+  Same-3 q = (p : ℕ) → Three q p ↔ ((tokens_of s).fault ≡ Some p)
 
   -- the text has it there
-  has : (m n p k : ℕ) → m ≡ 3 → (tokens_of s).fault ≡ StopsAt n → Same-3 (Held m n k)
-  has m n p k e f q = (λ h. f ∙ ap StopsAt h.1, λ h. let g : StopsAt n ≡ StopsAt q = sym f ∙ h in (e, cc))
+  has : (m n p k : ℕ) → m ≡ 3 → (tokens_of s).fault ≡ Some n → Same-3 (Held m n k)
+  has m n p k e f q = (λ h. f ∙ ap Some h.1, λ h. let g : Some n ≡ Some q = sym f ∙ h in (e, cc))
 
   -- the text has none
-  hasn't : (q : Status) → (number_of q ≡ 3 → ⊥) → (tokens_of s).fault ≡ Through → Same-3 q
+  hasn't : (q : Status) → (number_of q ≡ 3 → ⊥) → (tokens_of s).fault ≡ None → Same-3 q
   hasn't q h f p = (λ g. absurd (h g.0), λ g. bad_good p (sym g ∙ f))
 
-  held-3 : length s ≤ max_text → first_bad s ≡ Through → (n p k : ℕ) → (fed_by ps).next ≡ Held n p k → (n ≡ 14 → ⊥) → Same-3 (Held n p k)
+  held-3 : length s ≤ max_text → first_bad s ≡ None → (n p k : ℕ) → (fed_by ps).next ≡ Held n p k → (n ≡ 14 → ⊥) → Same-3 (Held n p k)
   held-3 l u n p k e h = by_number (four n (order ps n p k e).says.refusal)
     where
       by_number : (n ≡ 1) ⊎ (n ≡ 2) ⊎ (n ≡ 3) ⊎ (n ≡ 14) → Same-3 (Held n p k)
@@ -307,7 +307,7 @@ module _ (ps : List Packet) where
       by_number (inr (inr (inl z))) = has n p p k z (rw text_nil at (shows_3 ps p k (rw z at e) []))
       by_number (inr (inr (inr z))) = absurd (h z)
 
-  last_3 : (room : ℕ) → first_bad s ≡ Through → (z : Step) → last_of room (stand_at s) ≡ z → (number_of (moved_by (length (gave s)) z).next ≡ 14 → ⊥) → Same-3 (moved_by (length (gave s)) z).next
+  last_3 : (room : ℕ) → first_bad s ≡ None → (z : Step) → last_of room (stand_at s) ≡ z → (number_of (moved_by (length (gave s)) z).next ≡ 14 → ⊥) → Same-3 (moved_by (length (gave s)) z).next
   last_3 room u (Goes ts d) e h = hasn't (Open d) (λ z. omega arith) (end_good room s ts d e).fault
   last_3 room u (Faults n p) e h = by_number (four n (end_says room s n p e).refusal)
     where
@@ -317,7 +317,7 @@ module _ (ps : List Packet) where
       by_number (inr (inr (inl z))) = has n p p (length (gave s)) z ((end_says room s n p e).shows_3 z)
       by_number (inr (inr (inr z))) = absurd (h z)
 
-  same_by : (room : ℕ) → length s ≤ max_text → first_bad s ≡ Through → (q : Status) → (fed_by ps).next ≡ q → (number_of (done_of room q).next ≡ 14 → ⊥) → Same-3 (done_of room q).next
+  same_by : (room : ℕ) → length s ≤ max_text → first_bad s ≡ None → (q : Status) → (fed_by ps).next ≡ q → (number_of (done_of room q).next ≡ 14 → ⊥) → Same-3 (done_of room q).next
   unfolding done_of
   same_by room l u (Held n p k) e h = held-3 l u n p k e h
   same_by room l u (Open c) e h =
@@ -325,6 +325,6 @@ module _ (ps : List Packet) where
       rw z (last_3 room u (last_of room (stand_at s)) refl (rw z at h))
 
   -- where the text is UTF-8 and not too long, and 14 doesn't come: 3 is given exactly if the whole text has it, at the same place
-  pub same_3 : (room : ℕ) → length s ≤ max_text → first_bad s ≡ Through → (number_of (ended room ps).next ≡ 14 → ⊥)
-      → (p : ℕ) → ((number_of (ended room ps).next ≡ 3) × (place_of (ended room ps).next ≡ p)) ↔ ((tokens_of s).fault ≡ StopsAt p)
+  pub same_3 : (room : ℕ) → length s ≤ max_text → first_bad s ≡ None → (number_of (ended room ps).next ≡ 14 → ⊥)
+      → (p : ℕ) → ((number_of (ended room ps).next ≡ 3) × (place_of (ended room ps).next ≡ p)) ↔ ((tokens_of s).fault ≡ Some p)
   same_3 room l u h = same_by room l u (fed_by ps).next refl h

@@ -1,4 +1,5 @@
 -- Runs, comments and lines: what a byte does to what is still to come.
+use Rattle.std.specs.Prelude.{ℕ, Option, Some, None}
 use Prim.Native.Nat.{ℕ, suc, ◌+◌, ◌-◌}
 use mathlib.Core.Path.{◌≡◌, refl, sym, ap, ◌∙◌}
 use mathlib.Core.Bool.{Bool, true, false}
@@ -9,13 +10,10 @@ use lib.Dec.{leb, eqb}
 use borrow.Author.Tests.{eqb-true}
 use Rattle.text.specs.Booleans.{choose, next_is}
 use Rattle.text.specs.Classes.{class_of}
-use Rattle.text.specs.declared.Look.TheVariants.{Past}
 use Rattle.text.proofs.Booleans.{choose_by}
 use Rattle.token.specs.Blanks.{run, line, in_line, mark_of, further, close_of, line_blank, slash_blank, return_blank, opener_blank, blank_by, blank_of}
 use Rattle.token.specs.Tokens.{doc_token, opener_token, token_by}
 use Rattle.token.specs.Lists.{tok, onto}
-use Rattle.token.specs.declared.Close.{Close}
-use Rattle.token.specs.declared.Close.TheVariants.{At, Never}
 use Rattle.token.specs.declared.Mark.TheVariants.{Neither}
 use Rattle.token.specs.declared.Token.TheVariants.{Found, NoToken}
 use Rattle.states.specs.declared.State.TheVariants.{Start, Com}
@@ -47,19 +45,19 @@ module _ (p : List ℕ → Bool) (k a n x : ℕ) (rest : List ℕ) where
 
 -- ---- nested comments
 
-further_by : (a n x : ℕ) (xs : List ℕ) (r : Close) → com_by a n (x ∷ xs) (further 1 r) ≡ com_by a (suc n) xs r
-further_by a n x xs (At m) =
+further_by : (a n x : ℕ) (xs : List ℕ) (r : Option ℕ) → com_by a n (x ∷ xs) (further 1 r) ≡ com_by a (suc n) xs r
+further_by a n x xs (Some m) =
     let z : n + (1 + m) ≡ suc n + m = omega arith in
     let y : 1 + m ≡ suc m = omega arith in
     rw (z, y)
-further_by a n x xs Never = refl
+further_by a n x xs None = refl
 
-further_two : (a n x y : ℕ) (xs : List ℕ) (r : Close) → com_by a n (x ∷ y ∷ xs) (further 2 r) ≡ com_by a (n + 2) xs r
-further_two a n x y xs (At m) =
+further_two : (a n x y : ℕ) (xs : List ℕ) (r : Option ℕ) → com_by a n (x ∷ y ∷ xs) (further 2 r) ≡ com_by a (n + 2) xs r
+further_two a n x y xs (Some m) =
     let z : n + (2 + m) ≡ (n + 2) + m = omega arith in
     let w : 2 + m ≡ suc (suc m) = omega arith in
     rw (z, w)
-further_two a n x y xs Never = refl
+further_two a n x y xs None = refl
 
 com_skip : (d a n x y : ℕ) (xs : List ℕ) → mark_of x y ≡ Neither → com_l d a n (x ∷ y ∷ xs) ≡ com_l d a (suc n) (y ∷ xs)
 unfolding close_of
@@ -89,7 +87,7 @@ unfolding close_of mark_of
 star_closes d a n rest =
     by (leb d 1)
   where
-    by : (b : Bool) → com_by a n (42 ∷ 47 ∷ rest) (choose b (λ u. At 2) (λ u. further 2 (close_of (d - 1) rest))) ≡ with_rest (choose b (λ u. go Start (a + (n + 2)) 0) (λ u. go (Com (d - 1)) a (n + 2))) rest
+    by : (b : Bool) → com_by a n (42 ∷ 47 ∷ rest) (choose b (λ u. Some 2) (λ u. further 2 (close_of (d - 1) rest))) ≡ with_rest (choose b (λ u. go Start (a + (n + 2)) 0) (λ u. go (Com (d - 1)) a (n + 2))) rest
     by true = refl
     by false = further_two a n 42 47 rest (close_of (d - 1) rest)
 
@@ -111,11 +109,11 @@ bar_row_lem d a n x rest =
 
 -- ---- ends of lines
 
-lf_blank : (xs : List ℕ) → blank_of (10 ∷ xs) ≡ Past 0
+lf_blank : (xs : List ℕ) → blank_of (10 ∷ xs) ≡ Some 0
 unfolding blank_by class_of
 lf_blank xs = refl
 
-crlf_blank : (xs : List ℕ) → blank_of (13 ∷ 10 ∷ xs) ≡ Past 1
+crlf_blank : (xs : List ℕ) → blank_of (13 ∷ 10 ∷ xs) ≡ Some 1
 unfolding blank_by class_of opener_blank return_blank
 crlf_blank xs = refl
 
@@ -185,13 +183,13 @@ doc_cr_row_lem k a n x rest =
 
 -- ---- after `/`, `//` and CR
 
-com_by_lem : (a : ℕ) (rest : List ℕ) (r : Close) → close_of 1 rest ≡ r → from a (47 ∷ 42 ∷ rest) ≡ com_by a 2 rest r
+com_by_lem : (a : ℕ) (rest : List ℕ) (r : Option ℕ) → close_of 1 rest ≡ r → from a (47 ∷ 42 ∷ rest) ≡ com_by a 2 rest r
 unfolding blank_by class_of opener_blank slash_blank token_by opener_token doc_token
-com_by_lem a rest (At m) q =
+com_by_lem a rest (Some m) q =
     let z : m + 1 ≡ suc m = omega arith in
     let y : suc (suc m) ≡ 2 + m = omega arith in
     from_blank a 47 (42 ∷ rest) (m + 1) (rw q) ∙ rw (z, y)
-com_by_lem a rest Never q = from_first a 47 (42 ∷ rest) (NoToken 0) (rw q) refl ∙ none a 0 (47 ∷ 42 ∷ rest)
+com_by_lem a rest None q = from_first a 47 (42 ∷ rest) (NoToken 0) (rw q) refl ∙ none a 0 (47 ∷ 42 ∷ rest)
 
 slash_none : (a x : ℕ) (rest : List ℕ) → eqb x 47 ≡ false → eqb x 42 ≡ false → from a (47 ∷ x ∷ rest) ≡ fault_at a
 unfolding blank_by class_of opener_blank slash_blank token_by opener_token doc_token

@@ -1,4 +1,5 @@
 -- A stream that is not refused stands where the two machines stand after the bytes that came, however they were cut.
+use Rattle.std.specs.Prelude.{ℕ, Option, Some, None}
 use Prim.Native.Nat.{ℕ, suc, ◌+◌}
 use mathlib.Core.Path.{◌≡◌, refl, sym, ap, ◌∙◌}
 use mathlib.Core.List.{List, [], ◌∷◌, ◌++◌, append-nil, append_assoc}
@@ -7,8 +8,6 @@ use native.Mathlib.Nat.{add-zero}
 use native.Mathlib.Omega.{arith}
 use lib.ListN.{length, length-append}
 use lib.Seq.{append_snoc}
-use Rattle.text.specs.declared.Scan.{Scan}
-use Rattle.text.specs.declared.Scan.TheVariants.{Through, StopsAt}
 use Rattle.token.specs.Lists.{Tok}
 use Rattle.states.specs.declared.Utf.{Utf}
 use Rattle.states.specs.declared.Utf.TheVariants.{Whole}
@@ -21,13 +20,13 @@ use Rattle.states.proofs.Utfs.{utf_cuts}
 
 -- ---- a step is taken apart
 
-pub unless_goes : (n : ℕ) (k : Scan) (f : Unit {0} → Step) (ts : List Tok) (d : Stand) → unless n k f ≡ Goes ts d → (k ≡ Through) × (f tt ≡ Goes ts d)
-unless_goes n Through f ts d e = (refl, e)
-unless_goes n (StopsAt p) f ts d e = let z : ◌≡◌ {A = ℕ} 0 1 = cc in absurd (omega arith)
+pub unless_goes : (n : ℕ) (k : Option ℕ) (f : Unit {0} → Step) (ts : List Tok) (d : Stand) → unless n k f ≡ Goes ts d → (k ≡ None) × (f tt ≡ Goes ts d)
+unless_goes n None f ts d e = (refl, e)
+unless_goes n (Some p) f ts d e = let z : ◌≡◌ {A = ℕ} 0 1 = cc in absurd (omega arith)
 
-pub unless_faults : (n : ℕ) (k : Scan) (f : Unit {0} → Step) (m p : ℕ) → unless n k f ≡ Faults m p → ((n ≡ m) × (k ≡ StopsAt p)) ⊎ ((k ≡ Through) × (f tt ≡ Faults m p))
-unless_faults n Through f m p e = inr (refl, e)
-unless_faults n (StopsAt q) f m p e = inl (cc, cc)
+pub unless_faults : (n : ℕ) (k : Option ℕ) (f : Unit {0} → Step) (m p : ℕ) → unless n k f ≡ Faults m p → ((n ≡ m) × (k ≡ Some p)) ⊎ ((k ≡ None) × (f tt ≡ Faults m p))
+unless_faults n None f m p e = inr (refl, e)
+unless_faults n (Some q) f m p e = inl (cc, cc)
 
 given_goes : (ts us : List Tok) (z : Step) (d : Stand) → given ts z ≡ Goes us d → (vs : List Tok) × (z ≡ Goes vs d) × (us ≡ ts ++ vs)
 given_goes ts us (Goes vs c) d e = (vs, cc, cc)
@@ -102,10 +101,10 @@ stand_one s x =
 
 -- a byte that is not refused, wherever the stream stands
 pub record Took (r : ℕ) (c : Stand) (x : ℕ) (ts : List Tok) (d : Stand) : Type 0 where
-  pub short : long_at (suc c.seen) ≡ Through
-  pub sound : broken_at (utf_step c.utf c.seen x) ≡ Through
-  pub going : refused_at (step c.conf x).next ≡ Through
-  pub room : over_at r c.count (step c.conf x).gives ≡ Through
+  pub short : long_at (suc c.seen) ≡ None
+  pub sound : broken_at (utf_step c.utf c.seen x) ≡ None
+  pub going : refused_at (step c.conf x).next ≡ None
+  pub room : over_at r c.count (step c.conf x).gives ≡ None
   pub gives : ts ≡ (step c.conf x).gives
   pub moved : d ≡ moved_to c (utf_step c.utf c.seen x) (step c.conf x)
 

@@ -1,4 +1,5 @@
 -- The first sequence of UTF-8, byte by byte, whatever is made of it.
+use Rattle.std.specs.Prelude.{ℕ, Option, Some, None}
 use Prim.Native.Nat.{ℕ, zero, suc, ◌+◌, ◌-◌, ◌*◌, ◌≤◌, ◌<◌}
 use mathlib.Core.Path.{◌≡◌, refl, ap, ◌∙◌}
 use mathlib.Core.Bool.{Bool, true, false}
@@ -9,15 +10,10 @@ use lib.ListN.{drop}
 use borrow.Author.Tests.{lt-ltb, le-ltb, le-leb, lt-leb}
 use Rattle.text.specs.Booleans.{choose, within}
 use Rattle.text.specs.Utf8.{char_of, lead_of, gathered, judged, scalar}
-use Rattle.text.specs.declared.Value.{Value}
-use Rattle.text.specs.declared.Value.TheVariants.{Number, Nothing}
-use Rattle.text.specs.declared.Sequence.{Sequence}
-use Rattle.text.specs.declared.Sequence.TheVariants.{Is, Broken}
 use Rattle.text.proofs.Tests.{lt_or_ge, within_low, within_high, within_is, within_yes}
 use Rattle.text.proofs.Decodes.{scalar_low, scalar_high}
 use Rattle.token.specs.Blanks.{first}
 use mathlib.Core.Logic.{◌⊎◌, inl, inr}
-use Rattle.text.specs.declared.Lead.TheVariants.{Row, Stray}
 use Rattle.states.specs.declared.Tail.{Tail}
 use Rattle.states.specs.declared.Tail.TheVariants.{T1, T2, T3, TE0, TED, TF0, TF4}
 use Rattle.states.specs.Machine.{tail_ok, tail_left}
@@ -25,19 +21,19 @@ use Rattle.states.specs.Machine.{tail_ok, tail_left}
 abbrev In : ℕ → Type 0
 In y = within 0x80 0xbf y ≡ true
 
-good_is : (low m v : ℕ) → low ≤ v → scalar v ≡ true → judged low m (Number v) ≡ Is v m
+good_is : (low m v : ℕ) → low ≤ v → scalar v ≡ true → judged low m (Some v) ≡ Some (v, m)
 unfolding judged
 good_is low m v h e = rw (le-leb low v h, e)
 
-bad_low : (low m v : ℕ) → v < low → judged low m (Number v) ≡ Broken
+bad_low : (low m v : ℕ) → v < low → judged low m (Some v) ≡ None
 unfolding judged
 bad_low low m v h = rw (lt-leb low v h)
 
-both_broken : (b : Bool) → choose b (λ u. Broken) (λ u. Broken) ≡ Broken
+both_broken : (b : Bool) → choose {A = Option (ℕ × ℕ)} b (λ u. None) (λ u. None) ≡ None
 both_broken true = refl
 both_broken false = refl
 
-bad_scalar : (low m v : ℕ) → scalar v ≡ false → judged low m (Number v) ≡ Broken
+bad_scalar : (low m v : ℕ) → scalar v ≡ false → judged low m (Some v) ≡ None
 unfolding judged
 bad_scalar low m v e = rw e (both_broken (leb low v))
 
@@ -52,19 +48,19 @@ too_large v h = rw (le-ltb v 0xd800 (omega arith)) (within_high 0xe000 0x10ffff 
 no_bool : {A : Type 0} (b : Bool) → b ≡ true → b ≡ false → A
 no_bool b e f = let o : ◌≡◌ {A = ℕ} 0 1 = cc in absurd (omega arith)
 
-lead_one : (x : ℕ) → 0xc0 ≤ x → x < 0xe0 → lead_of x ≡ Row (x - 0xc0) 1 0x80
+lead_one : (x : ℕ) → 0xc0 ≤ x → x < 0xe0 → lead_of x ≡ Some (x - 0xc0, 1, 0x80)
 unfolding lead_of
 lead_one x h g = rw (le-ltb x 0x80 (omega arith), le-ltb x 0xc0 h, lt-ltb x 0xe0 g)
 
-lead_two : (x : ℕ) → 0xe0 ≤ x → x < 0xf0 → lead_of x ≡ Row (x - 0xe0) 2 0x800
+lead_two : (x : ℕ) → 0xe0 ≤ x → x < 0xf0 → lead_of x ≡ Some (x - 0xe0, 2, 0x800)
 unfolding lead_of
 lead_two x h g = rw (le-ltb x 0x80 (omega arith), le-ltb x 0xc0 (omega arith), le-ltb x 0xe0 h, lt-ltb x 0xf0 g)
 
-lead_three : (x : ℕ) → 0xf0 ≤ x → x < 0xf8 → lead_of x ≡ Row (x - 0xf0) 3 0x10000
+lead_three : (x : ℕ) → 0xf0 ≤ x → x < 0xf8 → lead_of x ≡ Some (x - 0xf0, 3, 0x10000)
 unfolding lead_of
 lead_three x h g = rw (le-ltb x 0x80 (omega arith), le-ltb x 0xc0 (omega arith), le-ltb x 0xe0 (omega arith), le-ltb x 0xf0 h, lt-ltb x 0xf8 g)
 
-lead_stray : (x : ℕ) → 0x80 ≤ x → (x < 0xc0) ⊎ (0xf8 ≤ x) → lead_of x ≡ Stray
+lead_stray : (x : ℕ) → 0x80 ≤ x → (x < 0xc0) ⊎ (0xf8 ≤ x) → lead_of x ≡ None
 unfolding lead_of
 lead_stray x h (inl g) = rw (le-ltb x 0x80 h, lt-ltb x 0xc0 g)
 lead_stray x h (inr g) = rw (le-ltb x 0x80 h, le-ltb x 0xc0 (omega arith), le-ltb x 0xe0 (omega arith), le-ltb x 0xf0 (omega arith), le-ltb x 0xf8 g)
@@ -78,7 +74,7 @@ out_high lo hi y e k (inl h) = h
 out_high lo hi y e k (inr h) = no_bool (within lo hi y) (within_yes lo hi y k h) e
 
 -- E: what is made of the sequence that x begins; bad: of none; K j rest: of one, where j bytes after its first were seen and rest is left
-module _ {R : Type 0} (E : Sequence → R) (bad : R) (broken : E Broken ≡ bad) (K : ℕ → List ℕ → R) where
+module _ {R : Type 0} (E : Option (ℕ × ℕ) → R) (bad : R) (broken : E None ≡ bad) (K : ℕ → List ℕ → R) where
   -- k bytes more
   unfoldable pub tails_of : ℕ → ℕ → List ℕ → R
   tails_of zero j rest = K j rest
@@ -89,17 +85,17 @@ module _ {R : Type 0} (E : Sequence → R) (bad : R) (broken : E Broken ≡ bad)
 
   module _ (low m : ℕ) where
     abbrev AllGood : ℕ → ℕ → Type 0
-    AllGood zero v = judged low m (Number v) ≡ Is v m
+    AllGood zero v = judged low m (Some v) ≡ Some (v, m)
     AllGood (suc k) v = (y : ℕ) → In y → AllGood k (v * 64 + (y - 0x80))
 
     abbrev AllBad : ℕ → ℕ → Type 0
-    AllBad zero v = judged low m (Number v) ≡ Broken
+    AllBad zero v = judged low m (Some v) ≡ None
     AllBad (suc k) v = (y : ℕ) → In y → AllBad k (v * 64 + (y - 0x80))
 
     abbrev Ends : ℕ → ℕ → List ℕ → Type 0
-    Ends k j rest = (c : ℕ) → E (Is c m) ≡ K (j + k) (drop k rest)
+    Ends k j rest = (c : ℕ) → E (Some (c, m)) ≡ K (j + k) (drop k rest)
 
-    nothing : E (judged low m Nothing) ≡ bad
+    nothing : E (judged low m None) ≡ bad
     unfolding judged
     nothing = broken
 
@@ -108,7 +104,7 @@ module _ {R : Type 0} (E : Sequence → R) (bad : R) (broken : E Broken ≡ bad)
         let z : j + suc k ≡ suc j + k = omega arith in
         rw z at (w c)
 
-    good_by : (b : Bool) (r : Value) (t : R) → (b ≡ true → E (judged low m r) ≡ t) → E (judged low m (choose b (λ u. r) (λ u. Nothing))) ≡ choose b (λ u. t) (λ u. bad)
+    good_by : (b : Bool) (r : Option ℕ) (t : R) → (b ≡ true → E (judged low m r) ≡ t) → E (judged low m (choose b (λ u. r) (λ u. None))) ≡ choose b (λ u. t) (λ u. bad)
     good_by true r t h = h refl
     good_by false r t h = nothing
 
@@ -121,7 +117,7 @@ module _ {R : Type 0} (E : Sequence → R) (bad : R) (broken : E Broken ≡ bad)
     good_tails (suc k) v j (y ∷ ys) g w =
         good_by (within 0x80 0xbf y) (gathered k (v * 64 + (y - 0x80)) ys) (tails_of k (suc j) ys) (λ e. good_tails k (v * 64 + (y - 0x80)) (suc j) ys (g y e) (ends_next k j y ys w))
 
-    bad_by : (b : Bool) (r : Value) → (b ≡ true → E (judged low m r) ≡ bad) → E (judged low m (choose b (λ u. r) (λ u. Nothing))) ≡ bad
+    bad_by : (b : Bool) (r : Option ℕ) → (b ≡ true → E (judged low m r) ≡ bad) → E (judged low m (choose b (λ u. r) (λ u. None))) ≡ bad
     bad_by true r h = h refl
     bad_by false r h = nothing
 
@@ -134,7 +130,7 @@ module _ {R : Type 0} (E : Sequence → R) (bad : R) (broken : E Broken ≡ bad)
     -- the second byte has a test of its own
     module _ (f : ℕ → Bool) (k v : ℕ) (into : (y : ℕ) → f y ≡ true → In y) (good : (y : ℕ) → f y ≡ true → AllGood k (v * 64 + (y - 0x80))) (wrong : (y : ℕ) → f y ≡ false → In y → AllBad k (v * 64 + (y - 0x80))) where
       second_by : (y : ℕ) (ys : List ℕ) (b c : Bool) → f y ≡ b → within 0x80 0xbf y ≡ c → Ends (suc k) 0 (y ∷ ys)
-          → E (judged low m (choose c (λ u. gathered k (v * 64 + (y - 0x80)) ys) (λ u. Nothing))) ≡ choose b (λ u. tails_of k 1 ys) (λ u. bad)
+          → E (judged low m (choose c (λ u. gathered k (v * 64 + (y - 0x80)) ys) (λ u. None))) ≡ choose b (λ u. tails_of k 1 ys) (λ u. bad)
       second_by y ys true true e h w = good_tails k (v * 64 + (y - 0x80)) 1 ys (good y e) (ends_next k 0 y ys w)
       second_by y ys true false e h w = no_bool (within 0x80 0xbf y) (into y e) h
       second_by y ys false true e h w = bad_tails k (v * 64 + (y - 0x80)) ys (wrong y e h)
@@ -149,27 +145,27 @@ module _ {R : Type 0} (E : Sequence → R) (bad : R) (broken : E Broken ≡ bad)
   never k [] = refl
   never k (y ∷ ys) = refl
 
-  module _ (x : ℕ) (rest : List ℕ) (is : (c i : ℕ) → E (Is c (suc i)) ≡ K i (drop i rest)) where
-    raw_stray : lead_of x ≡ Stray → E (char_of (x ∷ rest)) ≡ bad
+  module _ (x : ℕ) (rest : List ℕ) (is : (c i : ℕ) → E (Some (c, suc i)) ≡ K i (drop i rest)) where
+    raw_stray : lead_of x ≡ None → E (char_of (x ∷ rest)) ≡ bad
     unfolding char_of
     raw_stray e = rw e broken
 
     module _ (f : ℕ → Bool) (into : (y : ℕ) → f y ≡ true → In y) where
-      raw_one : lead_of x ≡ Row (x - 0xc0) 1 0x80
+      raw_one : lead_of x ≡ Some (x - 0xc0, 1, 0x80)
           → ((y : ℕ) → f y ≡ true → AllGood 0x80 2 0 ((x - 0xc0) * 64 + (y - 0x80)))
           → ((y : ℕ) → f y ≡ false → In y → AllBad 0x80 2 0 ((x - 0xc0) * 64 + (y - 0x80)))
           → E (char_of (x ∷ rest)) ≡ choose (first f rest) (λ u. tails_of 0 1 (drop 1 rest)) (λ u. bad)
       unfolding char_of
       raw_one l g b = rw l (second 0x80 2 f 0 (x - 0xc0) into g b rest (λ c. is c 1))
 
-      raw_two : lead_of x ≡ Row (x - 0xe0) 2 0x800
+      raw_two : lead_of x ≡ Some (x - 0xe0, 2, 0x800)
           → ((y : ℕ) → f y ≡ true → AllGood 0x800 3 1 ((x - 0xe0) * 64 + (y - 0x80)))
           → ((y : ℕ) → f y ≡ false → In y → AllBad 0x800 3 1 ((x - 0xe0) * 64 + (y - 0x80)))
           → E (char_of (x ∷ rest)) ≡ choose (first f rest) (λ u. tails_of 1 1 (drop 1 rest)) (λ u. bad)
       unfolding char_of
       raw_two l g b = rw l (second 0x800 3 f 1 (x - 0xe0) into g b rest (λ c. is c 2))
 
-      raw_three : lead_of x ≡ Row (x - 0xf0) 3 0x10000
+      raw_three : lead_of x ≡ Some (x - 0xf0, 3, 0x10000)
           → ((y : ℕ) → f y ≡ true → AllGood 0x10000 4 2 ((x - 0xf0) * 64 + (y - 0x80)))
           → ((y : ℕ) → f y ≡ false → In y → AllBad 0x10000 4 2 ((x - 0xf0) * 64 + (y - 0x80)))
           → E (char_of (x ∷ rest)) ≡ choose (first f rest) (λ u. tails_of 2 1 (drop 1 rest)) (λ u. bad)

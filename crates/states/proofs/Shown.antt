@@ -1,4 +1,5 @@
 -- What each of the four checks at a byte says of the text: shown, in every continuation; not shown, in some continuation not.
+use Rattle.std.specs.Prelude.{ℕ, Option, Some, None}
 use Prim.Native.Nat.{ℕ, suc, ◌+◌, ◌≤◌, ◌<◌}
 use mathlib.Core.Path.{◌≡◌, refl, sym, ap, ◌∙◌}
 use mathlib.Core.Bool.{Bool, true, false}
@@ -10,8 +11,6 @@ use lib.ListN.{length, length-append}
 use lib.Seq.{append_snoc}
 use borrow.Author.Tests.{ltb-true, ltb-false}
 use Rattle.text.specs.Booleans.{choose}
-use Rattle.text.specs.declared.Scan.{Scan}
-use Rattle.text.specs.declared.Scan.TheVariants.{Through, StopsAt}
 use Rattle.text.proofs.Booleans.{choose_by}
 use Rattle.text.specs.Limits.{max_text}
 use Rattle.token.specs.Lists.{Tok, tok, start_of}
@@ -37,24 +36,24 @@ use Rattle.states.proofs.Runs.{unless_faults, followed_goes, gave, stand_at, too
 
 -- ---- the checks
 
-no_good : {A : Type 0} (p : ℕ) → Through ≡ StopsAt p → A
+no_good : {A : Type 0} (p : ℕ) → None ≡ Some p → A
 no_good p e = let z : ◌≡◌ {A = ℕ} 0 1 = cc in absurd (omega arith)
 
-long_bad : (n p : ℕ) → long_at n ≡ StopsAt p → (max_text < n) × (p ≡ 0)
+long_bad : (n p : ℕ) → long_at n ≡ Some p → (max_text < n) × (p ≡ 0)
 unfolding long_at
-long_bad n p = choose_by (λ k. k ≡ StopsAt p → (max_text < n) × (p ≡ 0)) (ltb max_text n) _ _ (λ e g. (ltb-true max_text n e, cc)) (λ e g. no_good p g)
+long_bad n p = choose_by (λ k. k ≡ Some p → (max_text < n) × (p ≡ 0)) (ltb max_text n) _ _ (λ e g. (ltb-true max_text n e, cc)) (λ e g. no_good p g)
 
-broken_bad : (u : Utf) (p : ℕ) → broken_at u ≡ StopsAt p → u ≡ Broke p
+broken_bad : (u : Utf) (p : ℕ) → broken_at u ≡ Some p → u ≡ Broke p
 broken_bad Whole p e = no_good p e
 broken_bad (Mid t s) p e = no_good p e
 broken_bad (Broke q) p e = let z : q ≡ p = cc in ap Broke z
 
-broken_good : (u : Utf) → broken_at u ≡ Through → (p : ℕ) → u ≡ Broke p → ⊥
+broken_good : (u : Utf) → broken_at u ≡ None → (p : ℕ) → u ≡ Broke p → ⊥
 broken_good u g p e = no_good p (sym g ∙ ap broken_at e)
 
-refused_bad : (c : Conf) (p : ℕ) → refused_at c ≡ StopsAt p → (c.state ≡ Refused) × (c.start ≡ p)
+refused_bad : (c : Conf) (p : ℕ) → refused_at c ≡ Some p → (c.state ≡ Refused) × (c.start ≡ p)
 unfolding refused_at
-refused_bad c p = choose_by (λ k. k ≡ StopsAt p → (c.state ≡ Refused) × (c.start ≡ p)) (eqb (code_of c.state) refused_code) _ _ (λ e g. (code_refused c.state e, cc)) (λ e g. no_good p g)
+refused_bad c p = choose_by (λ k. k ≡ Some p → (c.state ≡ Refused) × (c.start ≡ p)) (eqb (code_of c.state) refused_code) _ _ (λ e g. (code_refused c.state e, cc)) (λ e g. no_good p g)
 
 -- the first for which there is no room: the list is full before it, or was too short already
 pub record Over (room n p : ℕ) (ts : List Tok) : Type 0 where
@@ -79,12 +78,12 @@ over_next room n p t ts h o =
     first_by (inl e) = omega arith
     first_by (inr e) = let f : room ≤ suc n + o.index = o.full in omega arith
 
-over_by : (room n p : ℕ) (t : Tok) (ts : List Tok) (b : Bool) → ltb n room ≡ b → (over_at room (suc n) ts ≡ StopsAt p → Over room (suc n) p ts)
-    → choose b (λ u. over_at room (suc n) ts) (λ u. StopsAt (start_of t)) ≡ StopsAt p → Over room n p (t ∷ ts)
+over_by : (room n p : ℕ) (t : Tok) (ts : List Tok) (b : Bool) → ltb n room ≡ b → (over_at room (suc n) ts ≡ Some p → Over room (suc n) p ts)
+    → choose b (λ u. over_at room (suc n) ts) (λ u. Some (start_of t)) ≡ Some p → Over room n p (t ∷ ts)
 over_by room n p t ts true f h e = over_next room n p t ts (ltb-true n room f) (h e)
 over_by room n p t ts false f h e = over_here room n p t ts (ltb-false n room f) (cc)
 
-pub over_bad : (room : ℕ) (ts : List Tok) (n p : ℕ) → over_at room n ts ≡ StopsAt p → Over room n p ts
+pub over_bad : (room : ℕ) (ts : List Tok) (n p : ℕ) → over_at room n ts ≡ Some p → Over room n p ts
 unfolding over_at
 over_bad room [] n p e = no_good p e
 over_bad room (t ∷ ts) n p e = over_by room n p t ts (ltb n room) refl (λ g. over_bad room ts (suc n) p g) e
@@ -94,8 +93,8 @@ over_bad room (t ∷ ts) n p e = over_by room n p t ts (ltb n room) refl (λ g. 
 -- nothing has shown: 1, 2 and 3 alike
 pub record NoneShown (s : List ℕ) : Type 0 where
   pub short : length s ≤ max_text
-  pub whole : broken_at (utf_feed Whole 0 s) ≡ Through
-  pub going : refused_at (feed fresh s).next ≡ Through
+  pub whole : broken_at (utf_feed Whole 0 s) ≡ None
+  pub going : refused_at (feed fresh s).next ≡ None
 
 pub sound_nil : NoneShown []
 unfolding feed utf_feed refused_at
@@ -104,16 +103,16 @@ sound_nil = record { short = omega arith; whole = refl; going = refl }
 pub free_1 : (s : List ℕ) → length s ≤ max_text → Free-1 s
 free_1 s h = ([], no_bytes, rw (append-nil s) h)
 
-pub free_2 : (s : List ℕ) → broken_at (utf_feed Whole 0 s) ≡ Through → Free-2 s
+pub free_2 : (s : List ℕ) → broken_at (utf_feed Whole 0 s) ≡ None → Free-2 s
 free_2 s g = complete_2 s (broken_good (utf_feed Whole 0 s) g)
 
-pub free_3 : (s : List ℕ) → refused_at (feed fresh s).next ≡ Through → Free-3 s
+pub free_3 : (s : List ℕ) → refused_at (feed fresh s).next ≡ None → Free-3 s
 free_3 s g = complete_3 s (λ e. refused_good (feed fresh s).next g (ap code_of e))
 
 -- ---- at a byte
 
 module _ (r : ℕ) (s : List ℕ) (x : ℕ) where
-  sound_one : long_at (suc (length s)) ≡ Through → broken_at (utf_at s x) ≡ Through → refused_at (out_at s x).next ≡ Through → NoneShown (s ++ x ∷ [])
+  sound_one : long_at (suc (length s)) ≡ None → broken_at (utf_at s x) ≡ None → refused_at (out_at s x).next ≡ None → NoneShown (s ++ x ∷ [])
   sound_one a b c =
       record {
         short = rw (length_one s x) (long_good (suc (length s)) a);
@@ -124,7 +123,7 @@ module _ (r : ℕ) (s : List ℕ) (x : ℕ) where
   pub sound_step : (ts : List Tok) (d : Stand) → step_of r (stand_at s) x ≡ Goes ts d → NoneShown (s ++ x ∷ [])
   sound_step ts d e = let h = took r (stand_at s) x ts d e in sound_one h.short h.sound h.going
 
-  is_long : (p : ℕ) → long_at (suc (length s)) ≡ StopsAt p → Byte r s x 1 p
+  is_long : (p : ℕ) → long_at (suc (length s)) ≡ Some p → Byte r s x 1 p
   is_long p e =
       let h = long_bad (suc (length s)) p e in
       let l : max_text < suc (length s) = h.0 in
@@ -141,7 +140,7 @@ module _ (r : ℕ) (s : List ℕ) (x : ℕ) where
   moved_on : (ys : List ℕ) → (s ++ x ∷ []) ++ ys ≡ s ++ x ∷ ys
   moved_on ys = append_snoc s x ys
 
-  is_broken : (p : ℕ) → long_at (suc (length s)) ≡ Through → broken_at (utf_at s x) ≡ StopsAt p → Byte r s x 2 p
+  is_broken : (p : ℕ) → long_at (suc (length s)) ≡ None → broken_at (utf_at s x) ≡ Some p → Byte r s x 2 p
   is_broken p a e =
       let u : utf_feed Whole 0 (s ++ x ∷ []) ≡ Broke p = utf_one s x ∙ broken_bad (utf_at s x) p e in
       record {
@@ -153,7 +152,7 @@ module _ (r : ℕ) (s : List ℕ) (x : ℕ) where
         waits = record { one = λ z. free_1 (s ++ x ∷ []) (rw (length_one s x) (long_good (suc (length s)) a)); two = λ z. absurd (omega arith); three = λ z. absurd (omega arith) };
       }
 
-  is_refused : (p : ℕ) → long_at (suc (length s)) ≡ Through → broken_at (utf_at s x) ≡ Through → refused_at (out_at s x).next ≡ StopsAt p → Byte r s x 3 p
+  is_refused : (p : ℕ) → long_at (suc (length s)) ≡ None → broken_at (utf_at s x) ≡ None → refused_at (out_at s x).next ≡ Some p → Byte r s x 3 p
   is_refused p a b e =
       let h = refused_bad (out_at s x).next p e in
       let q : (feed fresh (s ++ x ∷ [])).next.state ≡ Refused = ap (λ (c : Conf). c.state) (next_one s x) ∙ h.0 in
@@ -162,7 +161,7 @@ module _ (r : ℕ) (s : List ℕ) (x : ℕ) where
         refusal = refl;
         shows_1 = λ z. absurd (omega arith);
         shows_2 = λ z. absurd (omega arith);
-        shows_3 = λ z ys. rw (moved_on ys) at (refused_3 (s ++ x ∷ []) ys q) ∙ ap StopsAt w;
+        shows_3 = λ z ys. rw (moved_on ys) at (refused_3 (s ++ x ∷ []) ys q) ∙ ap Some w;
         shows_14 = λ z. absurd (omega arith);
         waits = record { one = λ z. free_1 (s ++ x ∷ []) (rw (length_one s x) (long_good (suc (length s)) a)); two = λ z. free_2 (s ++ x ∷ []) (rw (utf_one s x) b); three = λ z. absurd (omega arith) };
       }
@@ -186,7 +185,7 @@ module _ (r : ℕ) (s : List ℕ) (x : ℕ) where
       first_by (inl e) = inl e
       first_by (inr e) = inr (omega arith)
 
-  is_full_lem : (p : ℕ) → long_at (suc (length s)) ≡ Through → broken_at (utf_at s x) ≡ Through → refused_at (out_at s x).next ≡ Through → over_at r (length (gave s)) (out_at s x).gives ≡ StopsAt p → Byte r s x 14 p
+  is_full_lem : (p : ℕ) → long_at (suc (length s)) ≡ None → broken_at (utf_at s x) ≡ None → refused_at (out_at s x).next ≡ None → over_at r (length (gave s)) (out_at s x).gives ≡ Some p → Byte r s x 14 p
   is_full_lem p a b c e =
       let h = sound_one a b c in
       record {
@@ -202,30 +201,30 @@ module _ (r : ℕ) (s : List ℕ) (x : ℕ) where
   is : (m n p : ℕ) → m ≡ n → Byte r s x m p → Byte r s x n p
   is m n p e h = rw (← e) h
 
-  by_room : (n p : ℕ) → long_at (suc (length s)) ≡ Through → broken_at (utf_at s x) ≡ Through → refused_at (out_at s x).next ≡ Through
-      → ((14 ≡ n) × (over_at r (length (gave s)) (out_at s x).gives ≡ StopsAt p)) ⊎ ((over_at r (length (gave s)) (out_at s x).gives ≡ Through) × (Goes (out_at s x).gives (moved_to (stand_at s) (utf_at s x) (out_at s x)) ≡ Faults n p)) → Byte r s x n p
+  by_room : (n p : ℕ) → long_at (suc (length s)) ≡ None → broken_at (utf_at s x) ≡ None → refused_at (out_at s x).next ≡ None
+      → ((14 ≡ n) × (over_at r (length (gave s)) (out_at s x).gives ≡ Some p)) ⊎ ((over_at r (length (gave s)) (out_at s x).gives ≡ None) × (Goes (out_at s x).gives (moved_to (stand_at s) (utf_at s x) (out_at s x)) ≡ Faults n p)) → Byte r s x n p
   by_room n p a b c (inl h) = is 14 n p h.0 (is_full_lem p a b c h.1)
   by_room n p a b c (inr h) = let e : Goes (out_at s x).gives (moved_to (stand_at s) (utf_at s x) (out_at s x)) ≡ Faults n p = h.1 in let z : ◌≡◌ {A = ℕ} 0 1 = cc in absurd (omega arith)
 
-  abbrev Rest : ℕ → ℕ → Scan → Step → Type 0
-  Rest n p k z = (k ≡ Through) × (z ≡ Faults n p)
+  abbrev Rest : ℕ → ℕ → Option ℕ → Step → Type 0
+  Rest n p k z = (k ≡ None) × (z ≡ Faults n p)
 
   abbrev roomed : Step
   roomed = unless 14 (over_at r (length (gave s)) (out_at s x).gives) (λ _. Goes (out_at s x).gives (moved_to (stand_at s) (utf_at s x) (out_at s x)))
 
-  by_token : (n p : ℕ) → long_at (suc (length s)) ≡ Through → broken_at (utf_at s x) ≡ Through
-      → ((3 ≡ n) × (refused_at (out_at s x).next ≡ StopsAt p)) ⊎ Rest n p (refused_at (out_at s x).next) roomed → Byte r s x n p
+  by_token : (n p : ℕ) → long_at (suc (length s)) ≡ None → broken_at (utf_at s x) ≡ None
+      → ((3 ≡ n) × (refused_at (out_at s x).next ≡ Some p)) ⊎ Rest n p (refused_at (out_at s x).next) roomed → Byte r s x n p
   by_token n p a b (inl h) = is 3 n p h.0 (is_refused p a b h.1)
   by_token n p a b (inr h) = by_room n p a b h.0 (unless_faults 14 (over_at r (length (gave s)) (out_at s x).gives) _ n p h.1)
 
   abbrev tokened : Step
   tokened = unless 3 (refused_at (out_at s x).next) (λ _. roomed)
 
-  by_utf : (n p : ℕ) → long_at (suc (length s)) ≡ Through → ((2 ≡ n) × (broken_at (utf_at s x) ≡ StopsAt p)) ⊎ Rest n p (broken_at (utf_at s x)) tokened → Byte r s x n p
+  by_utf : (n p : ℕ) → long_at (suc (length s)) ≡ None → ((2 ≡ n) × (broken_at (utf_at s x) ≡ Some p)) ⊎ Rest n p (broken_at (utf_at s x)) tokened → Byte r s x n p
   by_utf n p a (inl h) = is 2 n p h.0 (is_broken p a h.1)
   by_utf n p a (inr h) = by_token n p a h.0 (unless_faults 3 (refused_at (out_at s x).next) _ n p h.1)
 
-  by_length : (n p : ℕ) → ((1 ≡ n) × (long_at (suc (length s)) ≡ StopsAt p)) ⊎ Rest n p (long_at (suc (length s))) (unless 2 (broken_at (utf_at s x)) (λ _. tokened)) → Byte r s x n p
+  by_length : (n p : ℕ) → ((1 ≡ n) × (long_at (suc (length s)) ≡ Some p)) ⊎ Rest n p (long_at (suc (length s))) (unless 2 (broken_at (utf_at s x)) (λ _. tokened)) → Byte r s x n p
   by_length n p (inl h) = is 1 n p h.0 (is_long p h.1)
   by_length n p (inr h) = by_utf n p h.0 (unless_faults 2 (broken_at (utf_at s x)) _ n p h.1)
 

@@ -1,4 +1,5 @@
 -- Literals: what a byte does to what is still to come.
+use Rattle.std.specs.Prelude.{ℕ, Option, Some, None}
 use Prim.Native.Nat.{ℕ, suc, ◌+◌, ◌-◌, ◌*◌, ◌≤◌, ◌<◌}
 use mathlib.Core.Path.{◌≡◌, refl, ap, ◌∙◌}
 use mathlib.Core.Bool.{Bool, true, false}
@@ -14,18 +15,10 @@ use Rattle.text.specs.Classes.{class_of}
 use Rattle.text.specs.Scans.{later, sought}
 use Rattle.text.specs.Digits.{hex_of}
 use Rattle.text.specs.Utf8.{char_of, lead_of, gathered, judged}
-use Rattle.text.specs.declared.Value.{Value}
-use Rattle.text.specs.declared.Value.TheVariants.{Number, Nothing}
-use Rattle.text.specs.declared.Scan.{Scan}
-use Rattle.text.specs.declared.Scan.TheVariants.{Through, StopsAt}
-use Rattle.text.specs.declared.Sequence.TheVariants.{Is}
-use Rattle.text.specs.declared.Look.TheVariants.{Past, Stop}
 use Rattle.text.proofs.Decodes.{scalar_low}
 use Rattle.text.proofs.Walks.{sought_pending, past_head, later_later}
 use Rattle.text.proofs.Booleans.{choose_by}
 use Rattle.literal.specs.Escapes.{digits_by, digits_of, simple_of, pair_by, pair_of, braced_by, braced_of, after_by, after_of, escape_of}
-use Rattle.literal.specs.declared.Escape.{Escape}
-use Rattle.literal.specs.declared.Escape.TheVariants.{Means, Plain}
 use Rattle.literal.specs.declared.Digits.{Digits}
 use Rattle.literal.proofs.Escaped.{digits_go, digits_full, meant}
 use Rattle.token.specs.Blanks.{opener_blank, blank_by}
@@ -42,9 +35,9 @@ use Rattle.states.proofs.Left.{str_l, quote_l, back_l, bad_l, esc_by, x1_l, x0_l
 
 -- ---- strings
 
-by_beyond : (k n : ℕ) (xs : List ℕ) (r : Scan) → Beyond n (string_by k n xs r)
-by_beyond k n xs Through = tt
-by_beyond k n xs (StopsAt j) = choose_by (Beyond n) (next_is 34 (drop j xs)) _ _ (λ e. omega arith) (λ e. tt)
+by_beyond : (k n : ℕ) (xs : List ℕ) (r : Option ℕ) → Beyond n (string_by k n xs r)
+by_beyond k n xs None = tt
+by_beyond k n xs (Some j) = choose_by (Beyond n) (next_is 34 (drop j xs)) _ _ (λ e. omega arith) (λ e. tt)
 
 pub string_beyond : (k n : ℕ) (xs : List ℕ) → Beyond n (string_of k n xs)
 unfolding string_of
@@ -59,15 +52,15 @@ closed_same : (k : ℕ) (b : Bool) {e f p q : ℕ} → e ≡ f → p ≡ q → c
 closed_same k true h g = ap (Found k 0) h
 closed_same k false h g = ap NoToken g
 
-string_later : (k n m : ℕ) (xs : List ℕ) (r : Scan) → string_by k n xs (later m r) ≡ string_by k (n + m) (drop m xs) r
-string_later k n m xs Through = refl
-string_later k n m xs (StopsAt j) =
+string_later : (k n m : ℕ) (xs : List ℕ) (r : Option ℕ) → string_by k n xs (later m r) ≡ string_by k (n + m) (drop m xs) r
+string_later k n m xs None = refl
+string_later k n m xs (Some j) =
     let z : n + ((m + j) + 1) ≡ (n + m) + (j + 1) = omega arith in
     let y : n + (m + j) ≡ (n + m) + j = omega arith in
     rw (drop-drop j m xs) (closed_same k (next_is 34 (drop (m + j) xs)) z y)
 
 -- an inside that goes on after a piece of 1 + m bytes
-string_past : (k n m x : ℕ) (xs : List ℕ) → inside_look (x ∷ xs) ≡ Past m → string_of k n (x ∷ xs) ≡ string_of k (n + suc m) (drop m xs)
+string_past : (k n m x : ℕ) (xs : List ℕ) → inside_look (x ∷ xs) ≡ Some m → string_of k n (x ∷ xs) ≡ string_of k (n + suc m) (drop m xs)
 unfolding string_of
 string_past k n m x xs h =
     let z : 1 + m ≡ suc m = omega arith in
@@ -82,7 +75,7 @@ str_close k a n rest =
     let y : suc n - n ≡ 1 = omega arith in
     rw (z, y, add-zero a)
 
-plain_look : (x : ℕ) (rest : List ℕ) → eqb x 34 ≡ false → eqb x 92 ≡ false → inside_look (x ∷ rest) ≡ Past 0
+plain_look : (x : ℕ) (rest : List ℕ) → eqb x 34 ≡ false → eqb x 92 ≡ false → inside_look (x ∷ rest) ≡ Some 0
 unfolding inside_look escape_of
 plain_look x rest e f = rw (e, f, f)
 
@@ -94,25 +87,25 @@ str_plain k a n x rest e f =
 
 -- ---- escapes in strings
 
-esc_look : (rest : List ℕ) (c m : ℕ) → after_of rest ≡ Means c m → inside_look (92 ∷ rest) ≡ Past (m - 1)
+esc_look : (rest : List ℕ) (c m : ℕ) → after_of rest ≡ Some (c, m) → inside_look (92 ∷ rest) ≡ Some (m - 1)
 unfolding inside_look escape_of
 esc_look rest c m e = rw e
 
-esc_none : (rest : List ℕ) → after_of rest ≡ Plain → inside_look (92 ∷ rest) ≡ Stop
+esc_none : (rest : List ℕ) → after_of rest ≡ None → inside_look (92 ∷ rest) ≡ None
 unfolding inside_look escape_of
 esc_none rest e = rw e
 
-esc_meant : (rest : List ℕ) (c m : ℕ) → after_of rest ≡ Means c m → 2 ≤ m
+esc_meant : (rest : List ℕ) (c m : ℕ) → after_of rest ≡ Some (c, m) → 2 ≤ m
 unfolding escape_of
 esc_meant rest c m e = (meant (92 ∷ rest) c m e).two
 
-string_stop : (k n : ℕ) (rest : List ℕ) → inside_look (92 ∷ rest) ≡ Stop → string_of k n (92 ∷ rest) ≡ NoToken n
+string_stop : (k n : ℕ) (rest : List ℕ) → inside_look (92 ∷ rest) ≡ None → string_of k n (92 ∷ rest) ≡ NoToken n
 unfolding string_of sought
 string_stop k n rest h = rw h (ap NoToken (add-zero n))
 
-str_by : (k a n : ℕ) (rest : List ℕ) (r : Escape) → after_of rest ≡ r → str_l k a n (92 ∷ rest) ≡ esc_by (Text k) n a (suc n) rest r
-str_by k a n rest Plain e = ap (ended a n (92 ∷ rest)) (string_stop k n rest (esc_none rest e))
-str_by k a n rest (Means c m) e =
+str_by : (k a n : ℕ) (rest : List ℕ) (r : Option (ℕ × ℕ)) → after_of rest ≡ r → str_l k a n (92 ∷ rest) ≡ esc_by (Text k) n a (suc n) rest r
+str_by k a n rest None e = ap (ended a n (92 ∷ rest)) (string_stop k n rest (esc_none rest e))
+str_by k a n rest (Some (c, m)) e =
     let l : 2 ≤ m = esc_meant rest c m e in
     let z : n + suc (m - 1) ≡ suc n + (m - 1) = omega arith in
     rw (string_past k n (m - 1) 92 rest (esc_look rest c m e), z)
@@ -136,19 +129,19 @@ module _ (l : Lit) (b a n x : ℕ) where
       let y : n + 3 ≡ suc (suc (suc n)) = omega arith in
       rw (e, y)
 
-  pair_second : (z v w : ℕ) (ws : List ℕ) (h : Value) → hex_of w ≡ h
+  pair_second : (z v w : ℕ) (ws : List ℕ) (h : Option ℕ) → hex_of w ≡ h
       → esc_by l b a n (x ∷ z ∷ w ∷ ws) (pair_by (digits_by h v 1 (λ u. digits_of 2 u 2 ws))) ≡ choose (is_number h) (λ u. back_l l a (suc (suc (suc n))) ws) (λ u. bad_l a b)
-  pair_second z v w ws Nothing e = refl
-  pair_second z v w ws (Number d) e = pair_two z w (v * 16 + d) ws (digits_full 2 (v * 16 + d) 2 ws (omega arith))
+  pair_second z v w ws None e = refl
+  pair_second z v w ws (Some d) e = pair_two z w (v * 16 + d) ws (digits_full 2 (v * 16 + d) 2 ws (omega arith))
 
   pair_first : (z v : ℕ) (zs : List ℕ) → esc_by l b a n (x ∷ z ∷ zs) (pair_by (digits_of 2 v 1 zs)) ≡ x1_l l b a (suc (suc n)) zs
   unfolding digits_of
   pair_first z v [] = refl
   pair_first z v (w ∷ ws) = pair_second z v w ws (hex_of w) refl
 
-  pair_digit : (z : ℕ) (zs : List ℕ) (h : Value) → esc_by l b a n (x ∷ z ∷ zs) (pair_by (digits_by h 0 0 (λ u. digits_of 2 u 1 zs))) ≡ choose (is_number h) (λ u. x1_l l b a (suc (suc n)) zs) (λ u. bad_l a b)
-  pair_digit z zs Nothing = refl
-  pair_digit z zs (Number d) = pair_first z (0 * 16 + d) zs
+  pair_digit : (z : ℕ) (zs : List ℕ) (h : Option ℕ) → esc_by l b a n (x ∷ z ∷ zs) (pair_by (digits_by h 0 0 (λ u. digits_of 2 u 1 zs))) ≡ choose (is_number h) (λ u. x1_l l b a (suc (suc n)) zs) (λ u. bad_l a b)
+  pair_digit z zs None = refl
+  pair_digit z zs (Some d) = pair_first z (0 * 16 + d) zs
 
   pair_link : (rest : List ℕ) → esc_by l b a n (x ∷ rest) (pair_of rest) ≡ x0_l l b a (suc n) rest
   unfolding pair_of digits_of
@@ -156,7 +149,7 @@ module _ (l : Lit) (b a n x : ℕ) where
   pair_link (z ∷ zs) = pair_digit z zs (hex_of z)
 
   braces : (y c v : ℕ) (ys : List ℕ) (p q : Bool)
-      → esc_by l b a n (x ∷ y ∷ ys) (choose p (λ u. choose q (λ u. Means v (c + 4)) (λ u. Plain)) (λ u. Plain))
+      → esc_by l b a n (x ∷ y ∷ ys) (choose p (λ u. choose q (λ u. Some (v, c + 4)) (λ u. None)) (λ u. None))
       ≡ choose p (λ u. choose q (λ u. back_l l a (suc (suc n) + suc c) (drop (suc c) ys)) (λ u. bad_l a b)) (λ u. bad_l a b)
   braces y c v ys true true =
       let z : (c + 4) - 1 ≡ suc (suc (suc c)) = omega arith in
@@ -171,7 +164,7 @@ module _ (l : Lit) (b a n x : ℕ) where
       rw z (braces y d.count d.value ys (leb 2 d.count) (next_is 125 (drop d.count ys)))
 
   brace_open : (y : ℕ) (ys : List ℕ) (p : Bool)
-      → esc_by l b a n (x ∷ y ∷ ys) (choose p (λ u. braced_by ys (digits_of 6 0 0 ys)) (λ u. Plain)) ≡ choose p (λ u. un_l l b 0 a (suc (suc n)) ys) (λ u. bad_l a b)
+      → esc_by l b a n (x ∷ y ∷ ys) (choose p (λ u. braced_by ys (digits_of 6 0 0 ys)) (λ u. None)) ≡ choose p (λ u. un_l l b 0 a (suc (suc n)) ys) (λ u. bad_l a b)
   brace_open y ys true = brace_by y ys (digits_of 6 0 0 ys)
   brace_open y ys false = refl
 
@@ -180,19 +173,19 @@ module _ (l : Lit) (b a n x : ℕ) where
   brace_link [] = refl
   brace_link (y ∷ ys) = brace_open y ys (eqb y 123)
 
-  esc_other : (rest : List ℕ) → esc_by l b a n (x ∷ rest) (after_by Nothing x rest)
+  esc_other : (rest : List ℕ) → esc_by l b a n (x ∷ rest) (after_by None x rest)
       ≡ with_rest (choose (eqb x 120) (λ u. go (X0 l b) a (suc n)) (λ u. choose (eqb x 117) (λ u. go (U l b) a (suc n)) (λ u. bad_esc a b))) rest
   esc_other rest =
-      let P : Out → Type 0 = λ o. esc_by l b a n (x ∷ rest) (after_by Nothing x rest) ≡ with_rest o rest in
+      let P : Out → Type 0 = λ o. esc_by l b a n (x ∷ rest) (after_by None x rest) ≡ with_rest o rest in
       choose_by P (eqb x 120) _ _ (λ e. rw e (pair_link rest))
       (λ e. choose_by P (eqb x 117) _ _ (λ f. rw (e, f) (brace_link rest)) (λ f. rw (e, f)))
 
-  esc_by_lem : (rest : List ℕ) (v : Value) → esc_by l b a n (x ∷ rest) (after_by v x rest)
+  esc_by_lem : (rest : List ℕ) (v : Option ℕ) → esc_by l b a n (x ∷ rest) (after_by v x rest)
       ≡ with_rest (choose (is_number v) (λ u. go (back l) a (suc n)) (λ u. choose (eqb x 120) (λ u. go (X0 l b) a (suc n)) (λ u. choose (eqb x 117) (λ u. go (U l b) a (suc n)) (λ u. bad_esc a b)))) rest
-  esc_by_lem rest (Number c) =
+  esc_by_lem rest (Some c) =
       let z : n + 1 ≡ suc n = omega arith in
       rw z (back_is l a (suc n) rest)
-  esc_by_lem rest Nothing = esc_other rest
+  esc_by_lem rest None = esc_other rest
 
   pub esc_row_lem : (rest : List ℕ) → esc_by l b a n (x ∷ rest) (after_of (x ∷ rest)) ≡ with_rest (esc_row l b a n x) rest
   unfolding after_of
@@ -221,11 +214,11 @@ module _ (l : Lit) (b a n x : ℕ) where
 
 -- ---- digits in braces
 
-any_by : (v w k : ℕ) (f : ℕ → Digits) (p : Bool) (h : Value) → ((i j : ℕ) → (f i).count ≡ (f j).count)
+any_by : (v w k : ℕ) (f : ℕ → Digits) (p : Bool) (h : Option ℕ) → ((i j : ℕ) → (f i).count ≡ (f j).count)
     → (choose p (λ u. digits_by h v k f) (λ u. record { value = v; count = k })).count ≡ (choose p (λ u. digits_by h w k f) (λ u. record { value = w; count = k })).count
 any_by v w k f false h g = refl
-any_by v w k f true Nothing g = refl
-any_by v w k f true (Number d) g = g (v * 16 + d) (w * 16 + d)
+any_by v w k f true None g = refl
+any_by v w k f true (Some d) g = g (v * 16 + d) (w * 16 + d)
 
 -- how many digits there are does not depend on what they came to
 count_any : (m v w k : ℕ) (xs : List ℕ) → (digits_of m v k xs).count ≡ (digits_of m w k xs).count
@@ -233,10 +226,10 @@ unfolding digits_of
 count_any m v w k [] = refl
 count_any m v w k (x ∷ xs) = any_by v w k (λ i. digits_of m i (k + 1) xs) (ltb k m) (hex_of x) (λ i j. count_any m i j (k + 1) xs)
 
-low_by : (v k : ℕ) (f : ℕ → Digits) (p : Bool) (h : Value) → ((i : ℕ) → k + 1 ≤ (f i).count) → k ≤ (choose p (λ u. digits_by h v k f) (λ u. record { value = v; count = k })).count
+low_by : (v k : ℕ) (f : ℕ → Digits) (p : Bool) (h : Option ℕ) → ((i : ℕ) → k + 1 ≤ (f i).count) → k ≤ (choose p (λ u. digits_by h v k f) (λ u. record { value = v; count = k })).count
 low_by v k f false h g = omega arith
-low_by v k f true Nothing g = omega arith
-low_by v k f true (Number d) g = omega (arith, g (v * 16 + d))
+low_by v k f true None g = omega arith
+low_by v k f true (Some d) g = omega (arith, g (v * 16 + d))
 
 count_low : (m v k : ℕ) (xs : List ℕ) → k ≤ (digits_of m v k xs).count
 unfolding digits_of
@@ -250,12 +243,12 @@ module _ (l : Lit) (b j a n x : ℕ) (rest : List ℕ) where
       let y : n + suc (suc (c - suc j)) ≡ suc n + suc (c - suc j) = omega arith in
       rw (z, y)
 
-  count_go : (d : ℕ) → j < 6 → hex_of x ≡ Number d → (digits_of 6 0 j (x ∷ rest)).count ≡ (digits_of 6 0 (suc j) rest).count
+  count_go : (d : ℕ) → j < 6 → hex_of x ≡ Some d → (digits_of 6 0 j (x ∷ rest)).count ≡ (digits_of 6 0 (suc j) rest).count
   count_go d h e =
       let z : j + 1 ≡ suc j = omega arith in
       rw (digits_go 6 0 j x d rest h e, z) (count_any 6 (0 * 16 + d) 0 (suc j) rest)
 
-  un_go : (d : ℕ) → j < 6 → hex_of x ≡ Number d → un_l l b j a n (x ∷ rest) ≡ un_l l b (suc j) a (suc n) rest
+  un_go : (d : ℕ) → j < 6 → hex_of x ≡ Some d → un_l l b j a n (x ∷ rest) ≡ un_l l b (suc j) a (suc n) rest
   un_go d h e =
       ap (un_by l b j a n (x ∷ rest)) (count_go d h e) ∙ un_shift (digits_of 6 0 (suc j) rest).count (count_low 6 0 (suc j) rest)
 
@@ -270,18 +263,18 @@ module _ (l : Lit) (b j a n x : ℕ) (rest : List ℕ) where
       let y : n + suc 0 ≡ suc n = omega arith in
       rw (e, z, y) (un_ends (leb 2 j) (eqb x 125))
 
-  count_stop : (p : Bool) (h : Value) → and p (is_number h) ≡ false → (choose p (λ u. digits_by h 0 j (λ i. digits_of 6 i (j + 1) rest)) (λ u. record { value = 0; count = j })).count ≡ j
-  count_stop true Nothing e = refl
-  count_stop true (Number d) e = let z : ◌≡◌ {A = ℕ} 0 1 = cc in absurd (omega arith)
+  count_stop : (p : Bool) (h : Option ℕ) → and p (is_number h) ≡ false → (choose p (λ u. digits_by h 0 j (λ i. digits_of 6 i (j + 1) rest)) (λ u. record { value = 0; count = j })).count ≡ j
+  count_stop true None e = refl
+  count_stop true (Some d) e = let z : ◌≡◌ {A = ℕ} 0 1 = cc in absurd (omega arith)
   count_stop false h e = refl
 
   un_no : and (ltb j 6) (is_hex x) ≡ false → (digits_of 6 0 j (x ∷ rest)).count ≡ j
   unfolding digits_of
   un_no e = count_stop (ltb j 6) (hex_of x) e
 
-  un_yes : (p : Bool) (h : Value) → ltb j 6 ≡ p → hex_of x ≡ h → and p (is_number h) ≡ true → un_l l b j a n (x ∷ rest) ≡ un_l l b (suc j) a (suc n) rest
-  un_yes true (Number d) f g e = un_go d (ltb-true j 6 f) g
-  un_yes true Nothing f g e = let z : ◌≡◌ {A = ℕ} 0 1 = cc in absurd (omega arith)
+  un_yes : (p : Bool) (h : Option ℕ) → ltb j 6 ≡ p → hex_of x ≡ h → and p (is_number h) ≡ true → un_l l b j a n (x ∷ rest) ≡ un_l l b (suc j) a (suc n) rest
+  un_yes true (Some d) f g e = un_go d (ltb-true j 6 f) g
+  un_yes true None f g e = let z : ◌≡◌ {A = ℕ} 0 1 = cc in absurd (omega arith)
   un_yes false h f g e = let z : ◌≡◌ {A = ℕ} 0 1 = cc in absurd (omega arith)
 
   pub un_row_lem : un_l l b j a n (x ∷ rest) ≡ with_rest (un_row l b j a n x) rest
@@ -309,9 +302,9 @@ quoted_law a i y rest = by (next_is 39 (drop i rest))
         rw (z, w, add-zero a, drop-drop 1 i rest)
     by false = none a 0 (39 ∷ y ∷ rest)
 
-chr_by : (a : ℕ) (rest : List ℕ) (r : Escape) → after_of rest ≡ r → ended a 0 (39 ∷ 92 ∷ rest) (escaped_by (92 ∷ rest) r) ≡ esc_by One 1 a 2 rest r
-chr_by a rest Plain e = refl
-chr_by a rest (Means c m) e =
+chr_by : (a : ℕ) (rest : List ℕ) (r : Option (ℕ × ℕ)) → after_of rest ≡ r → ended a 0 (39 ∷ 92 ∷ rest) (escaped_by (92 ∷ rest) r) ≡ esc_by One 1 a 2 rest r
+chr_by a rest None e = refl
+chr_by a rest (Some (c, m)) e =
     let l : 2 ≤ m = esc_meant rest c m e in
     let z : m ≡ suc (m - 1) = omega arith in
     let y : suc (suc (m - 1)) ≡ 2 + (m - 1) = omega arith in
@@ -321,7 +314,7 @@ pub chr_esc : (a : ℕ) (rest : List ℕ) → from a (39 ∷ 92 ∷ rest) ≡ es
 unfolding blank_by class_of opener_blank token_by opener_token char_token escape_of
 chr_esc a rest = from_first a 39 (92 ∷ rest) (escaped_by (92 ∷ rest) (after_of rest)) refl refl ∙ chr_by a rest (after_of rest) refl
 
-pub ascii_char : (x : ℕ) (rest : List ℕ) → x < 128 → char_of (x ∷ rest) ≡ Is x 1
+pub ascii_char : (x : ℕ) (rest : List ℕ) → x < 128 → char_of (x ∷ rest) ≡ Some (x, 1)
 unfolding char_of lead_of gathered judged
 ascii_char x rest h = rw (lt-ltb x 128 h, le-leb 0 x (omega arith), scalar_low x (omega arith))
 

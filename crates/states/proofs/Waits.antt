@@ -1,4 +1,5 @@
 -- From every state but Refused there is a way on with no 3.
+use Rattle.std.specs.Prelude.{None}
 use Prim.Native.Nat.{ℕ, zero, suc, ◌+◌, ◌-◌, ◌≤◌}
 use mathlib.Core.Path.{◌≡◌, refl, ap, ◌∙◌}
 use mathlib.Core.Bool.{Bool, true, false}
@@ -9,7 +10,6 @@ use lib.Dec.{ltb}
 use borrow.Author.Tests.{le-leb, lt-leb, eq-eqb}
 use Rattle.text.specs.Classes.{class_of}
 use Rattle.text.specs.Digits.{hex_of}
-use Rattle.text.specs.declared.Scan.TheVariants.{Through}
 use Rattle.text.proofs.Tests.{within_is}
 use Rattle.literal.specs.Escapes.{simple_of}
 use Rattle.token.specs.Lists.{Tokens}
@@ -33,9 +33,9 @@ abbrev at : State → ℕ → ℕ → Conf
 at q a n = record { state = q; start = a; size = n }
 
 abbrev pub Done : State → ℕ → ℕ → Type 0
-Done q a n = (whole (at q a n) (completion q n)).fault ≡ Through
+Done q a n = (whole (at q a n) (completion q n)).fault ≡ None
 
-com_done : (d a n : ℕ) → (whole (at (Com d) a n) (closers d)).fault ≡ Through
+com_done : (d a n : ℕ) → (whole (at (Com d) a n) (closers d)).fault ≡ None
 unfolding feed
 com_done zero a n = refl
 com_done (suc zero) a n = refl

@@ -1,8 +1,7 @@
 -- What a fault waits for: some continuation of a text is free of it.
-use Rattle.std.specs.Prelude.{ℕ, ◌≤◌, ◌≡◌, true, List, ◌++◌, ltb, length}
+use Rattle.std.specs.Prelude.{ℕ, ◌≤◌, ◌≡◌, true, List, ◌++◌, ltb, length, None}
 use Rattle.text.specs.Booleans.{all}
 use Rattle.text.specs.Utf8.{first_bad}
-use Rattle.text.specs.declared.Scan.TheVariants.{Through}
 use Rattle.text.specs.Limits.{max_text}
 use Rattle.token.specs.Lists.{tokens_of}
 
@@ -14,7 +13,7 @@ abbrev pub Free-1 : List ℕ → Type 0
 Free-1 s = (ys : List ℕ) × Bytes ys × (length (s ++ ys) ≤ max_text)
 
 abbrev pub Free-2 : List ℕ → Type 0
-Free-2 s = (ys : List ℕ) × Bytes ys × (first_bad (s ++ ys) ≡ Through)
+Free-2 s = (ys : List ℕ) × Bytes ys × (first_bad (s ++ ys) ≡ None)
 
 abbrev pub Free-3 : List ℕ → Type 0
-Free-3 s = (ys : List ℕ) × Bytes ys × ((tokens_of (s ++ ys)).fault ≡ Through)
+Free-3 s = (ys : List ℕ) × Bytes ys × ((tokens_of (s ++ ys)).fault ≡ None)

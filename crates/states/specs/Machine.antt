@@ -1,12 +1,9 @@
 -- Tokens as they arrive: the table of states. Each byte moves the state.
-use Rattle.std.specs.Prelude.{ℕ, zero, suc, ◌+◌, ◌-◌, Bool, true, false, not, List, [], ◌∷◌, ◌++◌, leb, ltb, eqb, get_or, drop}
+use Rattle.std.specs.Prelude.{ℕ, zero, suc, ◌+◌, ◌-◌, Bool, true, false, not, List, [], ◌∷◌, ◌++◌, leb, ltb, eqb, get_or, drop, Option, Some, None}
 use Rattle.text.specs.Booleans.{choose, and, or, within}
 use Rattle.text.specs.Classes.{class_of}
 use Rattle.text.specs.Words.{starts_word, in_word}
 use Rattle.text.specs.Digits.{hex_of}
-use Rattle.text.specs.declared.Value.{Value}
-use Rattle.text.specs.declared.Value.TheVariants.{Number, Nothing}
-use Rattle.text.specs.declared.Scan.TheVariants.{Through, StopsAt}
 use Rattle.literal.specs.Escapes.{simple_of}
 use Rattle.token.specs.Blanks.{in_digits, is_zero}
 use Rattle.token.specs.Tokens.{push_literal, one_kind}
@@ -100,9 +97,9 @@ abbrev pub back : Lit → State
 back (Text k) = Str k
 back One = Quote
 
-abbrev pub is_number : Value → Bool
-is_number (Number d) = true
-is_number Nothing = false
+abbrev pub is_number : Option ℕ → Bool
+is_number (Some d) = true
+is_number None = false
 
 abbrev pub bad_esc : ℕ → ℕ → Out
 bad_esc a b = refuse (a + b)
@@ -252,13 +249,13 @@ step c x = row c.state c.start c.size x
 -- ---- the end of the text
 
 abbrev pub no_more : Tokens
-no_more = record { list = []; fault = Through }
+no_more = record { list = []; fault = None }
 
 abbrev pub fault_at : ℕ → Tokens
-fault_at p = record { list = []; fault = StopsAt p }
+fault_at p = record { list = []; fault = Some p }
 
 abbrev pub last : ℕ → ℕ → ℕ → Tokens
-last k a b = record { list = tok k a b ∷ []; fault = Through }
+last k a b = record { list = tok k a b ∷ []; fault = None }
 
 abbrev pub end_row : State → ℕ → ℕ → Tokens
 end_row Start a n = no_more

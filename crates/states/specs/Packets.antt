@@ -1,8 +1,7 @@
 -- Any number of calls, for the theorems: packets one after the other, and what the list has at an index.
-use Rattle.std.specs.Prelude.{ℕ, zero, suc, ◌≤◌, ◌<◌, ◌≡◌, true, List, [], ◌∷◌, ◌++◌, ◌⊎◌, length}
+use Rattle.std.specs.Prelude.{ℕ, zero, suc, ◌≤◌, ◌<◌, ◌≡◌, true, List, [], ◌∷◌, ◌++◌, ◌⊎◌, length, Some, None}
 use Rattle.text.specs.Booleans.{among}
 use Rattle.text.specs.Utf8.{first_bad}
-use Rattle.text.specs.declared.Scan.TheVariants.{Through, StopsAt}
 use Rattle.text.specs.Limits.{max_text}
 use Rattle.token.specs.Lists.{Tok, tok, tokens_of}
 use Rattle.states.specs.Free.{Bytes, Free-1, Free-2, Free-3}
@@ -88,8 +87,8 @@ pub record Full (room : ℕ) (s : List ℕ) (x p : ℕ) : Type 0 where
 pub record Byte (room : ℕ) (s : List ℕ) (x n p : ℕ) : Type 0 where
   pub refusal : among refusals n ≡ true
   pub shows_1 : n ≡ 1 → (p ≡ 0) × ((ys : List ℕ) → max_text < length (s ++ x ∷ ys))
-  pub shows_2 : n ≡ 2 → (ys : List ℕ) → first_bad (s ++ x ∷ ys) ≡ StopsAt p
-  pub shows_3 : n ≡ 3 → (ys : List ℕ) → (tokens_of (s ++ x ∷ ys)).fault ≡ StopsAt p
+  pub shows_2 : n ≡ 2 → (ys : List ℕ) → first_bad (s ++ x ∷ ys) ≡ Some p
+  pub shows_3 : n ≡ 3 → (ys : List ℕ) → (tokens_of (s ++ x ∷ ys)).fault ≡ Some p
   pub shows_14 : n ≡ 14 → Full room s x p
   pub waits : Waits n (s ++ x ∷ [])
 
@@ -118,8 +117,8 @@ pub record First (ps : List Packet) (n p : ℕ) : Type 0 where
 pub record Last (room : ℕ) (s : List ℕ) (n p : ℕ) : Type 0 where
   pub refusal : among refusals n ≡ true
   pub not_1 : n ≡ 1 → ⊥
-  pub shows_2 : n ≡ 2 → first_bad s ≡ StopsAt p
-  pub shows_3 : n ≡ 3 → (tokens_of s).fault ≡ StopsAt p
+  pub shows_2 : n ≡ 2 → first_bad s ≡ Some p
+  pub shows_3 : n ≡ 3 → (tokens_of s).fault ≡ Some p
   pub shows_14 : n ≡ 14 → (kind : ℕ) × (end : ℕ) × (index : ℕ) × At (tokens_of s).list index (tok kind p end) × (room ≤ index)
-  pub good_2 : 2 < n → first_bad s ≡ Through
-  pub good_3 : 3 < n → (tokens_of s).fault ≡ Through
+  pub good_2 : 2 < n → first_bad s ≡ None
+  pub good_3 : 3 < n → (tokens_of s).fault ≡ None

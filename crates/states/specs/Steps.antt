@@ -1,8 +1,6 @@
 -- Tokens as they arrive: what a byte, a packet and the end do, with the refusals 1, 2, 3 and 14 in this order.
-use Rattle.std.specs.Prelude.{ℕ, suc, ◌+◌, List, [], ◌∷◌, ◌++◌, ltb, eqb, length}
+use Rattle.std.specs.Prelude.{ℕ, suc, ◌+◌, List, [], ◌∷◌, ◌++◌, ltb, eqb, length, Option, Some, None}
 use Rattle.text.specs.Booleans.{choose}
-use Rattle.text.specs.declared.Scan.{Scan}
-use Rattle.text.specs.declared.Scan.TheVariants.{Through, StopsAt}
 use Rattle.text.specs.Limits.{max_text}
 use Rattle.token.specs.Lists.{Tok, start_of}
 use Rattle.states.specs.declared.Conf.{Conf}
@@ -21,22 +19,22 @@ pub data Step : Type 0 where
   Faults : ℕ → ℕ → Step
 
 -- a refusal, if its place was found
-abbrev pub unless : ℕ → Scan → (Unit {0} → Step) → Step
-unless number (StopsAt place) f = Faults number place
-unless number Through f = f tt
+abbrev pub unless : ℕ → Option ℕ → (Unit {0} → Step) → Step
+unless number (Some place) f = Faults number place
+unless number None f = f tt
 
 -- 1: over 65,536 bytes
-unfoldable pub long_at : ℕ → Scan
-long_at n = choose (ltb max_text n) (λ u. StopsAt 0) (λ u. Through)
+unfoldable pub long_at : ℕ → Option ℕ
+long_at n = choose (ltb max_text n) (λ u. Some 0) (λ u. None)
 
 -- 3: the tokens' machine refused
-unfoldable pub refused_at : Conf → Scan
-refused_at c = choose (eqb (code_of c.state) refused_code) (λ u. StopsAt c.start) (λ u. Through)
+unfoldable pub refused_at : Conf → Option ℕ
+refused_at c = choose (eqb (code_of c.state) refused_code) (λ u. Some c.start) (λ u. None)
 
 -- 14: of tokens given behind n records, the first for which there is no room
-unfoldable pub over_at : ℕ → ℕ → List Tok → Scan
-over_at room n [] = Through
-over_at room n (t ∷ ts) = choose (ltb n room) (λ u. over_at room (suc n) ts) (λ u. StopsAt (start_of t))
+unfoldable pub over_at : ℕ → ℕ → List Tok → Option ℕ
+over_at room n [] = None
+over_at room n (t ∷ ts) = choose (ltb n room) (λ u. over_at room (suc n) ts) (λ u. Some (start_of t))
 
 -- where a stream stands after a byte that UTF-8's machine took to u and the tokens' machine to o
 abbrev pub moved_to : Stand → Utf → Out → Stand

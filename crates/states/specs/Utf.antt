@@ -1,8 +1,6 @@
 -- UTF-8 as it arrives: the table of states for fault 2.
-use Rattle.std.specs.Prelude.{ℕ, suc, List, [], ◌∷◌, ltb, eqb}
+use Rattle.std.specs.Prelude.{ℕ, suc, List, [], ◌∷◌, ltb, eqb, Option, Some, None}
 use Rattle.text.specs.Booleans.{choose}
-use Rattle.text.specs.declared.Scan.{Scan}
-use Rattle.text.specs.declared.Scan.TheVariants.{Through, StopsAt}
 use Rattle.states.specs.declared.Tail.{Tail}
 use Rattle.states.specs.declared.Tail.TheVariants.{T1, T2, T3, TE0, TED, TF0, TF4}
 use Rattle.states.specs.declared.Utf.{Utf}
@@ -35,10 +33,10 @@ utf_step Whole a x = utf_lead a x
 utf_step (Mid t s) a x = choose (tail_ok t x) (λ u. utf_next t s) (λ u. Broke s)
 utf_step (Broke p) a x = Broke p
 
-abbrev pub utf_end : Utf → Scan
-utf_end Whole = Through
-utf_end (Mid t s) = StopsAt s
-utf_end (Broke p) = StopsAt p
+abbrev pub utf_end : Utf → Option ℕ
+utf_end Whole = None
+utf_end (Mid t s) = Some s
+utf_end (Broke p) = Some p
 
 -- from a place on
 unfoldable pub utf_feed : Utf → ℕ → List ℕ → Utf
@@ -51,7 +49,7 @@ utf_rest (Mid t s) = missing t
 utf_rest (Broke p) = []
 
 -- 2: a sequence is broken
-abbrev pub broken_at : Utf → Scan
-broken_at Whole = Through
-broken_at (Mid t s) = Through
-broken_at (Broke p) = StopsAt p
+abbrev pub broken_at : Utf → Option ℕ
+broken_at Whole = None
+broken_at (Mid t s) = None
+broken_at (Broke p) = Some p

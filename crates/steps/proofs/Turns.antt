@@ -1,27 +1,17 @@
 -- Rows in the words of the code.
+use Rattle.std.specs.Prelude.{Some}
 use Prim.Native.Nat.{ℕ, ◌+◌}
 use mathlib.Core.Path.{◌≡◌, refl, sym, ap, ◌∙◌}
 use mathlib.Core.Bool.{Bool, true, false}
-use native.Mathlib.Numerals.{add-one}
 use lib.Dec.{ltb, eqb}
 use Rattle.text.specs.Booleans.{choose}
 use Rattle.text.specs.Classes.{class_of}
 use Rattle.states.specs.declared.State.TheVariants.{Quote, More}
 use Rattle.states.specs.declared.Utf.{Utf}
 use Rattle.states.specs.declared.Utf.TheVariants.{Whole, Mid, Broke}
-use Rattle.steps.specs.declared.Given.TheVariants.{Yes}
-use Rattle.states.specs.Machine.{Out, go, refuse, again, lead_row, chr_row, start_row, class_row, com_row, star_row, bar_row, doc_row, doc_cr_row}
+use Rattle.states.specs.Machine.{Out, go, refuse, again, lead_row, chr_row, start_row, class_row}
 use Rattle.states.specs.Utf.{utf_lead}
 use Rattle.steps.specs.Shapes.{out_of, row_by}
-
-pub star_else : (d a n x : ℕ) → eqb x 47 ≡ false → com_row d a (n + 1) x ≡ star_row d a n x
-star_else d a n x e = rw (e, add-one n)
-
-pub bar_else : (d a n x : ℕ) → eqb x 42 ≡ false → com_row d a (n + 1) x ≡ bar_row d a n x
-bar_else d a n x e = rw (e, add-one n)
-
-pub doc_cr_else : (k a n x : ℕ) → eqb x 10 ≡ false → doc_row k a (n + 1) x ≡ doc_cr_row k a n x
-doc_cr_else k a n x e = rw (e, add-one n)
 
 -- Start gives one token at most
 abbrev OneAt : Out → Type 0
@@ -48,7 +38,7 @@ start_one x a =
     (one_two (eqb x 45) _ _ refl (one_two (eqb x 13) _ _ refl refl)))))))) refl))))
 
 -- a token, and then what Start gives
-pub again_one : (k a n x : ℕ) → out_of (record { before = Yes k a (a + n); here = (row_by (start_row x (a + n))).here; conf = (row_by (start_row x (a + n))).conf }) ≡ again k a (a + n) (start_row x)
+pub again_one : (k a n x : ℕ) → out_of (record { before = Some (k, a, a + n); here = (row_by (start_row x (a + n))).here; conf = (row_by (start_row x (a + n))).conf }) ≡ again k a (a + n) (start_row x)
 again_one k a n x = ap (λ (o : Out). again k a (a + n) (λ c. o)) (start_one x (a + n))
 
 -- the byte behind `'`, by UTF-8's machine

@@ -4,27 +4,19 @@
 pub mod inner;
 
 use states::Conf;
-use text::Scan;
-
-// A token that a byte ended, by its kind, start and end; or none.
-#[derive(Clone, Copy)]
-pub enum Given {
-    No,
-    Yes(u32, u32, u32),
-}
 
 // What a byte does: the token that ended before it, the one that ends with it, and where the machine
 // stands then.
 #[derive(Clone, Copy)]
 pub struct Row {
-    pub before: Given,
-    pub here: Given,
+    pub before: Option<(u32, u32, u32)>,
+    pub here: Option<(u32, u32, u32)>,
     pub conf: Conf,
 }
 
 // The token that stands when the text ends, or a fault's place.
 #[derive(Clone, Copy)]
 pub struct Finish {
-    pub token: Given,
-    pub fault: Scan,
+    pub token: Option<(u32, u32, u32)>,
+    pub fault: Option<usize>,
 }

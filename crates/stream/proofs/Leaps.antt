@@ -1,4 +1,5 @@
 -- From token to token through a packet: what is given on the way stands in the stash, and the rest is as if it was fed from there.
+use Rattle.std.specs.Prelude.{ℕ, Option, None}
 use Prim.Native.Nat.{ℕ, suc, ◌+◌, ◌-◌, ◌*◌, ◌/◌, ◌%◌, ◌≤◌, ◌<◌}
 use mathlib.Core.Path.{◌≡◌, refl, sym, ap, ◌∙◌}
 use mathlib.Core.Bool.{true}
@@ -8,14 +9,14 @@ use native.Mathlib.Nat.{add-zero, div-mul-le_self, div-add-mod'}
 use native.Mathlib.Numerals.{add-one}
 use native.Mathlib.Omega.{arith}
 use lib.Dec.{eqb}
-use lib.ListN.{length, drop, take, get_or, set, length-append, length-drop, take-append-drop}
-use lib.Seq.{sets, drop-append-le, length-sets, take-suc, length-take-le, drop-cons, drop-drop, get_or-drop, sets-eq, take_at, take_all}
+use lib.ListN.{length, drop, take, get_or, length-append, length-drop, take-append-drop}
+use borrow.Rule.Slice.PartMut.{put_mid}
+use Rattle.std.proofs.Common.{append_assoc}
+use lib.Seq.{sets, drop-append-le, length-sets, length-take-le, drop-cons, drop-drop, get_or-drop, sets-eq, take_at, take_all}
 use borrow.Author.Tests.{eqb-true, lt-ltb}
 use Rattle.text.specs.Utf8.{first_bad}
-use Rattle.text.specs.declared.Scan.TheVariants.{Through}
 use Rattle.text.specs.Scans.{later}
 use Rattle.token.specs.Tokens.{moved, token_of}
-use Rattle.text.proofs.Splices.{sets_append}
 use Rattle.text.proofs.Booleans.{and_true}
 use Rattle.text.specs.Limits.{max_text}
 use Rattle.token.specs.Lists.{Tok, tok, Tokens}
@@ -30,7 +31,6 @@ use Rattle.states.specs.declared.State.TheVariants.{Start, Word, Push, Num, Hash
 use Rattle.states.specs.declared.Utf.{Utf}
 use Rattle.states.specs.declared.Utf.TheVariants.{Whole, Mid, Broke}
 use Rattle.states.specs.declared.Stand.{Stand}
-use Rattle.steps.specs.declared.Given.{Given}
 use Rattle.states.specs.Utf.{utf_step, utf_end, utf_feed, broken_at}
 use Rattle.states.specs.Keep.{code_of, utf_code, tail_code, waiting}
 use Rattle.states.specs.Steps.{Step, Goes, Faults, over_at, step_of, given, followed, ran_of}
@@ -44,7 +44,6 @@ use Rattle.states.proofs.Utfs.{machine_at, utf_cuts}
 use Rattle.states.proofs.Cuts.{given_given, followed_given, ran_cut}
 use Rattle.stream.proofs.Loops.{loop_starts}
 use Rattle.stream.proofs.Writes.{has_room, put_more, at_move, step_room, step_sound}
-use Rattle.states.proofs.Runs.{took}
 use Rattle.stream.proofs.Sounds.{many_small}
 use Rattle.stream.proofs.Quick.{ascii_next, still, Leaps, Closes, leaps}
 
@@ -99,12 +98,12 @@ between_is c s e =
     let a : c.conf.start ≡ c.seen = omega (arith, s.sum) in
     (λ i. record { conf = record { state = q i; start = a i; size = n i }; utf = u i; seen = c.seen; count = c.count })
 
-good_whole : (a : ℕ) (u : Utf) → utf_end u ≡ Through → broken_at u ≡ Through
+good_whole : (a : ℕ) (u : Utf) → utf_end u ≡ None → broken_at u ≡ None
 good_whole a Whole e = refl
 good_whole a (Mid t s) e = refl
 good_whole a (Broke p) e = e
 
-pub clean_is : (a : ℕ) (xs : List ℕ) → first_bad xs ≡ Through → broken_at (utf_feed Whole a xs) ≡ Through
+pub clean_is : (a : ℕ) (xs : List ℕ) → first_bad xs ≡ None → broken_at (utf_feed Whole a xs) ≡ None
 clean_is a xs e = good_whole a (utf_feed Whole a xs) (sym (machine_at a xs) ∙ ap (later a) e)
 
 -- ---- one token
@@ -132,7 +131,7 @@ module _ (xs : List ℕ) (at k s e : ℕ) (h : Holds xs at k s e) where
       let z : at + (e - at) ≡ e = omega arith in
       drop-drop (e - at) at xs ∙ ap (λ (n : ℕ). drop n xs) z
 
-  pub clean_on : (p : ℕ) → broken_at (utf_feed Whole p (drop at xs)) ≡ Through → broken_at (utf_feed Whole (p + (e - at)) (drop e xs)) ≡ Through
+  pub clean_on : (p : ℕ) → broken_at (utf_feed Whole p (drop at xs)) ≡ None → broken_at (utf_feed Whole (p + (e - at)) (drop e xs)) ≡ None
   unfolding utf_feed
   clean_on p c =
       let i = inside in
@@ -145,8 +144,8 @@ module _ (xs : List ℕ) (at k s e : ℕ) (h : Holds xs at k s e) where
       let y : ℕ = get_or xs e 0 in
       let d : drop e xs ≡ y ∷ drop (suc e) xs = drop-cons xs e 0 (omega (arith, h.inside)) in
       let f : utf_feed Whole p ys ≡ utf_feed u (p + m) (drop e xs) = ap (utf_feed Whole p) (sym (take-append-drop m ys)) ∙ utf_cuts (take m ys) (drop m ys) Whole p ∙ ap (λ (n : ℕ). utf_feed u n (drop m ys)) w ∙ ap (utf_feed u (p + m)) shorter in
-      let g : broken_at (utf_feed u (p + m) (drop e xs)) ≡ Through = ap broken_at (sym f) ∙ c in
-      let j : broken_at (utf_feed u (p + m) (y ∷ drop (suc e) xs)) ≡ Through = ap (λ (l : List ℕ). broken_at (utf_feed u (p + m) l)) (sym d) ∙ g in
+      let g : broken_at (utf_feed u (p + m) (drop e xs)) ≡ None = ap broken_at (sym f) ∙ c in
+      let j : broken_at (utf_feed u (p + m) (y ∷ drop (suc e) xs)) ≡ None = ap (λ (l : List ℕ). broken_at (utf_feed u (p + m) l)) (sym d) ∙ g in
       let b : u ≡ Whole = (ascii_next u (p + m) y h.ascii (still (drop (suc e) xs) (utf_step u (p + m) y) (suc (p + m)) j)).0 in
       ap (λ (v : Utf). broken_at (utf_feed v (p + m) (drop e xs))) (sym b) ∙ g
 
@@ -162,7 +161,7 @@ module _ (xs : List ℕ) (at k s e : ℕ) (h : Holds xs at k s e) where
       l.2 f ∙ ap (λ (ys : List ℕ). given (tok k (p + (s - at)) (p + (e - at)) ∷ []) (ran_of room (start_at (p + (e - at)) (suc n)) ys)) (ap (λ (j : ℕ). drop j (drop at xs)) m ∙ shorter)
   leap_by room p n (inr l) = never l.0
 
-  pub leap_one : (room p n : ℕ) → Coherent (start_at p n) → p + (length xs - at) ≤ max_text → n < room → broken_at (utf_feed Whole p (drop at xs)) ≡ Through
+  pub leap_one : (room p n : ℕ) → Coherent (start_at p n) → p + (length xs - at) ≤ max_text → n < room → broken_at (utf_feed Whole p (drop at xs)) ≡ None
       → ran_of room (start_at p n) (drop at xs) ≡ given (tok k (p + (s - at)) (p + (e - at)) ∷ []) (ran_of room (start_at (p + (e - at)) (suc n)) (drop e xs))
   leap_one room p n sound short space clean =
       let i = inside in
@@ -210,7 +209,7 @@ leapt_more room c i n xs l m d j h us f a o e p q r t w s =
 
 -- ---- all of it
 
-pub over_fits : (room : ℕ) (us : List Tok) (n : ℕ) → over_at room n us ≡ Through → 0 < length us → n + length us ≤ room
+pub over_fits : (room : ℕ) (us : List Tok) (n : ℕ) → over_at room n us ≡ None → 0 < length us → n + length us ≤ room
 unfolding over_at
 over_fits room [] n e h = absurd (omega arith)
 over_fits room (tok k a b ∷ []) n e h = let z : n < room = (has_room room n a _ e).0 in omega arith
@@ -228,31 +227,25 @@ stash_front ts z n h e =
 
 -- ---- copying the stash
 
-pub copy_turn : (l s m : List ℕ) (a i : ℕ) → i < length s → m ≡ sets l a (take i s) → set m (a + i) (get_or s i 0) ≡ sets l a (take (i + 1) s)
-copy_turn l s m a i h e =
-    let t : take (i + 1) s ≡ take i s ++ get_or s i 0 ∷ [] = ap (λ (n : ℕ). take n s) (add-one i) ∙ take-suc s i 0 h in
-    let z : a + length (take i s) ≡ a + i = ap (λ (n : ℕ). a + n) (length-take-le i s (omega arith)) in
-    ap (λ (n : List ℕ). set n (a + i) (get_or s i 0)) e
-    ∙ ap (λ (n : ℕ). set (sets l a (take i s)) n (get_or s i 0)) (sym z)
-    ∙ sym (sets_append l a (take i s) (get_or s i 0 ∷ []))
-    ∙ ap (sets l a) (sym t)
+pub copied : (l s ys : List ℕ) (a n : ℕ) → n ≤ length s → a + n ≤ length l → ys ≡ take n s → put_mid a (a + n - a) l ys ≡ sets l a (take n s)
+copied l s ys a n h g e =
+    let k : a + n - a ≡ n = omega arith in
+    let m : length (take n s) ≡ n = length-take-le n s h in
+    rw (k, e, sets-eq (take n s) l a (omega arith), m, drop-drop n a l) (sym (append_assoc (take a l) (take n s) (drop (a + n) l)))
 
 -- ---- in the words of the code
 
-pub over_yes : (room : ℕ) (us : List Tok) (n : ℕ) → n + length us ≤ room → over_at room n us ≡ Through
+pub over_yes : (room : ℕ) (us : List Tok) (n : ℕ) → n + length us ≤ room → over_at room n us ≡ None
 unfolding over_at
 over_yes room [] n h = refl
 over_yes room (t ∷ us) n h = rw (lt-ltb n room (omega arith)) (over_yes room us (suc n) (omega arith))
 
-pub two_small : (g h : Given) → length (list_of g ++ list_of h) ≤ 2
+pub two_small : (g h : Option (ℕ × ℕ × ℕ)) → length (list_of g ++ list_of h) ≤ 2
 two_small g h =
     let z : length (list_of g ++ list_of h) ≡ length (list_of g) + length (list_of h) = length-append (list_of g) (list_of h) in
     omega (arith, many_small g, many_small h)
 
-pub step_seen : (room : ℕ) (c : Stand) (x : ℕ) (ts : List Tok) (d : Stand) → Goes ts d ≡ step_of room c x → d.seen ≡ suc c.seen
-step_seen room c x ts d e = ap (λ (f : Stand). f.seen) (took room c x ts d (sym e)).moved
-
-pub settle_turn : (room : ℕ) (c : Stand) (xs l m o : List ℕ) (d : Stand) (i n : ℕ) (a b : Given) (f : Stand) → Leapt room c 0 0 xs l m d i → n + c.count ≡ d.count → i < length xs → n + 2 ≤ room_of l
+pub settle_turn : (room : ℕ) (c : Stand) (xs l m o : List ℕ) (d : Stand) (i n : ℕ) (a b : Option (ℕ × ℕ × ℕ)) (f : Stand) → Leapt room c 0 0 xs l m d i → n + c.count ≡ d.count → i < length xs → n + 2 ≤ room_of l
     → Goes (list_of a ++ list_of b) f ≡ step_of room d (get_or xs i 0) → o ≡ sets m (n * 3) (flat (list_of a ++ list_of b)) → Leapt room c 0 0 xs l o f (i + 1)
 settle_turn room c xs l m o d i n a b f h e g r v w =
     let us : List Tok = list_of a ++ list_of b in
@@ -270,7 +263,7 @@ pub sound_between : (c : Stand) → Coherent c → Coherent (start_at c.seen c.c
 sound_between c s = sound_start c.seen c.count s.short (omega (arith, s.count, s.sum))
 
 pub leap_turn : (room : ℕ) (c : Stand) (i b : ℕ) (xs l m o : List ℕ) (p n at k s e j : ℕ) → Leapt room c i b xs l m (start_at p n) at → j + c.count ≡ n + b → Holds xs at k s e → p + (length xs - at) ≤ max_text → n < room
-    → broken_at (utf_feed Whole p (drop at xs)) ≡ Through → j < room_of l → o ≡ sets m (j * 3) (flat (tok k (p + (s - at)) (p + (e - at)) ∷ [])) → Leapt room c i b xs l o (start_at (p + (e - at)) (n + 1)) e
+    → broken_at (utf_feed Whole p (drop at xs)) ≡ None → j < room_of l → o ≡ sets m (j * 3) (flat (tok k (p + (s - at)) (p + (e - at)) ∷ [])) → Leapt room c i b xs l o (start_at (p + (e - at)) (n + 1)) e
 leap_turn room c i b xs l m o p n at k s e j h z t short space clean y w =
     let us : List Tok = tok k (p + (s - at)) (p + (e - at)) ∷ [] in
     let g = inside xs at k s e t in

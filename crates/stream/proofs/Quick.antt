@@ -1,4 +1,5 @@
 -- A token whose end the packet holds is given where the whole-text lexer finds it: the machine, from Start, gives nothing before it, and stands behind it as at Start.
+use Rattle.std.specs.Prelude.{ℕ, Option, Some, None}
 use Prim.Native.Nat.{ℕ, suc, ◌+◌, ◌-◌, ◌≤◌, ◌<◌}
 use mathlib.Core.Path.{◌≡◌, refl, sym, ap, ◌∙◌}
 use mathlib.Core.Bool.{Bool, true, false, not}
@@ -13,8 +14,6 @@ use borrow.Author.Tests.{ltb-true, eqb-true, lt-ltb, le-ltb}
 use Rattle.text.specs.Booleans.{choose, and, or, among}
 use Rattle.text.specs.Classes.{class_of, blanks, letter, digit, ones, openers}
 use Rattle.text.specs.Words.{starts_word, in_word}
-use Rattle.text.specs.declared.Scan.{Scan}
-use Rattle.text.specs.declared.Scan.TheVariants.{Through, StopsAt}
 use Rattle.text.proofs.Tests.{within_low}
 use Rattle.text.proofs.Booleans.{and_true, choose_by}
 use Rattle.text.specs.Limits.{max_text}
@@ -268,7 +267,7 @@ end_at Refused a n k b e ts h = empty h
 
 -- ---- UTF-8: an ASCII byte comes between characters, or breaks one
 
-bad : {A : Type 0} {p : ℕ} → StopsAt p ≡ Through → A
+bad : {A : Type 0} {p : ℕ} → Some p ≡ None → A
 bad e = let z : ◌≡◌ {A = ℕ} 0 1 = cc in absurd (omega arith)
 
 tail_high : (t : Tail) (x : ℕ) → x < 128 → tail_ok t x ≡ false
@@ -280,43 +279,43 @@ tail_high TED x h = within_low 0x80 0x9f x h
 tail_high TF0 x h = within_low 0x90 0xbf x (omega arith)
 tail_high TF4 x h = within_low 0x80 0x8f x h
 
-pub ascii_next : (u : Utf) (a x : ℕ) → x < 128 → broken_at (utf_step u a x) ≡ Through → (u ≡ Whole) × (utf_step u a x ≡ Whole)
+pub ascii_next : (u : Utf) (a x : ℕ) → x < 128 → broken_at (utf_step u a x) ≡ None → (u ≡ Whole) × (utf_step u a x ≡ Whole)
 unfolding utf_lead
 ascii_next Whole a x h g = (refl, rw (lt-ltb x 128 h))
-ascii_next (Mid t s) a x h g = let z : StopsAt s ≡ Through = rw (tail_high t x h) at g in bad z
+ascii_next (Mid t s) a x h g = let z : Some s ≡ None = rw (tail_high t x h) at g in bad z
 ascii_next (Broke p) a x h g = bad g
 
 -- what isn't broken later isn't now
-pub still : (xs : List ℕ) (u : Utf) (a : ℕ) → broken_at (utf_feed u a xs) ≡ Through → broken_at u ≡ Through
+pub still : (xs : List ℕ) (u : Utf) (a : ℕ) → broken_at (utf_feed u a xs) ≡ None → broken_at u ≡ None
 still xs Whole a g = refl
 still xs (Mid t s) a g = refl
-still xs (Broke p) a g = let z : StopsAt p ≡ Through = rw (stays p a xs) at g in bad z
+still xs (Broke p) a g = let z : Some p ≡ None = rw (stays p a xs) at g in bad z
 
 -- ---- a byte before the end, at it, and behind it
 
-not_refused : (c : Conf) (xs : List ℕ) (t : Tok) (ts : List Tok) → (left c xs).list ≡ t ∷ ts → refused_at c ≡ Through
+not_refused : (c : Conf) (xs : List ℕ) (t : Tok) (ts : List Tok) → (left c xs).list ≡ t ∷ ts → refused_at c ≡ None
 unfolding refused_at
 not_refused c xs t ts h =
-    choose_by (λ (k : Scan). k ≡ Through) (eqb (code_of c.state) refused_code) _ _
+    choose_by (λ (k : Option ℕ). k ≡ None) (eqb (code_of c.state) refused_code) _ _
     (λ e. let z : [] ≡ t ∷ ts = rw (code_refused c.state e) at h in empty z)
     (λ e. refl)
 
-same_unless : (ts : List Tok) (n : ℕ) (k : Scan) (f g : Unit {0} → Step) → f tt ≡ given ts (g tt) → unless n k f ≡ given ts (unless n k g)
-same_unless ts n Through f g e = e
-same_unless ts n (StopsAt p) f g e = refl
+same_unless : (ts : List Tok) (n : ℕ) (k : Option ℕ) (f g : Unit {0} → Step) → f tt ≡ given ts (g tt) → unless n k f ≡ given ts (unless n k g)
+same_unless ts n None f g e = e
+same_unless ts n (Some p) f g e = refl
 
 module _ (room : ℕ) where
-  goes_on : (c : Stand) (x : ℕ) (u : Utf) (o : Out) → utf_step c.utf c.seen x ≡ u → step c.conf x ≡ o → suc c.seen ≤ max_text → broken_at u ≡ Through → refused_at o.next ≡ Through
-      → over_at room c.count o.gives ≡ Through → step_of room c x ≡ Goes o.gives (moved_to c u o)
+  goes_on : (c : Stand) (x : ℕ) (u : Utf) (o : Out) → utf_step c.utf c.seen x ≡ u → step c.conf x ≡ o → suc c.seen ≤ max_text → broken_at u ≡ None → refused_at o.next ≡ None
+      → over_at room c.count o.gives ≡ None → step_of room c x ≡ Goes o.gives (moved_to c u o)
   unfolding step_of long_at
   goes_on c x u o e f h b r v = rw (e, f, le-ltb max_text (suc c.seen) h, b, r, v)
 
   -- a byte that ends a token
-  give_step : (c : Stand) (x k a b : ℕ) → step c.conf x ≡ give_doc k a b (suc c.seen) → x < 128 → suc c.seen ≤ max_text → broken_at (utf_step c.utf c.seen x) ≡ Through → c.count < room
+  give_step : (c : Stand) (x k a b : ℕ) → step c.conf x ≡ give_doc k a b (suc c.seen) → x < 128 → suc c.seen ≤ max_text → broken_at (utf_step c.utf c.seen x) ≡ None → c.count < room
       → step_of room c x ≡ Goes (tok k a b ∷ []) (start_at (suc c.seen) (suc c.count))
   unfolding refused_at over_at
   give_step c x k a b e h s g l =
-      let v : over_at room c.count (tok k a b ∷ []) ≡ Through = rw (lt-ltb c.count room l) in
+      let v : over_at room c.count (tok k a b ∷ []) ≡ None = rw (lt-ltb c.count room l) in
       goes_on c x Whole (give_doc k a b (suc c.seen)) (ascii_next c.utf c.seen x h g).1 e s refl refl v ∙ ap (λ (n : ℕ). Goes (tok k a b ∷ []) (start_at (suc c.seen) n)) (add-one c.count)
 
   again_by : (c : Stand) (u : Utf) (o : Out) (k a : ℕ) → c.count < room
@@ -367,7 +366,7 @@ module _ (room : ℕ) where
     abbrev pub Closes : Stand → List ℕ → Type 0
     Closes c xs = (is_cr c.conf.state ≡ true) × (c.seen ≡ suc e) × (ys : List ℕ) × (xs ≡ 10 ∷ ys) × (ran_of room c xs ≡ given one (ran_of room (start_at (suc c.seen) (suc c.count)) ys))
 
-    module _ (c : Stand) (x : ℕ) (xs : List ℕ) (ts : List Tok) (sound : Coherent c) (long : suc (c.seen + length xs) ≤ max_text) (space : c.count < room) (clean : broken_at (utf_step c.utf c.seen x) ≡ Through)
+    module _ (c : Stand) (x : ℕ) (xs : List ℕ) (ts : List Tok) (sound : Coherent c) (long : suc (c.seen + length xs) ≤ max_text) (space : c.count < room) (clean : broken_at (utf_step c.utf c.seen x) ≡ None)
         (list : (step c.conf x).gives ++ (left (step c.conf x).next xs).list ≡ tok k b e ∷ ts) where
       abbrev o : Out
       o = step c.conf x
@@ -385,7 +384,7 @@ module _ (room : ℕ) where
         quiet_step : step_of room c x ≡ Goes [] d
         unfolding over_at
         quiet_step =
-            let v : over_at room c.count o.gives ≡ Through = rw g in
+            let v : over_at room c.count o.gives ≡ None = rw g in
             let z : c.count + length o.gives ≡ c.count = rw (g, add-zero c.count) in
             goes_on c x (utf_step c.utf c.seen x) o refl refl short clean (not_refused o.next xs (tok k b e) ts rest) v
             ∙ ap (λ (us : List Tok). Goes us (moved_to c (utf_step c.utf c.seen x) o)) g
@@ -475,7 +474,7 @@ module _ (room : ℕ) where
       leaps_by more (inr (inr (inl p))) = again_leaps p
       leaps_by more (inr (inr (inr p))) = doc_leaps p
 
-    pub leaps : (xs : List ℕ) (c : Stand) (ts : List Tok) → Coherent c → c.seen + length xs ≤ max_text → c.count < room → broken_at (utf_feed c.utf c.seen xs) ≡ Through → suc e < c.seen + length xs
+    pub leaps : (xs : List ℕ) (c : Stand) (ts : List Tok) → Coherent c → c.seen + length xs ≤ max_text → c.count < room → broken_at (utf_feed c.utf c.seen xs) ≡ None → suc e < c.seen + length xs
         → (left c.conf xs).list ≡ tok k b e ∷ ts → Leaps c xs ⊎ Closes c xs
     unfolding utf_feed
     leaps [] c ts s l r n h g =
@@ -483,7 +482,7 @@ module _ (room : ℕ) where
         absurd (omega (arith, s.sum))
     leaps (x ∷ xs) c ts s l r n h g =
         let list : (step c.conf x).gives ++ (left (step c.conf x).next xs).list ≡ tok k b e ∷ ts = ap (λ (t : Tokens). t.list) (sym (row_law c.conf.state c.conf.start c.conf.size x xs)) ∙ g in
-        let clean : broken_at (utf_step c.utf c.seen x) ≡ Through = still xs (utf_step c.utf c.seen x) (suc c.seen) n in
+        let clean : broken_at (utf_step c.utf c.seen x) ≡ None = still xs (utf_step c.utf c.seen x) (suc c.seen) n in
         let long : suc (c.seen + length xs) ≤ max_text = omega arith in
         leaps_by c x xs ts s long r clean list
         (λ f. leaps xs (quietly c x) ts (quiet_sound c x xs ts s long r clean list f) (omega arith) r n (omega arith) (rest c x xs ts s long r clean list f))

@@ -1,4 +1,5 @@
 -- The two passes over a packet, the end, and calls, in the words of the code.
+use Rattle.std.specs.Prelude.{ℕ, Option, Some, None, Ok, Err}
 use Prim.Native.Nat.{ℕ, ◌+◌, ◌*◌, ◌≤◌, ◌<◌}
 use mathlib.Core.Path.{◌≡◌, refl, sym, ap, ◌∙◌}
 use mathlib.Core.Bool.{Bool, true, false}
@@ -11,8 +12,6 @@ use lib.ListN.{length, drop, get_or}
 use lib.Seq.{sets}
 use borrow.Author.Tests.{ltb-true, lt-ltb}
 use Rattle.text.specs.Booleans.{choose, among}
-use Rattle.text.specs.declared.Scan.{Scan}
-use Rattle.text.specs.declared.Scan.TheVariants.{Through, StopsAt}
 use Rattle.text.proofs.Splices.{sets_append}
 use Rattle.text.proofs.Booleans.{choose_by}
 use Rattle.token.specs.Lists.{Tok}
@@ -22,9 +21,7 @@ use Rattle.states.specs.declared.Stand.{Stand}
 use Rattle.states.specs.declared.Status.{Status}
 use Rattle.states.specs.declared.Status.TheVariants.{Open, Held}
 use Rattle.states.specs.declared.Feed.{Feed}
-use Rattle.steps.specs.declared.Given.{Given}
-use Rattle.steps.specs.declared.Given.TheVariants.{No, Yes}
-use Rattle.stream.specs.declared.Ran.TheVariants.{Stands, Refuses}
+use Rattle.stream.specs.declared.Stop.{Stop}
 use Rattle.states.specs.Machine.{finish}
 use Rattle.states.specs.Utf.{utf_end}
 use Rattle.states.specs.Feed.{fits, stand_of, refusals, opened, reported, written, feed_of, feed_in, end_of, end_in}
@@ -39,29 +36,29 @@ use Rattle.stream.proofs.Sounds.{to_fitting, to_sound}
 
 -- ---- room
 
-module _ (room n a : ℕ) (f : Unit {0} → Scan) where
-  room_by : (b : Bool) → ltb n room ≡ b → choose b f (λ u. StopsAt a) ≡ Through → (n < room) × (f tt ≡ Through)
+module _ (room n a : ℕ) (f : Unit {0} → Option ℕ) where
+  room_by : (b : Bool) → ltb n room ≡ b → choose b f (λ u. Some a) ≡ None → (n < room) × (f tt ≡ None)
   room_by true e g = (ltb-true n room e, g)
   room_by false e g = let z : ◌≡◌ {A = ℕ} 0 1 = cc in absurd (omega arith)
 
-  pub has_room : choose (ltb n room) f (λ u. StopsAt a) ≡ Through → (n < room) × (f tt ≡ Through)
+  pub has_room : choose (ltb n room) f (λ u. Some a) ≡ None → (n < room) × (f tt ≡ None)
   has_room e = room_by (ltb n room) refl e
 
 -- a record behind n others lies in the list
-pub over_room : (l : List ℕ) (n k a b : ℕ) → over_at (room_of l) n (list_of (Yes k a b)) ≡ Through → n * 3 + 3 ≤ length l
+pub over_room : (l : List ℕ) (n k a b : ℕ) → over_at (room_of l) n (list_of (Some (k, a, b))) ≡ None → n * 3 + 3 ≤ length l
 unfolding over_at
 over_room l n k a b e = row_fits l n (has_room (room_of l) n a _ e).0
 
 module _ (room n : ℕ) where
-  pub over_first : (g h : Given) → over_at room n (list_of g ++ list_of h) ≡ Through → over_at room n (list_of g) ≡ Through
+  pub over_first : (g h : Option (ℕ × ℕ × ℕ)) → over_at room n (list_of g ++ list_of h) ≡ None → over_at room n (list_of g) ≡ None
   unfolding over_at
-  over_first No h e = refl
-  over_first (Yes k a b) h e = rw (lt-ltb n room (has_room room n a _ e).0)
+  over_first None h e = refl
+  over_first (Some (k, a, b)) h e = rw (lt-ltb n room (has_room room n a _ e).0)
 
-  pub over_second : (g h : Given) → over_at room n (list_of g ++ list_of h) ≡ Through → over_at room (n + length (list_of g)) (list_of h) ≡ Through
+  pub over_second : (g h : Option (ℕ × ℕ × ℕ)) → over_at room n (list_of g ++ list_of h) ≡ None → over_at room (n + length (list_of g)) (list_of h) ≡ None
   unfolding over_at
-  over_second No h e = rw (add-zero n) e
-  over_second (Yes k a b) h e = rw (add-one n) (has_room room n a _ e).1
+  over_second None h e = rw (add-zero n) e
+  over_second (Some (k, a, b)) h e = rw (add-one n) (has_room room n a _ e).1
 
 -- ---- records
 
@@ -92,8 +89,8 @@ module _ (room : ℕ) (c : Stand) (s : List ℕ) (i : ℕ) (h : i < length s) wh
   pub at_move : (ts : List Tok) (d : Stand) → Goes ts d ≡ step_of room c (get_or s i 0) → ran_of room c (drop i s) ≡ given ts (ran_of room d (drop (i + 1) s))
   at_move ts d e = loop_goes room s (ran_of room c (drop i s)) [] c i (loop_starts (ran_of room c (drop i s))) ts d h (sym e)
 
-  pub run_stops : (n p : ℕ) → Faults n p ≡ step_of room c (get_or s i 0) → Refuses n p ≡ ran_by (ran_of room c (drop i s))
-  run_stops n p e = sym (ap ran_by (at_stop n p e))
+  pub run_stops : (stop : Stop) → Faults stop.number stop.place ≡ step_of room c (get_or s i 0) → Err stop ≡ ran_by (ran_of room c (drop i s))
+  run_stops stop e = sym (ap ran_by (at_stop stop.number stop.place e))
 
   pub run_moves : (ts : List Tok) (d : Stand) → Goes ts d ≡ step_of room c (get_or s i 0) → ran_by (ran_of room d (drop (i + 1) s)) ≡ ran_by (ran_of room c (drop i s))
   run_moves ts d e = sym (ran_given ts (ran_of room d (drop (i + 1) s))) ∙ sym (ap ran_by (at_move ts d e))
@@ -127,7 +124,7 @@ ran_end room c s i h = loop_ends room s (ran_of room c (drop i s)) [] c i (loop_
 
 module _ (room : ℕ) where
   -- a step that is good: there was room, and the records are counted
-  pub step_room : (c : Stand) (x : ℕ) (ts : List Tok) (d : Stand) → Goes ts d ≡ step_of room c x → (over_at room c.count ts ≡ Through) × (d.count ≡ c.count + length ts)
+  pub step_room : (c : Stand) (x : ℕ) (ts : List Tok) (d : Stand) → Goes ts d ≡ step_of room c x → (over_at room c.count ts ≡ None) × (d.count ≡ c.count + length ts)
   step_room c x ts d e =
       let k = took room c x ts d (sym e) in
       (rw k.gives k.room, rw (k.moved, k.gives))
@@ -135,7 +132,7 @@ module _ (room : ℕ) where
   pub step_sound : (c : Stand) (x : ℕ) (ts : List Tok) (d : Stand) → Coherent c → Goes ts d ≡ step_of room c x → Coherent d
   step_sound c x ts d h e = to_sound d (fitting_step room c x ts d (to_fitting c h) (sym e))
 
-  pub last_room : (c : Stand) (ts : List Tok) (d : Stand) → Goes ts d ≡ last_of room c → over_at room c.count ts ≡ Through
+  pub last_room : (c : Stand) (ts : List Tok) (d : Stand) → Goes ts d ≡ last_of room c → over_at room c.count ts ≡ None
   unfolding last_of
   last_room c ts d e =
       let o = finish c.conf in
@@ -213,15 +210,17 @@ module _ (f : Feed) (xs o : List ℕ) where
     end_good_in ts d g = rw (e, ← g)
 
 -- what the first pass found
-pub ran_refuses : (s : Step) (n p : ℕ) → Refuses n p ≡ ran_by s → s ≡ Faults n p
-ran_refuses (Goes ts d) n p e = let z : ◌≡◌ {A = ℕ} 0 1 = cc in absurd (omega arith)
-ran_refuses (Faults m q) n p e = cc
+pub ran_refuses : (s : Step) (stop : Stop) → Err stop ≡ ran_by s → s ≡ Faults stop.number stop.place
+ran_refuses (Goes ts d) stop e = let z : ◌≡◌ {A = ℕ} 0 1 = cc in absurd (omega arith)
+ran_refuses (Faults n p) stop e =
+    let f : stop ≡ record { number = n; place = p } = cc in
+    ap (λ (z : Stop). Faults z.number z.place) (sym f)
 
 pub record Stood (s : Step) (d : Stand) : Type 0 where
   pub tokens : List Tok
   pub stands : s ≡ Goes tokens d
   pub good : is_good s ≡ true
 
-pub ran_stands : (s : Step) (d : Stand) → Stands d ≡ ran_by s → Stood s d
+pub ran_stands : (s : Step) (d : Stand) → Ok d ≡ ran_by s → Stood s d
 ran_stands (Goes ts c) d e = record { tokens = ts; stands = cc; good = refl }
 ran_stands (Faults n p) d e = let z : ◌≡◌ {A = ℕ} 0 1 = cc in absurd (omega arith)

@@ -1,8 +1,7 @@
 -- Long packets: tokens that are found as in a whole text.
-use Rattle.std.specs.Prelude.{ℕ, suc, ◌+◌, ◌*◌, ◌≤◌, ◌<◌, ◌≡◌, Bool, List, eqb, length, drop, get_or}
+use Rattle.std.specs.Prelude.{ℕ, suc, ◌+◌, ◌*◌, ◌≤◌, ◌<◌, ◌≡◌, Bool, List, eqb, length, drop, get_or, Option, Some, None}
 use Rattle.std.proofs.lemmas.List.Edits.{sets}
 use Rattle.text.specs.Booleans.{and}
-use Rattle.text.specs.declared.Scan.TheVariants.{Through}
 use Rattle.text.specs.Limits.{max_text}
 use Rattle.token.specs.Tokens.{token_at}
 use Rattle.token.specs.Lists.{Tok}
@@ -11,8 +10,6 @@ use Rattle.token.specs.Table.{flat, room_of}
 use Rattle.states.specs.declared.Stand.{Stand}
 use Rattle.states.specs.declared.State.TheVariants.{Start}
 use Rattle.states.specs.declared.Utf.TheVariants.{Whole}
-use Rattle.stream.specs.declared.Ahead.{Ahead}
-use Rattle.stream.specs.declared.Ahead.TheVariants.{Nothing, Token}
 use Rattle.states.specs.Keep.{code_of, utf_code}
 use Rattle.states.specs.Utf.{broken_at, utf_feed}
 use Rattle.states.specs.Steps.{given, ran_of}
@@ -29,7 +26,7 @@ is_between c = and (eqb (code_of c.conf.state) 0) (eqb (utf_code c.utf) 0)
 pub record Free (c : Stand) (xs : List ℕ) : Type 0 where
   pub between : c ≡ start_at c.seen c.count
   pub short : c.seen + length xs ≤ max_text
-  pub clean : broken_at (utf_feed Whole c.seen xs) ≡ Through
+  pub clean : broken_at (utf_feed Whole c.seen xs) ≡ None
 
 -- a token of a packet with its end: the byte behind it is there, in ASCII, and one more
 pub record Holds (xs : List ℕ) (at k s e : ℕ) : Type 0 where
@@ -37,9 +34,9 @@ pub record Holds (xs : List ℕ) (at k s e : ℕ) : Type 0 where
   pub inside : suc e < length xs
   pub ascii : get_or xs e 0 < 128
 
-abbrev pub HoldsIf : List ℕ → ℕ → Ahead → Type 0
-HoldsIf xs at Nothing = Unit {0}
-HoldsIf xs at (Token k s e) = Holds xs at k s e
+abbrev pub HoldsIf : List ℕ → ℕ → Option (ℕ × ℕ × ℕ) → Type 0
+HoldsIf xs at None = Unit {0}
+HoldsIf xs at (Some (k, s, e)) = Holds xs at k s e
 
 -- from c at i to d at j: the tokens on the way stand in a list behind n records
 pub record Leapt (room : ℕ) (c : Stand) (i n : ℕ) (xs before after : List ℕ) (d : Stand) (j : ℕ) : Type 0 where

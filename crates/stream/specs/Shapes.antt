@@ -1,13 +1,11 @@
 -- What the code computes, in the words of the table: a byte ends at most two tokens.
-use Rattle.std.specs.Prelude.{ℕ, ◌+◌, ◌≤◌, ◌≡◌, Bool, true, false, List, [], ◌++◌}
+use Rattle.std.specs.Prelude.{ℕ, ◌+◌, ◌≤◌, ◌≡◌, Bool, true, false, List, [], ◌++◌, Result, Ok, Err}
 use Rattle.text.specs.Limits.{max_text}
 use Rattle.token.specs.Lists.{Tok}
 use Rattle.states.specs.declared.Stand.{Stand}
 use Rattle.states.specs.declared.Utf.{Utf}
-use Rattle.stream.specs.declared.Stepped.{Stepped}
-use Rattle.stream.specs.declared.Stepped.TheVariants.{Moves, Stops}
-use Rattle.stream.specs.declared.Ran.{Ran}
-use Rattle.stream.specs.declared.Ran.TheVariants.{Stands, Refuses}
+use Rattle.stream.specs.declared.Moved.{Moved}
+use Rattle.stream.specs.declared.Stop.{Stop}
 use Rattle.states.specs.declared.Status.TheVariants.{Open, Held}
 use Rattle.states.specs.declared.Call.{Call}
 use Rattle.states.specs.Machine.{Out}
@@ -17,18 +15,18 @@ use Rattle.states.specs.Steps.{Step, Goes, Faults, unless, refused_at, over_at, 
 use Rattle.states.specs.Feed.{numbered}
 
 -- what a byte or the end does
-abbrev pub stepped_of : Stepped → Step
-stepped_of (Moves g h c) = Goes (list_of g ++ list_of h) c
-stepped_of (Stops n p) = Faults n p
+abbrev pub stepped_of : Result Moved Stop → Step
+stepped_of (Ok m) = Goes (list_of m.before ++ list_of m.here) m.stand
+stepped_of (Err s) = Faults s.number s.place
 
 -- a byte that UTF-8's machine took to u and the tokens' machine to o: 3, then 14
 abbrev pub taken_by : ℕ → Stand → Utf → Out → Step
 taken_by room c u o = unless 3 (refused_at o.next) (λ _. unless 14 (over_at room c.count o.gives) (λ _. Goes o.gives (moved_to c u o)))
 
 -- where a stream stands after a packet
-abbrev pub ran_by : Step → Ran
-ran_by (Goes ts c) = Stands c
-ran_by (Faults n p) = Refuses n p
+abbrev pub ran_by : Step → Result Stand Stop
+ran_by (Goes ts c) = Ok c
+ran_by (Faults n p) = Err (record { number = n; place = p })
 
 -- the tokens that are given, and whether the call is good
 abbrev pub gives_of : Step → List Tok

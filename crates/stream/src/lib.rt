@@ -11,21 +11,20 @@ ghost use Rattle.states.specs.Feed.{feed_of, feed_in, end_of, end_in};
 ghost use Rattle.stream.specs.Shapes.{refusing, standing};
 
 use states::{Call, Feed, Stand, Status};
-use steps::Given;
 
-// What a byte or the end does to a stream: at most two tokens, and where the stream stands then; or a
-// refusal's number and place.
+// What a byte or the end gives: at most two tokens, and where the stream stands then.
 #[derive(Clone, Copy)]
-pub enum Stepped {
-    Moves(Given, Given, Stand),
-    Stops(usize, usize),
+pub struct Moved {
+    pub before: Option<(u32, u32, u32)>,
+    pub here: Option<(u32, u32, u32)>,
+    pub stand: Stand,
 }
 
-// The same of a packet, whose tokens are found again when they are written.
+// A refusal, as `Call` reports it.
 #[derive(Clone, Copy)]
-pub enum Ran {
-    Stands(Stand),
-    Refuses(usize, usize),
+pub struct Stop {
+    pub number: usize,
+    pub place: usize,
 }
 
 // How far a packet was read, and where the stream stands there.
@@ -33,13 +32,6 @@ pub enum Ran {
 pub struct Part {
     pub stand: Stand,
     pub at: usize,
-}
-
-// The next token of a packet, by its kind, start and end in the packet; or none whose end is known.
-#[derive(Clone, Copy)]
-pub enum Ahead {
-    Nothing,
-    Token(usize, usize, usize),
 }
 
 // A call that is refused, with so many records in the list: it reports none.
@@ -79,8 +71,8 @@ pub fn feed_packet(state: Feed, packet: &[u8], list: &mut [u32]) -> Call
             let t = text::inner::classes::classes();
             let ran = passes::feed(&t, c, packet, list);
             match ran {
-                Ran::Refuses(number, place) => refused(number, place, c.count),
-                Ran::Stands(next) => good(next, next.count),
+                Err(stop) => refused(stop.number, stop.place, c.count),
+                Ok(next) => good(next, next.count),
             }
         }
     }
@@ -97,11 +89,13 @@ pub fn feed_end(state: Feed, list: &mut [u32]) -> Call
         Status::Open(c) => {
             let last = passes::last(list.len() / 3, c);
             match last {
-                Stepped::Stops(number, place) => refused(number, place, c.count),
-                Stepped::Moves(before, here, next) => {
-                    passes::rooms::put_two(list, c.count, before, here);
-                    let records = c.count + passes::rooms::many(before) + passes::rooms::many(here);
-                    good(next, records)
+                Err(stop) => refused(stop.number, stop.place, c.count),
+                Ok(moved) => {
+                    passes::rooms::put_two(list, c.count, moved.before, moved.here);
+                    let records = c.count
+                        + passes::rooms::many(moved.before)
+                        + passes::rooms::many(moved.here);
+                    good(moved.stand, records)
                 }
             }
         }

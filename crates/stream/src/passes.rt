@@ -11,93 +11,73 @@ ghost use Rattle.states.specs.Steps.{long_at, step_of, ran_of, last_of};
 ghost use Rattle.steps.specs.Shapes.{out_of};
 ghost use Rattle.stream.specs.Shapes.{taken_by, stepped_of, ran_by, gives_of, is_good, Coherent};
 
-use crate::{Ran, Stepped};
+use crate::{Moved, Stop};
 use states::{Stand, Utf};
 use steps::Row;
-use text::{Scan, limits};
+use text::limits;
 
 // One byte more is too many.
-fn long(seen: usize) -> Scan
+#[tactic(auto, unfolding(states::specs::Steps::long_at))]
+fn long(seen: usize) -> Option<usize>
     ensures { result ≡ long_at (suc seen) }
 {
     if limits::TEXT <= seen {
-        return Scan::StopsAt(0);
+        return Some(0);
     }
-    Scan::Through
+    None
 }
 
 // A byte that UTF-8 took to a state and the table to a row: 3, then 14.
-fn take(room: usize, c: Stand, utf: Utf, row: Row) -> Stepped
+fn take(room: usize, c: Stand, utf: Utf, row: Row) -> Result<Moved, Stop>
     requires seen_le_max_text { c.seen ≤ max_text }
     requires count_le_max_text { c.count ≤ max_text }
     ensures { stepped_of result ≡ taken_by room c utf (out_of row) }
 {
-    let conf = row.conf;
-    let refused = keep::inner::kept::refused(conf);
-    if let Scan::StopsAt(place) = refused {
-        return Stepped::Stops(3, place);
+    if let Some(place) = keep::inner::kept::refused(row.conf) {
+        return Err(Stop { number: 3, place });
     }
-    let before = row.before;
-    let here = row.here;
-    let over = rooms::over_two(room, c.count, before, here);
-    if let Scan::StopsAt(place) = over {
-        return Stepped::Stops(14, place);
+    if let Some(place) = rooms::over_two(room, c.count, row.before, row.here) {
+        return Err(Stop { number: 14, place });
     }
-    let count = c.count + rooms::many(before) + rooms::many(here);
-    Stepped::Moves(
-        before,
-        here,
-        Stand {
-            conf,
+    Ok(Moved {
+        before: row.before,
+        here: row.here,
+        stand: Stand {
+            conf: row.conf,
             utf,
             seen: c.seen + 1,
-            count,
+            count: c.count + rooms::many(row.before) + rooms::many(row.here),
         },
-    )
+    })
 }
 
 // A byte: its faults in the order 1, 2, 3, 14.
-fn step(t: &[u8; 256], room: usize, c: Stand, x: u8) -> Stepped
+fn step(t: &[u8; 256], room: usize, c: Stand, x: u8) -> Result<Moved, Stop>
     requires t_value { t.now ≡ classes }
     requires coherent { Coherent c }
     ensures { stepped_of result ≡ step_of room c x }
 {
-    let too_long = long(c.seen);
-    if let Scan::StopsAt(place) = too_long {
-        return Stepped::Stops(1, place);
+    if let Some(place) = long(c.seen) {
+        return Err(Stop { number: 1, place });
     }
-    let u = c.utf;
-    let utf = steps::inner::utf8::step(u, c.seen, x);
-    let broken = steps::inner::utf8::broken(utf);
-    if let Scan::StopsAt(place) = broken {
-        return Stepped::Stops(2, place);
+    let utf = steps::inner::utf8::step(c.utf, c.seen, x);
+    if let Some(place) = steps::inner::utf8::broken(utf) {
+        return Err(Stop { number: 2, place });
     }
-    let conf = c.conf;
-    let row = steps::inner::transitions::step(t, conf, x);
-    take(room, c, utf, row)
+    take(room, c, utf, steps::inner::transitions::step(t, c.conf, x))
 }
 
 // The first pass over a packet writes nothing.
-pub(crate) fn run(t: &[u8; 256], room: usize, from: Stand, packet: &[u8]) -> Ran
+pub(crate) fn run(t: &[u8; 256], room: usize, from: Stand, packet: &[u8]) -> Result<Stand, Stop>
     requires t_value { t.now ≡ classes }
     requires coherent { Coherent from }
     ensures { result ≡ ran_by (ran_of room from packet.now) }
 {
     let mut c = from;
-    let mut i = 0;
-    while i < packet.len() {
-        let stepped = step(t, room, c, packet[i]);
-        match stepped {
-            Stepped::Stops(number, place) => {
-                return Ran::Refuses(number, place);
-            }
-            Stepped::Moves(_, _, next) => {
-                c = next;
-            }
-        }
-        i += 1;
+    for x in packet {
+        c = step(t, room, c, *x)?.stand;
     }
-    Ran::Stands(c)
+    Ok(c)
 }
 
 // The second writes the tokens of a packet that is good.
@@ -109,42 +89,35 @@ pub(crate) fn write(t: &[u8; 256], from: Stand, packet: &[u8], list: &mut [u32])
 {
     let room = list.len() / 3;
     let mut c = from;
-    let mut i = 0;
-    while i < packet.len() {
-        let stepped = step(t, room, c, packet[i]);
-        match stepped {
-            Stepped::Stops(_, _) => {
-                return;
-            }
-            Stepped::Moves(before, here, next) => {
-                rooms::put_two(list, c.count, before, here);
-                c = next;
-            }
-        }
-        i += 1;
+    for x in packet {
+        let Ok(moved) = step(t, room, c, *x) else {
+            return;
+        };
+        rooms::put_two(list, c.count, moved.before, moved.here);
+        c = moved.stand;
     }
 }
 
 // Both passes.
-fn both(t: &[u8; 256], from: Stand, packet: &[u8], list: &mut [u32]) -> Ran
+fn both(t: &[u8; 256], from: Stand, packet: &[u8], list: &mut [u32]) -> Result<Stand, Stop>
     requires t_value { t.now ≡ classes }
     requires coherent { Coherent from }
     ensures answer { result ≡ ran_by (ran_of (room_of list.old) from packet.now) }
     ensures held { list.new ≡ sets list.old (from.count * 3) (flat (gives_of (ran_of (room_of list.old) from packet.now))) }
 {
-    let ran = run(t, list.len() / 3, from, packet);
-    match ran {
-        Ran::Refuses(number, place) => Ran::Refuses(number, place),
-        Ran::Stands(next) => {
-            write(t, from, packet, list);
-            Ran::Stands(next)
-        }
-    }
+    let next = run(t, list.len() / 3, from, packet)?;
+    write(t, from, packet, list);
+    Ok(next)
 }
 
 // A packet: its refusal, or where the stream stands then, with the tokens in the list. A short one
 // isn't worth the stash.
-pub(crate) fn feed(t: &[u8; 256], from: Stand, packet: &[u8], list: &mut [u32]) -> Ran
+pub(crate) fn feed(
+    t: &[u8; 256],
+    from: Stand,
+    packet: &[u8],
+    list: &mut [u32],
+) -> Result<Stand, Stop>
     requires t_value { t.now ≡ classes }
     requires coherent { Coherent from }
     ensures answer { result ≡ ran_by (ran_of (room_of list.old) from packet.now) }
@@ -157,25 +130,23 @@ pub(crate) fn feed(t: &[u8; 256], from: Stand, packet: &[u8], list: &mut [u32]) 
 }
 
 // The text's end.
-pub(crate) fn last(room: usize, c: Stand) -> Stepped
+pub(crate) fn last(room: usize, c: Stand) -> Result<Moved, Stop>
     requires { Coherent c }
     ensures { stepped_of result ≡ last_of room c }
 {
-    let u = c.utf;
-    let cut = steps::inner::utf8::ended(u);
-    if let Scan::StopsAt(place) = cut {
-        return Stepped::Stops(2, place);
+    if let Some(place) = steps::inner::utf8::ended(c.utf) {
+        return Err(Stop { number: 2, place });
     }
-    let conf = c.conf;
-    let finish = steps::inner::ends::finish(conf);
-    let fault = finish.fault;
-    if let Scan::StopsAt(place) = fault {
-        return Stepped::Stops(3, place);
+    let finish = steps::inner::ends::finish(c.conf);
+    if let Some(place) = finish.fault {
+        return Err(Stop { number: 3, place });
     }
-    let token = finish.token;
-    let over = rooms::over(room, c.count, token);
-    if let Scan::StopsAt(place) = over {
-        return Stepped::Stops(14, place);
+    if let Some(place) = rooms::over(room, c.count, finish.token) {
+        return Err(Stop { number: 14, place });
     }
-    Stepped::Moves(steps::Given::No, token, keep::inner::opened::fresh())
+    Ok(Moved {
+        before: None,
+        here: finish.token,
+        stand: keep::inner::opened::fresh(),
+    })
 }

@@ -1,7 +1,7 @@
-#![tactic(auto)]
-
 // Runs the entry points of tokens as they arrive on the vectors of its standard input, and writes each
 // with its answers. A line is calls over one state and one list; crates/calls says how they are written.
+#![tactic(auto)]
+
 fn run_line(line: &[u8]) {
     vectors::write(line);
     vectors::write(b" =");
@@ -10,12 +10,5 @@ fn run_line(line: &[u8]) {
 }
 
 fn main() {
-    let mut input = io::large_buffer();
-    let n = io::read_full(0, &mut input);
-    let mut at = 0;
-    while at < n {
-        let end = vectors::line_end(&input[..n], at);
-        run_line(&input[at..end]);
-        at = end + 1;
-    }
+    vectors::run_lines(&mut io::large_buffer(), run_line);
 }

@@ -1,4 +1,5 @@
 -- The bytes of a token: the inside of a literal, the string that it means, and the spelling of a word.
+use Rattle.std.specs.Prelude.{None}
 use Prim.Native.Nat.{ℕ, zero, suc, ◌+◌, ◌-◌, ◌≤◌}
 use mathlib.Core.Path.{◌≡◌, refl, sym, ap, ◌∙◌}
 use mathlib.Core.Bool.{Bool, true, false}
@@ -12,7 +13,6 @@ use Rattle.text.specs.Words.{begins}
 use Rattle.text.specs.Splice.{spent}
 use Rattle.literal.specs.Escapes.{bad_escape, unescaped}
 use Rattle.text.specs.Scans.{spelled, sought}
-use Rattle.text.specs.declared.Scan.TheVariants.{Through}
 use Rattle.text.proofs.Booleans.{choose_false, choose_true}
 use Rattle.text.specs.Limits.{max_text}
 use Rattle.token.specs.Table.{kind, start, end, is, between, word}
@@ -34,7 +34,7 @@ bytes_left s a z left w e =
     let y = part_short s a z in
     (omega arith, omega arith)
 
-pub bad_none : (s : List ℕ) (a z : ℕ) → z ≤ a → Through ≡ bad_escape (between s a z)
+pub bad_none : (s : List ℕ) (a z : ℕ) → z ≤ a → None ≡ bad_escape (between s a z)
 unfolding bad_escape sought
 bad_none s a z h = sym (ap bad_escape (part_none s a z h))
 

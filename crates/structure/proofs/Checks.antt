@@ -1,4 +1,5 @@
 -- The paths of the functions that check expressions, terms and nodes.
+use Rattle.std.specs.Prelude.{ℕ, Option, Some, None, Result, Ok, Err}
 use Prim.Native.Nat.{ℕ, zero, suc, ◌+◌, ◌-◌, ◌*◌, ◌≤◌, ◌<◌}
 use mathlib.Core.Path.{◌≡◌, refl, sym, ap, ◌∙◌, subst}
 use mathlib.Core.Bool.{Bool, true, false}
@@ -20,15 +21,10 @@ use Rattle.structure.specs.declared.Level.TheVariants.{Tagged, Plain}
 use Rattle.structure.specs.declared.Refusal.{Refusal}
 use Rattle.structure.specs.declared.Why.TheVariants.{NotAllowed}
 use Rattle.structure.specs.Refusals.{because}
-use Rattle.structure.specs.declared.Checked.{Checked}
-use Rattle.structure.specs.declared.Wanted.{Wanted}
-use Rattle.structure.specs.declared.Wanted.TheVariants.{Here, Missing}
-use Rattle.structure.specs.declared.Opening.{Opening}
-use Rattle.structure.specs.declared.Opening.TheVariants.{From, Untied}
+use Rattle.structure.specs.declared.Piece.{Piece}
 use Rattle.structure.specs.declared.Bracket.{Bracket}
 use Rattle.structure.specs.declared.Bracket.TheVariants.{Opens, Unopened, Nothing}
-use Rattle.structure.specs.declared.PostfixEnd.{PostfixEnd}
-use Rattle.structure.specs.declared.PostfixEnds.{PostfixEnds}
+use Rattle.structure.specs.declared.Posts.{Posts}
 use Rattle.structure.specs.Tokens.{spells}
 use Rattle.structure.specs.Structure.{Parsed, got, refused, next, want, opened, prefixed, postfixed, in_tag, post, postfix_at, leaf_at, posts_by, expr, term, signed, node, posts, Run}
 use Rattle.structure.specs.Answers.{summary, wanted, tag_nodes, tag_bytes, opening_of, is_sign, predicates_in, predicates_end, sign_of, predicates, Signed, bracket_of, tail_of, tailed, Posted}
@@ -36,7 +32,7 @@ use Rattle.structure.proofs.Steps.{inside_is, sees, misses, want_true, want_fals
 use Rattle.structure.proofs.Sizes.{most, label_short, Grown, grown_none, grown_ends, grown_before, grown_after, grown_tag, tag_small}
 use Rattle.structure.proofs.Fuel.{postfix_past}
 use Rattle.structure.proofs.Grammar.{term_law, signed_law, node_law, posts_law}
-use Rattle.structure.proofs.Wants.{was_here, was_missing, was_past, was_bad, was_ended, good, bad, sum_refused, sum_got}
+use Rattle.structure.proofs.Wants.{piece, all_posts, was_here, was_missing, was_past, was_bad, was_ended, good, bad, sum_refused, sum_got}
 
 -- ---- a tag
 
@@ -79,58 +75,60 @@ module _ (level : Level) (s : List ℕ) (at : ℕ) where
       }
 
   by_tag : (p k b : ℕ) (b₁ b₂ : Bool) (k₁ n₁ : ℕ) → (b₁ ≡ false → Opened level s at at 0 0) → (b₁ ≡ true → b₂ ≡ true → Opened level s at (at + 2) k₁ n₁)
-      → choose b₁ (λ u. choose b₂ (λ u. From (at + 2) k₁ n₁) (λ u. Untied)) (λ u. From at 0 0) ≡ From p k b → Opened level s at p k b
+      → choose b₁ (λ u. choose b₂ (λ u. Some (piece (at + 2) k₁ n₁)) (λ u. None)) (λ u. Some (piece at 0 0)) ≡ Some (piece p k b) → Opened level s at p k b
   by_tag p k b false b₂ k₁ n₁ f g e =
-      let x : at ≡ p = cc in
-      let y : ◌≡◌ {A = ℕ} 0 k = cc in
-      let z : ◌≡◌ {A = ℕ} 0 b = cc in
+      let h : ◌≡◌ {A = Piece} (piece at 0 0) (piece p k b) = cc in
+      let x : at ≡ p = ap (λ (v : Piece). v.next) h in
+      let y : ◌≡◌ {A = ℕ} 0 k = ap (λ (v : Piece). v.nodes) h in
+      let z : ◌≡◌ {A = ℕ} 0 b = ap (λ (v : Piece). v.bytes) h in
       subst (λ (i : ℕ). Opened level s at p k i) z (subst (λ (i : ℕ). Opened level s at p i 0) y (subst (λ (i : ℕ). Opened level s at i 0 0) x (f refl)))
   by_tag p k b true true k₁ n₁ f g e =
-      let x : at + 2 ≡ p = cc in
-      let y : k₁ ≡ k = cc in
-      let z : n₁ ≡ b = cc in
+      let h : ◌≡◌ {A = Piece} (piece (at + 2) k₁ n₁) (piece p k b) = cc in
+      let x : at + 2 ≡ p = ap (λ (v : Piece). v.next) h in
+      let y : k₁ ≡ k = ap (λ (v : Piece). v.nodes) h in
+      let z : n₁ ≡ b = ap (λ (v : Piece). v.bytes) h in
       subst (λ (i : ℕ). Opened level s at p k i) z (subst (λ (i : ℕ). Opened level s at p i n₁) y (subst (λ (i : ℕ). Opened level s at i k₁ n₁) x (g refl refl)))
   by_tag p k b true false k₁ n₁ f g e = let z : ◌≡◌ {A = ℕ} 0 1 = cc in absurd (omega arith)
 
-  no_tag : (b₁ b₂ : Bool) (k b : ℕ) → choose b₁ (λ u. choose b₂ (λ u. From (at + 2) k b) (λ u. Untied)) (λ u. From at 0 0) ≡ Untied → (b₁ ≡ true) × (b₂ ≡ false)
+  no_tag : (b₁ b₂ : Bool) (k b : ℕ) → choose b₁ (λ u. choose b₂ (λ u. Some (piece (at + 2) k b)) (λ u. None)) (λ u. Some (piece at 0 0)) ≡ None → (b₁ ≡ true) × (b₂ ≡ false)
   no_tag true false k b e = (refl, refl)
   no_tag true true k b e = let z : ◌≡◌ {A = ℕ} 0 1 = cc in absurd (omega arith)
   no_tag false b₂ k b e = let z : ◌≡◌ {A = ℕ} 0 1 = cc in absurd (omega arith)
 
-  pub was_from : (r : Opening) (p k b : ℕ) → r ≡ opening_of level s at → r ≡ From p k b → Opened level s at p k b
+  pub was_from : (r : Option Piece) (p k b : ℕ) → r ≡ opening_of level s at → r ≡ Some (piece p k b) → Opened level s at p k b
   unfolding opening_of
   was_from r p k b e q = by_tag p k b (is s at 19) (is s (at + 1) 1) (tag_nodes level) (tag_bytes level (length (label s at))) untagged tagged (sym e ∙ q)
 
-  pub was_untied : (r : Opening) → r ≡ opening_of level s at → r ≡ Untied → (at < length (toks s)) × ((o : ℕ) → Run level s (term o at) ≡ refused (because NotAllowed (start s (at + 1))))
+  pub was_untied : (r : Option Piece) → r ≡ opening_of level s at → r ≡ None → (at < length (toks s)) × ((o : ℕ) → Run level s (term o at) ≡ refused (because NotAllowed (start s (at + 1))))
   unfolding opening_of
   was_untied r e q =
       let (f, g) = no_tag (is s at 19) (is s (at + 1) 1) (tag_nodes level) (tag_bytes level (length (label s at))) (sym e ∙ q) in
       (inside_is s at 19 (omega arith) f, λ o. term_law level s o at ∙ choose_true (is s at 19) _ _ f ∙ want_false refused s (at + 1) 1 _ g)
 
   -- what `tag_of` answers
-  pub tag_none : (x : ℕ) → x ≡ kind s at → (x ≡ 19 → ⊥) → From at 0 0 ≡ opening_of level s at
+  pub tag_none : (x : ℕ) → x ≡ kind s at → (x ≡ 19 → ⊥) → Some (piece at 0 0) ≡ opening_of level s at
   unfolding opening_of
   tag_none x e q = sym (choose_false (is s at 19) _ _ (misses s at x 19 e q))
 
-  module _ (x : ℕ) (e : x ≡ kind s at) (q : x ≡ 19) (r : Wanted) (f : r ≡ wanted s (at + 1) 1) where
-    pub tag_untied : r ≡ Missing → Untied ≡ opening_of level s at
+  module _ (x : ℕ) (e : x ≡ kind s at) (q : x ≡ 19) (r : Option ℕ) (f : r ≡ wanted s (at + 1) 1) where
+    pub tag_untied : r ≡ None → None ≡ opening_of level s at
     unfolding opening_of
     tag_untied h = sym (choose_true (is s at 19) _ _ (sees s at x 19 e q) ∙ choose_false (is s (at + 1) 1) _ _ (was_missing s (at + 1) 1 r f h))
 
-    tag_is : (p : ℕ) → r ≡ Here p → opening_of level s at ≡ From p (tag_nodes level) (tag_bytes level (length (label s at)))
+    tag_is : (p : ℕ) → r ≡ Some p → opening_of level s at ≡ Some (piece p (tag_nodes level) (tag_bytes level (length (label s at))))
     unfolding opening_of
     tag_is p h =
         let w = was_here s (at + 1) 1 r p f h in
         let z : at + 2 ≡ p = let y = w.1 in omega arith in
-        choose_true (is s at 19) _ _ (sees s at x 19 e q) ∙ choose_true (is s (at + 1) 1) _ _ w.0 ∙ ap (λ (i : ℕ). From i (tag_nodes level) (tag_bytes level (length (label s at)))) z
+        choose_true (is s at 19) _ _ (sees s at x 19 e q) ∙ choose_true (is s (at + 1) 1) _ _ w.0 ∙ ap (λ (i : ℕ). Some (piece i (tag_nodes level) (tag_bytes level (length (label s at))))) z
 
-    pub tag_kept : (p : ℕ) → r ≡ Here p → level ≡ Tagged → (a z : ℕ) → a ≡ start s at → z ≡ end s at → From p 1 (z - (a + 1)) ≡ opening_of level s at
+    pub tag_kept : (p : ℕ) → r ≡ Some p → level ≡ Tagged → (a z : ℕ) → a ≡ start s at → z ≡ end s at → Some (piece p 1 (z - (a + 1))) ≡ opening_of level s at
     tag_kept p h k a z i j =
         let l = label_length s at a z i j in
-        sym (tag_is p h ∙ ap (λ (v : Level). From p (tag_nodes v) (tag_bytes v (length (label s at)))) k ∙ ap (From p 1) (sym l))
+        sym (tag_is p h ∙ ap (λ (v : Level). Some (piece p (tag_nodes v) (tag_bytes v (length (label s at))))) k ∙ ap (λ (i : ℕ). Some (piece p 1 i)) (sym l))
 
-    pub tag_dropped : (p : ℕ) → r ≡ Here p → level ≡ Plain → From p 0 0 ≡ opening_of level s at
-    tag_dropped p h k = sym (tag_is p h ∙ ap (λ (v : Level). From p (tag_nodes v) (tag_bytes v (length (label s at)))) k)
+    pub tag_dropped : (p : ℕ) → r ≡ Some p → level ≡ Plain → Some (piece p 0 0) ≡ opening_of level s at
+    tag_dropped p h k = sym (tag_is p h ∙ ap (λ (v : Level). Some (piece p (tag_nodes v) (tag_bytes v (length (label s at))))) k)
 
 -- ---- predicates
 
@@ -155,14 +153,14 @@ grown_signs s at (suc k) t =
 
 module _ (s : List ℕ) where
   -- a token's kind says whether it is a predicate
-  sign_here : (i x : ℕ) → x ≡ kind s i → (x ≡ 8) ⊎ (x ≡ 9) → is_sign s i ≡ true
+  pub sign_here : (i x : ℕ) → x ≡ kind s i → (x ≡ 8) ⊎ (x ≡ 9) → is_sign s i ≡ true
   sign_here i x e (inl q) = or_first (is s i 8) (is s i 9) (sees s i x 8 e q)
   sign_here i x e (inr q) = or_second (is s i 8) (is s i 9) (sees s i x 9 e q)
 
-  sign_gone : (i x : ℕ) → x ≡ kind s i → (x ≡ 8 → ⊥) → (x ≡ 9 → ⊥) → is_sign s i ≡ false
+  pub sign_gone : (i x : ℕ) → x ≡ kind s i → (x ≡ 8 → ⊥) → (x ≡ 9 → ⊥) → is_sign s i ≡ false
   sign_gone i x e q r = or_neither (is s i 8) (is s i 9) (misses s i x 8 e q) (misses s i x 9 e r)
 
-  sign_inside : (i : ℕ) → is_sign s i ≡ true → i < length (toks s)
+  pub sign_inside : (i : ℕ) → is_sign s i ≡ true → i < length (toks s)
   sign_inside i e = or_by (is s i 8) (is s i 9) e (inside_is s i 8 (omega arith)) (inside_is s i 9 (omega arith))
 
   -- ---- where they end
@@ -184,15 +182,14 @@ module _ (s : List ℕ) where
   unfolding predicates_end
   end_start at = refl
 
-  pub end_more : (at p x : ℕ) → x ≡ kind s p → (x ≡ 8) ⊎ (x ≡ 9) → EndInv at p → (p < length (toks s)) × EndInv at (p + 1)
-  end_more at p x e q i =
-      let h = sign_here p x e q in
+  pub end_more : (at p : ℕ) → is_sign s p ≡ true → EndInv at p → (p < length (toks s)) × EndInv at (p + 1)
+  end_more at p h i =
       let m = sign_inside p h in
       let z : length (toks s) - p ≡ suc (length (toks s) - (p + 1)) = omega arith in
       (m, i ∙ ap (λ (k : ℕ). predicates_in s k p) z ∙ ends_on (length (toks s) - (p + 1)) p h)
 
-  pub end_done : (at p x : ℕ) → x ≡ kind s p → (x ≡ 8 → ⊥) → (x ≡ 9 → ⊥) → EndInv at p → p ≡ predicates_end s at
-  end_done at p x e q r i = sym (i ∙ ends_here (length (toks s) - p) p (sign_gone p x e q r))
+  pub end_done : (at p : ℕ) → is_sign s p ≡ false → EndInv at p → p ≡ predicates_end s at
+  end_done at p h i = sym (i ∙ ends_here (length (toks s) - p) p h)
 
   -- ---- what stands before and behind that end
 
@@ -271,7 +268,7 @@ module _ (s : List ℕ) where
   posts-on : (level : Level) (t : Tree Span) (i : ℕ) (v : Unary) (n : ℕ) → postfix_at s i ≡ post v n → Run level s (posts t i) ≡ Run level s (posts (postfixed (end s (n - 1)) v t) n)
   posts-on level t i v n e = posts_law level s t i ∙ ap (λ p. posts_by p (λ v n. Run level s (posts (postfixed (end s (n - 1)) v t) n)) (λ u. got t i)) e
 
-  pub post_more : (at p k : ℕ) (r : PostfixEnd) (n : ℕ) → r ≡ tail_of (postfix_at s p) → r ≡ PostfixEnd.Past n → PostInv at p k → (p < n) × (n ≤ length (toks s)) × PostInv at n (k + 1)
+  pub post_more : (at p k : ℕ) (r : Result (Option ℕ) Refusal) (n : ℕ) → r ≡ tail_of (postfix_at s p) → r ≡ Ok (Some n) → PostInv at p k → (p < n) × (n ≤ length (toks s)) × PostInv at n (k + 1)
   post_more at p k r n e q i =
       let (v, f) = was_past (postfix_at s p) r n e q in
       let h = postfix_past s p v n f in
@@ -288,7 +285,7 @@ module _ (s : List ℕ) where
         },
       )
 
-  pub post_bad : (at p k : ℕ) (r : PostfixEnd) (x : Refusal) → r ≡ tail_of (postfix_at s p) → r ≡ PostfixEnd.Bad x → PostInv at p k → Posted s at (PostfixEnds.Bad x)
+  pub post_bad : (at p k : ℕ) (r : Result (Option ℕ) Refusal) (x : Refusal) → r ≡ tail_of (postfix_at s p) → r ≡ Err x → PostInv at p k → Posted s at (Err x)
   unfolding tailed
   post_bad at p k r x e q i = record {
     around = λ level t.
@@ -296,7 +293,7 @@ module _ (s : List ℕ) where
         sum_refused (g ∙ posts_law level s u p ∙ ap (λ p₁. posts_by p₁ (λ v n. Run level s (posts (postfixed (end s (n - 1)) v u) n)) (λ _. got u p)) (was_bad (postfix_at s p) r x e q));
   }
 
-  pub post_done : (at p k : ℕ) (r : PostfixEnd) → r ≡ tail_of (postfix_at s p) → r ≡ PostfixEnd.Ended → PostInv at p k → Posted s at (PostfixEnds.All p k)
+  pub post_done : (at p k : ℕ) (r : Result (Option ℕ) Refusal) → r ≡ tail_of (postfix_at s p) → r ≡ Ok None → PostInv at p k → Posted s at (Ok (all_posts p k))
   unfolding tailed
   post_done at p k r e q i = record {
     around = λ level t.
@@ -308,19 +305,20 @@ module _ (s : List ℕ) where
   }
 
 -- what all postfixes came to
-pub tails_all : (m : Parsed) (t : Tree Span) (r : PostfixEnds) (n k : ℕ) → tailed t r ≡ summary m → r ≡ PostfixEnds.All n k → (u : Tree Span) × (m ≡ got u n) × Grown t u k 0
+pub tails_all : (m : Parsed) (t : Tree Span) (r : Result Posts Refusal) (n k : ℕ) → tailed t r ≡ summary m → r ≡ Ok (all_posts n k) → (u : Tree Span) × (m ≡ got u n) × Grown t u k 0
 unfolding tailed
-tails_all m t (PostfixEnds.All i j) n k e q =
-    let x : i ≡ n = cc in
-    let y : j ≡ k = cc in
-    let (u, f, c, b) = good m (Checked.Good i (count t + j) (size t)) i (count t + j) (size t) e refl in
+tails_all m t (Ok p) n k e q =
+    let h : ◌≡◌ {A = Posts} p (all_posts n k) = cc in
+    let x : p.next ≡ n = ap (λ (v : Posts). v.next) h in
+    let y : p.nodes ≡ k = ap (λ (v : Posts). v.nodes) h in
+    let (u, f, c, b) = good m (Ok (piece p.next (count t + p.nodes) (size t))) p.next (count t + p.nodes) (size t) e refl in
     (u, f ∙ ap (got u) x, record { counts = omega arith; sizes = omega arith })
-tails_all m t (PostfixEnds.Bad x) n k e q = let z : ◌≡◌ {A = ℕ} 0 1 = cc in absurd (omega arith)
+tails_all m t (Err x) n k e q = let z : ◌≡◌ {A = ℕ} 0 1 = cc in absurd (omega arith)
 
-pub tails_bad : (m : Parsed) (t : Tree Span) (r : PostfixEnds) (x : Refusal) → tailed t r ≡ summary m → r ≡ PostfixEnds.Bad x → m ≡ refused x
+pub tails_bad : (m : Parsed) (t : Tree Span) (r : Result Posts Refusal) (x : Refusal) → tailed t r ≡ summary m → r ≡ Err x → m ≡ refused x
 unfolding tailed
-tails_bad m t (PostfixEnds.All i j) x e q = let z : ◌≡◌ {A = ℕ} 0 1 = cc in absurd (omega arith)
-tails_bad m t (PostfixEnds.Bad y) x e q = let z : y ≡ x = cc in bad m (Checked.Refused y) x e (ap Checked.Refused z)
+tails_bad m t (Ok p) x e q = let z : ◌≡◌ {A = ℕ} 0 1 = cc in absurd (omega arith)
+tails_bad m t (Err y) x e q = let z : y ≡ x = cc in bad m (Err y) x e (ap Err z)
 
 -- ---- what opens an expression
 

@@ -1,9 +1,9 @@
 -- The paths of the cycle: expression, term, node.
+use Rattle.std.specs.Prelude.{ℕ, Option, Some, None, Result, Ok, Err}
 use Prim.Native.Nat.{ℕ, ◌+◌, ◌-◌, ◌*◌, ◌≤◌, ◌<◌}
 use mathlib.Core.Path.{◌≡◌, refl, sym, ap, ◌∙◌}
 use mathlib.Core.Bool.{Bool, true, false}
 use mathlib.Core.List.{List}
-use mathlib.Core.Option.{Option, none, some}
 use mathlib.Core.Logic.{◌⊎◌, inl, inr, ⊎_elim}
 use native.Mathlib.Omega.{arith}
 use lib.ListN.{length}
@@ -19,21 +19,17 @@ use Rattle.structure.specs.declared.Level.{Level}
 use Rattle.structure.specs.declared.Refusal.{Refusal}
 use Rattle.structure.specs.declared.Why.TheVariants.{NotAllowed, TooDeep}
 use Rattle.structure.specs.Refusals.{because}
-use Rattle.structure.specs.declared.Checked.{Checked}
-use Rattle.structure.specs.declared.Wanted.{Wanted}
-use Rattle.structure.specs.declared.Wanted.TheVariants.{Here, Missing}
-use Rattle.structure.specs.declared.Opening.{Opening}
-use Rattle.structure.specs.declared.Opening.TheVariants.{Untied}
+use Rattle.structure.specs.declared.Piece.{Piece}
 use Rattle.structure.specs.declared.Bracket.{Bracket}
 use Rattle.structure.specs.declared.Bracket.TheVariants.{Unopened, Nothing}
-use Rattle.structure.specs.declared.PostfixEnds.{PostfixEnds}
+use Rattle.structure.specs.declared.Posts.{Posts}
 use Rattle.structure.specs.Structure.{Parsed, got, refused, next, join, closed, leaf_at, Call, expr, term, node, chain, posts, place, Run}
 use Rattle.structure.specs.Answers.{unread, summary, wanted, opening_of, predicates_end, predicates, bracket_of, Posted}
 use Rattle.structure.proofs.Steps.{inside_is, sees, misses, next_good, next_bad, next_assoc, next_on, opened_true, opened_false}
 use Rattle.structure.proofs.Sizes.{most, Grown, grown_none, grown_starts, count_closed, size_closed, count_more, size_more}
 use Rattle.structure.proofs.Fuel.{Went, went, held, held_size}
 use Rattle.structure.proofs.Grammar.{expr_law, chain_law, signed_law}
-use Rattle.structure.proofs.Wants.{wanted_on, wanted_off, good, bad, sum_refused, sum_got, fewer, sinks}
+use Rattle.structure.proofs.Wants.{piece, all_posts, wanted_on, wanted_off, good, bad, sum_refused, sum_got, fewer, sinks}
 use Rattle.structure.proofs.Checks.{Opened, was_untied, grown_signs, tails_all, tails_bad, Bracketed, was_open, was_unopened, was_nothing, signed_end}
 
 -- ---- a finished term
@@ -59,7 +55,7 @@ pub record Ends (s : List ℕ) (at n k b : ℕ) : Type 0 where
   pub small : b ≤ most * k
 
 module _ (level : Level) (s : List ℕ) (w : length s ≤ max_text) where
-  ends_of : (at : ℕ) (c : Call) (r : Checked) (n k b : ℕ) → place c ≡ at → held c ≡ 0 → held_size c ≡ 0 → ((t : Tree Span) → Went s c t n → at < n) → r ≡ summary (Run level s c) → r ≡ Checked.Good n k b → Ends s at n k b
+  ends_of : (at : ℕ) (c : Call) (r : Result Piece Refusal) (n k b : ℕ) → place c ≡ at → held c ≡ 0 → held_size c ≡ 0 → ((t : Tree Span) → Went s c t n → at < n) → r ≡ summary (Run level s c) → r ≡ Ok (piece n k b) → Ends s at n k b
   ends_of at c r n k b x y v z e q =
       let (t, f, g, h) = good _ r n k b e q in
       let p = went level s c t n f in
@@ -69,13 +65,13 @@ module _ (level : Level) (s : List ℕ) (w : length s ≤ max_text) where
       let j = p.few in
       record { on = l; within = omega arith; few = omega arith; small = omega arith }
 
-  pub node_ends : (o at : ℕ) (r : Checked) (n k b : ℕ) → r ≡ summary (Run level s (node o at)) → r ≡ Checked.Good n k b → Ends s at n k b
+  pub node_ends : (o at : ℕ) (r : Result Piece Refusal) (n k b : ℕ) → r ≡ summary (Run level s (node o at)) → r ≡ Ok (piece n k b) → Ends s at n k b
   node_ends o at r n k b e q = ends_of at (node o at) r n k b refl refl refl (λ t p. let l = p.on in omega arith) e q
 
-  pub term_ends : (o at : ℕ) (r : Checked) (n k b : ℕ) → r ≡ summary (Run level s (term o at)) → r ≡ Checked.Good n k b → Ends s at n k b
+  pub term_ends : (o at : ℕ) (r : Result Piece Refusal) (n k b : ℕ) → r ≡ summary (Run level s (term o at)) → r ≡ Ok (piece n k b) → Ends s at n k b
   term_ends o at r n k b e q = ends_of at (term o at) r n k b refl refl refl (λ t p. let l = p.on in omega arith) e q
 
-  pub expr_ends : (o at : ℕ) (r : Checked) (n k b : ℕ) → r ≡ summary (Run level s (expr o at)) → r ≡ Checked.Good n k b → Ends s at n k b
+  pub expr_ends : (o at : ℕ) (r : Result Piece Refusal) (n k b : ℕ) → r ≡ summary (Run level s (expr o at)) → r ≡ Ok (piece n k b) → Ends s at n k b
   expr_ends o at r n k b e q = ends_of at (expr o at) r n k b refl refl refl (λ t p. let l = p.on in omega arith) e q
 
 -- ---- an expression
@@ -97,18 +93,18 @@ module _ (level : Level) (s : List ℕ) (o at : ℕ) where
     pub counts : count (closed choices last) ≡ k
     pub sized : size (closed choices last) ≡ b
 
-  pub expr_refused : (r : Checked) (x : Refusal) → r ≡ summary (Run level s (term o at)) → r ≡ Checked.Refused x → Checked.Refused x ≡ summary (Run level s (expr o at))
+  pub expr_refused : (r : Result Piece Refusal) (x : Refusal) → r ≡ summary (Run level s (term o at)) → r ≡ Err x → Err x ≡ summary (Run level s (expr o at))
   expr_refused r x e q = sum_refused (expr_law level s o at ∙ next_bad _ _ (bad _ r x e q))
 
-  pub chain_start : length s ≤ max_text → (r : Checked) (n k b : ℕ) → r ≡ summary (Run level s (term o at)) → r ≡ Checked.Good n k b → ChainInv n k b
+  pub chain_start : length s ≤ max_text → (r : Result Piece Refusal) (n k b : ℕ) → r ≡ summary (Run level s (term o at)) → r ≡ Ok (piece n k b) → ChainInv n k b
   unfolding closed
   chain_start w r n k b e q =
       let (t, f, g, h) = good _ r n k b e q in
-      record { ends = term_ends level s w o at r n k b e q; choices = none; last = t; read = expr_law level s o at ∙ next_good _ _ f; counts = g; sized = h }
+      record { ends = term_ends level s w o at r n k b e q; choices = None; last = t; read = expr_law level s o at ∙ next_good _ _ f; counts = g; sized = h }
 
   -- neither stands there: the expression has ended
   pub chain_done : (choices : Option (Tree Span)) (last : Tree Span) (p : ℕ) → Run level s (expr o at) ≡ Run level s (chain o choices last p) → (kind s p ≡ 10 → ⊥) → (kind s p ≡ 11 → ⊥)
-      → Checked.Good p (count (closed choices last)) (size (closed choices last)) ≡ summary (Run level s (expr o at))
+      → Ok (piece p (count (closed choices last)) (size (closed choices last))) ≡ summary (Run level s (expr o at))
   chain_done choices last p i q r =
       sum_got p _ _ (i ∙ chain_law level s o choices last p ∙ choose_false (is s p 10) _ _ (misses s p _ 10 refl q) ∙ choose_false (is s p 11) _ _ (misses s p _ 11 refl r)) refl refl refl
 
@@ -134,7 +130,7 @@ module _ (level : Level) (s : List ℕ) (o at : ℕ) where
       sized = λ t. let a = size_closed i.choices i.last t in let c = i.sized in omega arith;
     }
     goes (inr q) = record {
-      choices = λ t. some (closed i.choices i.last);
+      choices = λ t. Some (closed i.choices i.last);
       last = λ t. t;
       read =
           i.read ∙ chain_law level s o i.choices i.last p
@@ -143,10 +139,10 @@ module _ (level : Level) (s : List ℕ) (o at : ℕ) where
       sized = λ t. let a = size_more i.choices i.last t in let c = i.sized in omega arith;
     }
 
-    pub chain_refused : Joins x → (r : Checked) (y : Refusal) → r ≡ summary (Run level s (term o (p + 1))) → r ≡ Checked.Refused y → Checked.Refused y ≡ summary (Run level s (expr o at))
+    pub chain_refused : Joins x → (r : Result Piece Refusal) (y : Refusal) → r ≡ summary (Run level s (term o (p + 1))) → r ≡ Err y → Err y ≡ summary (Run level s (expr o at))
     chain_refused j r y f q = sum_refused ((goes j).read ∙ next_bad _ _ (bad _ r y f q))
 
-    pub chain_more : length s ≤ max_text → Joins x → (r : Checked) (n k₂ b₂ : ℕ) → r ≡ summary (Run level s (term o (p + 1))) → r ≡ Checked.Good n k₂ b₂ → (p < n) × ChainInv n (k + k₂ + 1) (b + b₂)
+    pub chain_more : length s ≤ max_text → Joins x → (r : Result Piece Refusal) (n k₂ b₂ : ℕ) → r ≡ summary (Run level s (term o (p + 1))) → r ≡ Ok (piece n k₂ b₂) → (p < n) × ChainInv n (k + k₂ + 1) (b + b₂)
     chain_more w j r n k₂ b₂ f q =
         let g = goes j in
         let (t, h, c, d) = good _ r n k₂ b₂ f q in
@@ -168,8 +164,8 @@ module _ (level : Level) (s : List ℕ) (o at : ℕ) where
 -- ---- a term
 
 module _ (level : Level) (s : List ℕ) (w : length s ≤ max_text) (o at : ℕ) where
-  pub term_untied : (r : Opening) → r ≡ opening_of level s at → r ≡ Untied → (y : Refusal) → y ≡ because NotAllowed (start s (at + 1)) → Checked.Refused y ≡ summary (Run level s (term o at))
-  term_untied r e q y z = ap Checked.Refused z ∙ sum_refused ((was_untied level s at r e q).1 o)
+  pub term_untied : (r : Option Piece) → r ≡ opening_of level s at → r ≡ None → (y : Refusal) → y ≡ because NotAllowed (start s (at + 1)) → Err y ≡ summary (Run level s (term o at))
+  term_untied r e q y z = ap Err z ∙ sum_refused ((was_untied level s at r e q).1 o)
 
   module _ (p k b : ℕ) (v : Opened level s at p k b) (f : ℕ) (ends : f ≡ predicates_end s p) where
     to-node : Run level s (term o at)
@@ -182,20 +178,20 @@ module _ (level : Level) (s : List ℕ) (w : length s ≤ max_text) (o at : ℕ)
         (i.same level o ∙ ap (λ (m : Parsed). next m (λ t n. got (predicates s p (f - p) t) n)) (signed_law level s o f ∙ choose_false (is s f 8) _ _ i.no_pos ∙ choose_false (is s f 9) _ _ i.no_neg))
         ∙ next_assoc _ _ _
 
-    pub term_refused : (r : Checked) (x : Refusal) → r ≡ summary (Run level s (node o f)) → r ≡ Checked.Refused x → Checked.Refused x ≡ summary (Run level s (term o at))
+    pub term_refused : (r : Result Piece Refusal) (x : Refusal) → r ≡ summary (Run level s (node o f)) → r ≡ Err x → Err x ≡ summary (Run level s (term o at))
     term_refused r x e q = sum_refused (to-node ∙ next_bad _ _ (next_bad _ _ (bad _ r x e q)))
 
     pub term_read : (t u : Tree Span) (n z : ℕ) → Run level s (node o f) ≡ got t n → Run level s (posts t n) ≡ got u z
         → Run level s (term o at) ≡ got (v.wrap (predicates s p (f - p) (finished s f u))) z
     term_read t u n z e q = to-node ∙ next_good _ _ (next_good _ _ e ∙ next_good _ _ q) ∙ next_on _ _ _
 
-    module _ (r : Checked) (n k₁ b₁ : ℕ) (e : r ≡ summary (Run level s (node o f))) (q : r ≡ Checked.Good n k₁ b₁) (x : PostfixEnds) (j : Posted s n x) where
-      pub term_unposted : (y : Refusal) → x ≡ PostfixEnds.Bad y → Checked.Refused y ≡ summary (Run level s (term o at))
+    module _ (r : Result Piece Refusal) (n k₁ b₁ : ℕ) (e : r ≡ summary (Run level s (node o f))) (q : r ≡ Ok (piece n k₁ b₁)) (x : Result Posts Refusal) (j : Posted s n x) where
+      pub term_unposted : (y : Refusal) → x ≡ Err y → Err y ≡ summary (Run level s (term o at))
       term_unposted y h =
           let (t, g, c, d) = good _ r n k₁ b₁ e q in
           sum_refused (to-node ∙ next_bad _ _ (next_good _ _ g ∙ next_bad _ _ (tails_bad _ t x y (j.around level t) h)))
 
-      module _ (z k₂ : ℕ) (h : x ≡ PostfixEnds.All z k₂) where
+      module _ (z k₂ : ℕ) (h : x ≡ Ok (all_posts z k₂)) where
         pub term_sums : length (toks s) ≤ max_text → (k₁ + k₂ + (f - p) + k ≤ max_text) × (b₁ + b ≤ most * max_text)
         term_sums l =
             let (t, g, c, d) = good _ r n k₁ b₁ e q in
@@ -214,7 +210,7 @@ module _ (level : Level) (s : List ℕ) (w : length s ≤ max_text) (o at : ℕ)
             let i₁ = (signed_end s p f ends).from in
             (omega arith, omega arith)
 
-        pub term_good : Checked.Good z (k₁ + k₂ + (f - p) + k) (b₁ + b) ≡ summary (Run level s (term o at))
+        pub term_good : Ok (piece z (k₁ + k₂ + (f - p) + k) (b₁ + b)) ≡ summary (Run level s (term o at))
         term_good =
             let (t, g, c, d) = good _ r n k₁ b₁ e q in
             let (u, g₁, w₁) = tails_all _ t x z k₂ (j.around level t) h in
@@ -226,21 +222,21 @@ module _ (level : Level) (s : List ℕ) (w : length s ≤ max_text) (o at : ℕ)
 
   -- ---- a node
 
-  pub node_leaf : (a : Bracket) → a ≡ bracket_of s at → a ≡ Nothing → (r : Checked) → r ≡ summary (leaf_at o s at) → r ≡ summary (Run level s (node o at))
+  pub node_leaf : (a : Bracket) → a ≡ bracket_of s at → a ≡ Nothing → (r : Result Piece Refusal) → r ≡ summary (leaf_at o s at) → r ≡ summary (Run level s (node o at))
   node_leaf a e q r h = h ∙ ap summary (sym (was_nothing level s at a e q o))
 
-  pub node_unopened : (a : Bracket) → a ≡ bracket_of s at → a ≡ Unopened → (y : Refusal) → y ≡ because NotAllowed (start s (at + 1)) → Checked.Refused y ≡ summary (Run level s (node o at))
-  node_unopened a e q y z = ap Checked.Refused z ∙ sum_refused ((was_unopened level s at a e q).1 o)
+  pub node_unopened : (a : Bracket) → a ≡ bracket_of s at → a ≡ Unopened → (y : Refusal) → y ≡ because NotAllowed (start s (at + 1)) → Err y ≡ summary (Run level s (node o at))
+  node_unopened a e q y z = ap Err z ∙ sum_refused ((was_unopened level s at a e q).1 o)
 
-  pub node_deep : (p k : ℕ) → bracket_of s at ≡ Bracket.Opens p k → 1024 ≤ o → Checked.Refused (because TooDeep (start s p)) ≡ summary (Run level s (node o at))
+  pub node_deep : (p k : ℕ) → bracket_of s at ≡ Bracket.Opens p k → 1024 ≤ o → Err (because TooDeep (start s p)) ≡ summary (Run level s (node o at))
   node_deep p k e h = sum_refused ((was_open level s at (bracket_of s at) p k refl e).same o ∙ opened_true o s p _ (le-leb max_open o h))
 
-  module _ (p k : ℕ) (v : Bracketed level s at p k) (h : o < 1024) (r : Checked) (e : r ≡ summary (Run level s (expr (o + 1) (p + 1)))) where
-    pub node_refused : (x : Refusal) → r ≡ Checked.Refused x → Checked.Refused x ≡ summary (Run level s (node o at))
+  module _ (p k : ℕ) (v : Bracketed level s at p k) (h : o < 1024) (r : Result Piece Refusal) (e : r ≡ summary (Run level s (expr (o + 1) (p + 1)))) where
+    pub node_refused : (x : Refusal) → r ≡ Err x → Err x ≡ summary (Run level s (node o at))
     node_refused x q = sum_refused (v.same o ∙ opened_false o s p _ (lt-leb max_open o h) ∙ next_bad _ _ (bad _ r x e q))
 
-    module _ (n k₁ b₁ : ℕ) (q : r ≡ Checked.Good n k₁ b₁) (c : Wanted) (f : c ≡ wanted s n 7) where
-      pub node_unclosed : c ≡ Missing → (y : Refusal) → y ≡ because NotAllowed (start s n) → Checked.Refused y ≡ summary (Run level s (node o at))
+    module _ (n k₁ b₁ : ℕ) (q : r ≡ Ok (piece n k₁ b₁)) (c : Option ℕ) (f : c ≡ wanted s n 7) where
+      pub node_unclosed : c ≡ None → (y : Refusal) → y ≡ because NotAllowed (start s n) → Err y ≡ summary (Run level s (node o at))
       node_unclosed g y z =
           let (t, l, a, b) = good _ r n k₁ b₁ e q in
           sum_refused (v.same o ∙ opened_false o s p _ (lt-leb max_open o h) ∙ next_good _ _ l ∙ wanted_off refused s n 7 _ c y f g z)
@@ -250,7 +246,7 @@ module _ (level : Level) (s : List ℕ) (w : length s ≤ max_text) (o at : ℕ)
           let a = expr_ends level s w (o + 1) (p + 1) r n k₁ b₁ e q in
           omega (arith, a.few, a.within, v.from, v.one)
 
-      pub node_closed : (z : ℕ) → c ≡ Here z → Checked.Good z (k₁ + k) b₁ ≡ summary (Run level s (node o at))
+      pub node_closed : (z : ℕ) → c ≡ Some z → Ok (piece z (k₁ + k) b₁) ≡ summary (Run level s (node o at))
       node_closed z g =
           let (t, l, a, b) = good _ r n k₁ b₁ e q in
           let y = v.grown t n in

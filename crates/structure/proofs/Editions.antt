@@ -1,5 +1,6 @@
 -- The editions side by side: the first never gives 15, and another differs from it by 15 alone. The faults of a token agree or the one is 15 (`Adds`),
 -- and so do those of all tokens. Where 15 is given, the fault of the first edition, if it has one, is that of a later token.
+use Rattle.std.specs.Prelude.{Option, Some, None, ℕ, Result, Ok, Err}
 use Prim.Native.Nat.{ℕ, zero, suc, ◌+◌, ◌<◌}
 use mathlib.Core.Path.{◌≡◌, refl, sym, ap, subst, ◌∙◌}
 use mathlib.Core.Logic.{◌⊎◌, inl, inr, ⊎_elim}
@@ -9,15 +10,13 @@ use lib.Dec.{eqb}
 use lib.ListN.{length}
 use Rattle.text.specs.Booleans.{or}
 use Rattle.text.specs.Digits.{decimal_of}
-use Rattle.text.specs.declared.Decimal.{Decimal}
+use Rattle.text.specs.declared.DecimalError.{DecimalError}
 use Rattle.text.proofs.Tests.{lt_or_ge}
 use Rattle.text.proofs.Booleans.{choose_by}
 use Rattle.token.specs.Table.{toks, kind, start, is, word}
 use Rattle.structure.specs.declared.Edition.{Edition}
 use Rattle.structure.specs.declared.Edition.TheVariants.{First, Second}
 use Rattle.structure.specs.declared.Level.{Level}
-use Rattle.structure.specs.declared.Fault.{Fault}
-use Rattle.structure.specs.declared.Fault.TheVariants.{Sound, At}
 use Rattle.structure.specs.declared.Why.TheVariants.{Over, Zero, PeekRange, NotScalar, NotPlain, Above}
 use Rattle.table.specs.Tree.{Span, Rule}
 use Rattle.structure.specs.declared.Refusal.{Refusal}
@@ -29,20 +28,20 @@ use Rattle.structure.proofs.Judged.{choose_both, right_not_wrong}
 use Rattle.structure.proofs.Reasons.{OfValues, faults_why}
 
 -- a fault is another one, or 15
-abbrev Adds : Fault → Fault → Type 0
+abbrev Adds : Option Refusal → Option Refusal → Type 0
 Adds f g = (f ≡ g) ⊎ ((p : ℕ) × (f ≡ fault_by Above p))
 
-or_adds : (f g : Fault) (x y : Unit {0} → Fault) → Adds f g → Adds (x tt) (y tt) → Adds (or_fault f x) (or_fault g y)
-or_adds f Sound x y (inl e) h = rw e h
-or_adds f (At r) x y (inl e) h = rw e (inl refl)
+or_adds : (f g : Option Refusal) (x y : Unit {0} → Option Refusal) → Adds f g → Adds (x tt) (y tt) → Adds (or_fault f x) (or_fault g y)
+or_adds f None x y (inl e) h = rw e h
+or_adds f (Some r) x y (inl e) h = rw e (inl refl)
 or_adds f g x y (inr (p, e)) h = rw e (inr (p, refl))
 
 module _ (edition : Edition) (level : Level) (s : List ℕ) where
-  repeat_adds : (i : ℕ) (d : Decimal) → Adds (repeat_fault edition s i d) (repeat_fault First s i d)
-  repeat_adds i Decimal.NotDigits = inl refl
-  repeat_adds i Decimal.Over = inl refl
-  repeat_adds i (Decimal.Is zero) = inl refl
-  repeat_adds i (Decimal.Is (suc n)) = choose_by (λ (f : Fault). Adds f Sound) (exceeds_in edition s i (suc n)) _ _ (λ e. inr (start s i, refl)) (λ e. inl refl)
+  repeat_adds : (i : ℕ) (d : Result ℕ DecimalError) → Adds (repeat_fault edition s i d) (repeat_fault First s i d)
+  repeat_adds i (Err DecimalError.NotDigits) = inl refl
+  repeat_adds i (Err DecimalError.Over) = inl refl
+  repeat_adds i (Ok zero) = inl refl
+  repeat_adds i (Ok (suc n)) = choose_by (λ (f : Option Refusal). Adds f None) (exceeds_in edition s i (suc n)) _ _ (λ e. inr (start s i, refl)) (λ e. inl refl)
 
   number_adds : (before i : ℕ) → Adds (number_fault edition s before i) (number_fault First s before i)
   number_adds before i = choose_both Adds (or (eqb before 4) (eqb before 22)) _ _ _ _ (λ e. inl refl) (λ e. repeat_adds i (decimal_of 4294967295 (word s i)))

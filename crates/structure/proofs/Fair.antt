@@ -1,5 +1,6 @@
 -- Where no fault is found, the counts of the trees are those that can be printed and read back: each value of a token is fair since it is right,
 -- and the trees have no others.
+use Rattle.std.specs.Prelude.{Some, None, Ok}
 use Prim.Native.Nat.{ℕ, zero, suc, ◌≤◌}
 use mathlib.Core.Path.{◌≡◌, refl, sym, ap, ◌∙◌}
 use mathlib.Core.Bool.{Bool, true, not}
@@ -9,16 +10,13 @@ use native.Mathlib.Omega.{arith}
 use lib.ListN.{length}
 use borrow.Author.Tests.{le-leb, ne_eqb}
 use Rattle.text.specs.Booleans.{choose, and}
-use Rattle.text.specs.declared.Decimal.TheVariants as Decimal
 use Rattle.text.proofs.Booleans.{and_true, and_both, and_one, and_assoc, choose_by, split}
 use Rattle.token.specs.Table.{toks, is, trimmed, word}
 use Rattle.table.specs.Tree.{Span, Atom, text, range, peek_slice, Wrap, plain, node_tag, Tree, leaf, one, two, Rule}
 use Rattle.table.specs.declared.Unary.{Unary}
 use Rattle.table.specs.declared.Unary.TheVariants.{PosPred, NegPred, Opt, Rep, RepOnce, RepExact, RepMin, RepMax, RepMinMax, Push}
-use Rattle.table.specs.declared.End.TheVariants as End
 use Rattle.structure.specs.declared.Edition.{Edition}
 use Rattle.structure.specs.declared.Level.{Level}
-use Rattle.structure.specs.declared.Fault.TheVariants.{Sound}
 use Rattle.structure.specs.Values.{negated, integer_of, faults}
 use Rattle.structure.specs.Structure.{rules, grammar}
 use Rattle.structure.specs.Counts.{small, is_zero, positive, unary_counts, wrap_counts, atom_counts, counted, counted_rules}
@@ -55,7 +53,7 @@ module _ (edition : Edition) (level : Level) (s : List ℕ) (i : ℕ) where
   negated_small zero = omega arith
   negated_small (suc m) = omega arith
 
-  integer_most : (m : ℕ) → integer_of s i ≡ Decimal.Is m → m ≤ 4294967295
+  integer_most : (m : ℕ) → integer_of s i ≡ Ok m → m ≤ 4294967295
   integer_most m e =
       split (is s i 21) _ _ (λ a f. omega (arith, decimal_most 2147483648 m (trimmed s i 1 0) f)) (λ a f. omega (arith, decimal_most 2147483647 m (word s i) f)) e
 
@@ -113,8 +111,8 @@ atom_fair : (a : Atom) → all_fair (atom_values a) ≡ true → atom_counts a �
 unfolding all_fair
 atom_fair (text k b) h = refl
 atom_fair (range x y) h = refl
-atom_fair (peek_slice x End.Open) h = h
-atom_fair (peek_slice x (End.At y)) h = sym (ap (and (small x)) (and_one (small y))) ∙ h
+atom_fair (peek_slice x None) h = h
+atom_fair (peek_slice x (Some y)) h = sym (ap (and (small x)) (and_one (small y))) ∙ h
 
 tree_fair : (t : Tree Span) → all_fair (tree_values t) ≡ true → counted t ≡ true
 unfolding tree_values counted
@@ -134,5 +132,5 @@ rules_fair (r ∷ us) h =
     and_both (counted r.tree) (counted_rules us) (tree_fair r.tree a) (rules_fair us b)
 
 -- every number of the trees is of 32 bits, and no exact count or maximum is 0
-pub sound_counted : (edition : Edition) (level : Level) (s : List ℕ) (us : List (Rule Span)) → grammar level s ≡ rules us → faults edition level s ≡ Sound → counted_rules us ≡ true
+pub sound_counted : (edition : Edition) (level : Level) (s : List ℕ) (us : List (Rule Span)) → grammar level s ≡ rules us → faults edition level s ≡ None → counted_rules us ≡ true
 sound_counted edition level s us e f = rules_fair us (ap all_fair (grammar_values level s us e) ∙ values_fair edition level s (length (toks s)) (sound_right edition level s f))

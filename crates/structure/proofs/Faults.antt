@@ -1,4 +1,5 @@
 -- The paths of the walk over values.
+use Rattle.std.specs.Prelude.{ℕ, Option, Some, None, Result, Ok, Err}
 use Prim.Native.Nat.{ℕ, zero, suc, ◌+◌, ◌-◌, ◌≤◌, ◌<◌}
 use mathlib.Core.Path.{◌≡◌, refl, sym, ap, ◌∙◌}
 use mathlib.Core.Bool.{Bool, true, false}
@@ -12,35 +13,28 @@ use borrow.Author.Tests.{eq-eqb, ne_eqb, ltb-true, ltb-false, le-ltb, lt-ltb}
 use Rattle.text.specs.Booleans.{choose, and, or}
 use Rattle.text.specs.Digits.{decimal_of}
 use Rattle.text.specs.Scans.{later}
-use Rattle.text.specs.declared.Decimal.{Decimal}
-use Rattle.text.specs.declared.Scan.{Scan}
+use Rattle.text.specs.declared.DecimalError.{DecimalError}
 use Rattle.text.proofs.Booleans.{and_true, and_both, and_first, and_second, choose_false, choose_true, or_first, or_neither, or_second}
 use Rattle.literal.specs.Escapes.{escape_look, bad_escape}
 use Rattle.token.proofs.Bounds.{stop_at}
 use Rattle.token.specs.Table.{toks, kind, start, end, is, between, word}
-use Rattle.token.specs.Tokens.{push_literal}
 use Rattle.token.proofs.Table.{part_is, word_is}
-use Rattle.structure.proofs.Bytes.{inside_of}
 use Rattle.structure.specs.declared.Edition.{Edition}
 use Rattle.structure.specs.declared.Edition.TheVariants.{First, Second}
 use Rattle.structure.specs.declared.Level.{Level}
-use Rattle.structure.specs.declared.Level.TheVariants.{Plain}
-use Rattle.structure.specs.declared.Fault.{Fault}
-use Rattle.structure.specs.declared.Fault.TheVariants.{Sound, At}
-use Rattle.structure.specs.declared.Why.TheVariants.{Over, Zero, PeekRange, NotScalar, NotPlain, Above}
+use Rattle.structure.specs.declared.Why.TheVariants.{Zero}
 use Rattle.structure.specs.declared.Refusal.{Refusal}
 use Rattle.structure.specs.Refusals.{because}
-use Rattle.structure.specs.Tokens.{spells}
 use Rattle.structure.specs.Values.{value_of, number, integer_of, opening, literal_bytes, over_most, exceeds, exceeds_in, above_fault, repeat_fault, peek_fault, literal_fault, word_fault, number_fault, fault_at, or_fault, faults_from, faults}
 use Rattle.structure.proofs.Steps.{is_kind, sees, misses, another}
 use Rattle.structure.proofs.Sizes.{part_short}
 
 -- ---- numbers
 
-pub number_is : (s : List ℕ) (i a z limit : ℕ) (r : Decimal) → a ≡ start s i → z ≡ end s i → r ≡ decimal_of limit (take (z - a) (drop a s)) → r ≡ decimal_of limit (word s i)
+pub number_is : (s : List ℕ) (i a z limit : ℕ) (r : Result ℕ DecimalError) → a ≡ start s i → z ≡ end s i → r ≡ decimal_of limit (take (z - a) (drop a s)) → r ≡ decimal_of limit (word s i)
 number_is s i a z limit r e f g = g ∙ ap (decimal_of limit) (part_is s a z ∙ word_is s i a z e f)
 
-module _ (s : List ℕ) (i x : ℕ) (e : x ≡ kind s i) (a z : ℕ) (f : a ≡ start s i) (g : z ≡ end s i) (r : Decimal) where
+module _ (s : List ℕ) (i x : ℕ) (e : x ≡ kind s i) (a z : ℕ) (f : a ≡ start s i) (g : z ≡ end s i) (r : Result ℕ DecimalError) where
   pub integer_negative : x ≡ 21 → r ≡ decimal_of 2147483648 (take (z - (a + 1)) (drop (a + 1) s)) → r ≡ integer_of s i
   integer_negative q h =
       let y : a + 1 ≡ start s i + 1 = omega arith in
@@ -50,48 +44,36 @@ module _ (s : List ℕ) (i x : ℕ) (e : x ≡ kind s i) (a z : ℕ) (f : a ≡ 
   pub integer_positive : (x ≡ 21 → ⊥) → r ≡ decimal_of 2147483647 (take (z - a) (drop a s)) → r ≡ integer_of s i
   integer_positive q h = number_is s i a z 2147483647 r f g h ∙ sym (choose_false (is s i 21) _ _ (misses s i x 21 e q))
 
-module _ (s : List ℕ) (i : ℕ) (d r : Decimal) (e : d ≡ r) where
-  pub peek_fits : (n : ℕ) → d ≡ Decimal.Is n → Sound ≡ peek_fault s i r
+module _ (s : List ℕ) (i : ℕ) (d r : Result ℕ DecimalError) (e : d ≡ r) where
+  pub peek_fits : (n : ℕ) → d ≡ Ok n → None ≡ peek_fault s i r
   peek_fits n q = sym (ap (peek_fault s i) (sym e ∙ q))
 
-  pub peek_over : d ≡ Decimal.Over → (y : Refusal) → y ≡ because PeekRange (start s i) → At y ≡ peek_fault s i r
-  peek_over q y z = ap At z ∙ sym (ap (peek_fault s i) (sym e ∙ q))
-
-  pub peek_other : d ≡ Decimal.NotDigits → Sound ≡ peek_fault s i r
-  peek_other q = sym (ap (peek_fault s i) (sym e ∙ q))
-
-module _ (edition : Edition) (s : List ℕ) (i : ℕ) (d r : Decimal) (e : d ≡ r) where
-  pub repeat_other : d ≡ Decimal.NotDigits → Sound ≡ repeat_fault edition s i r
-  repeat_other q = sym (ap (repeat_fault edition s i) (sym e ∙ q))
-
-  pub repeat_over : d ≡ Decimal.Over → (y : Refusal) → y ≡ because Over (start s i) → At y ≡ repeat_fault edition s i r
-  repeat_over q y z = ap At z ∙ sym (ap (repeat_fault edition s i) (sym e ∙ q))
-
-  some_count : (n : ℕ) → (n ≡ 0 → ⊥) → above_fault edition s i n ≡ repeat_fault edition s i (Decimal.Is n)
+module _ (edition : Edition) (s : List ℕ) (i : ℕ) (d r : Result ℕ DecimalError) (e : d ≡ r) where
+  some_count : (n : ℕ) → (n ≡ 0 → ⊥) → above_fault edition s i n ≡ repeat_fault edition s i (Ok n)
   some_count zero h = absurd (h refl)
   some_count (suc n) h = refl
 
-  zero_count : (n : ℕ) → n ≡ 0 → repeat_fault edition s i (Decimal.Is n) ≡ choose (is s (i + 1) 3) (λ u. At (because Zero (start s i))) (λ u. Sound)
-  zero_count n h = ap (λ (k : ℕ). repeat_fault edition s i (Decimal.Is k)) h
+  zero_count : (n : ℕ) → n ≡ 0 → repeat_fault edition s i (Ok n) ≡ choose (is s (i + 1) 3) (λ u. Some (because Zero (start s i))) (λ u. None)
+  zero_count n h = ap (λ (k : ℕ). repeat_fault edition s i (Ok k)) h
 
-  module _ (n : ℕ) (q : d ≡ Decimal.Is n) where
-    pub repeat_some : (n ≡ 0 → ⊥) → (f : Fault) → f ≡ above_fault edition s i n → f ≡ repeat_fault edition s i r
+  module _ (n : ℕ) (q : d ≡ Ok n) where
+    pub repeat_some : (n ≡ 0 → ⊥) → (f : Option Refusal) → f ≡ above_fault edition s i n → f ≡ repeat_fault edition s i r
     repeat_some h f g = g ∙ some_count n h ∙ sym (ap (repeat_fault edition s i) (sym e ∙ q))
 
     module _ (h : n ≡ 0) (x : ℕ) (f : x ≡ kind s (i + 1)) where
-      pub repeat_zero : x ≡ 3 → (y : Refusal) → y ≡ because Zero (start s i) → At y ≡ repeat_fault edition s i r
-      repeat_zero g y z = ap At z ∙ sym (ap (repeat_fault edition s i) (sym e ∙ q) ∙ zero_count n h ∙ choose_true (is s (i + 1) 3) _ _ (sees s (i + 1) x 3 f g))
+      pub repeat_zero : x ≡ 3 → (y : Refusal) → y ≡ because Zero (start s i) → Some y ≡ repeat_fault edition s i r
+      repeat_zero g y z = ap Some z ∙ sym (ap (repeat_fault edition s i) (sym e ∙ q) ∙ zero_count n h ∙ choose_true (is s (i + 1) 3) _ _ (sees s (i + 1) x 3 f g))
 
-      pub repeat_least : (x ≡ 3 → ⊥) → Sound ≡ repeat_fault edition s i r
+      pub repeat_least : (x ≡ 3 → ⊥) → None ≡ repeat_fault edition s i r
       repeat_least g = sym (ap (repeat_fault edition s i) (sym e ∙ q) ∙ zero_count n h ∙ choose_false (is s (i + 1) 3) _ _ (misses s (i + 1) x 3 f g))
 
 -- ---- a count and the maximum behind it
 
 -- 0 is above none
-none_above : (d : Decimal) → over_most 0 d ≡ false
-none_above (Decimal.Is m) = and_second (ltb 0 m) (ltb m 0) (le-ltb m 0 (omega arith))
-none_above Decimal.Over = refl
-none_above Decimal.NotDigits = refl
+none_above : (d : Result ℕ DecimalError) → over_most 0 d ≡ false
+none_above (Ok m) = and_second (ltb 0 m) (ltb m 0) (le-ltb m 0 (omega arith))
+none_above (Err DecimalError.Over) = refl
+none_above (Err DecimalError.NotDigits) = refl
 
 pub zero_least : (edition : Edition) (s : List ℕ) (i : ℕ) → exceeds_in edition s i 0 ≡ false
 zero_least First s i = refl
@@ -103,15 +85,15 @@ alone First s i n e = refl
 alone Second s i n e = and_first (is s (i + 1) 15) _ (another s (i + 1) (kind s (i + 1)) 3 15 refl (is_kind s (i + 1) 3 e) (λ q. omega arith))
 
 -- by the values: what a count exceeds isn't 0, and is less
-over_above : (n : ℕ) (d : Decimal) → over_most n d ≡ true → (1 ≤ value_of d) × (value_of d < n)
-over_above n (Decimal.Is m) e = let (a, b) = and_true (ltb 0 m) (ltb m n) e in (omega (arith, ltb-true 0 m a), ltb-true m n b)
-over_above n Decimal.Over e = let z : ◌≡◌ {A = ℕ} 0 1 = cc in absurd (omega arith)
-over_above n Decimal.NotDigits e = let z : ◌≡◌ {A = ℕ} 0 1 = cc in absurd (omega arith)
+over_above : (n : ℕ) (d : Result ℕ DecimalError) → over_most n d ≡ true → (1 ≤ value_of d) × (value_of d < n)
+over_above n (Ok m) e = let (a, b) = and_true (ltb 0 m) (ltb m n) e in (omega (arith, ltb-true 0 m a), ltb-true m n b)
+over_above n (Err DecimalError.Over) e = let z : ◌≡◌ {A = ℕ} 0 1 = cc in absurd (omega arith)
+over_above n (Err DecimalError.NotDigits) e = let z : ◌≡◌ {A = ℕ} 0 1 = cc in absurd (omega arith)
 
-over_not : (n : ℕ) (d : Decimal) → over_most n d ≡ false → 1 ≤ value_of d → n ≤ value_of d
-over_not n (Decimal.Is m) e l = ltb-false m n (sym (ap (λ (t : Bool). and t (ltb m n)) (lt-ltb 0 m (omega arith))) ∙ e)
-over_not n Decimal.Over e l = absurd (omega arith)
-over_not n Decimal.NotDigits e l = absurd (omega arith)
+over_not : (n : ℕ) (d : Result ℕ DecimalError) → over_most n d ≡ false → 1 ≤ value_of d → n ≤ value_of d
+over_not n (Ok m) e l = ltb-false m n (sym (ap (λ (t : Bool). and t (ltb m n)) (lt-ltb 0 m (omega arith))) ∙ e)
+over_not n (Err DecimalError.Over) e l = absurd (omega arith)
+over_not n (Err DecimalError.NotDigits) e l = absurd (omega arith)
 
 pub exceeds_above : (edition : Edition) (s : List ℕ) (i n : ℕ) → exceeds_in edition s i n ≡ true
     → (edition ≡ Second) × (and (is s (i + 1) 15) (is s (i + 2) 20) ≡ true) × (1 ≤ number s (i + 2)) × (number s (i + 2) < n)
@@ -140,33 +122,19 @@ module _ (s : List ℕ) (i n x : ℕ) (e : x ≡ kind s (i + 1)) where
     pub no_number : (y ≡ 20 → ⊥) → false ≡ exceeds s i n
     no_number g = sym (and_second (is s (i + 1) 15) _ (and_first (is s (i + 2) 20) _ (misses s (i + 2) y 20 f g)))
 
-    module _ (g : y ≡ 20) (d : Decimal) (q : d ≡ decimal_of 4294967295 (word s (i + 2))) where
-      pub most_is : (b : Bool) (z : Decimal) → d ≡ z → b ≡ over_most n z → b ≡ exceeds s i n
+    module _ (g : y ≡ 20) (d : Result ℕ DecimalError) (q : d ≡ decimal_of 4294967295 (word s (i + 2))) where
+      pub most_is : (b : Bool) (z : Result ℕ DecimalError) → d ≡ z → b ≡ over_most n z → b ≡ exceeds s i n
       most_is b z w v =
           v ∙ ap (over_most n) (sym w ∙ q)
           ∙ sym (ap (λ (t : Bool). and t (and (is s (i + 2) 20) (over_most n (decimal_of 4294967295 (word s (i + 2)))))) (sees s (i + 1) x 15 e h)
           ∙ ap (λ (t : Bool). and t (over_most n (decimal_of 4294967295 (word s (i + 2))))) (sees s (i + 2) y 20 f g))
 
-pub most_zero : (n m : ℕ) → m ≡ 0 → false ≡ over_most n (Decimal.Is m)
-most_zero n m e = sym (and_first (ltb 0 m) (ltb m n) (le-ltb 0 m (omega arith)))
-
-pub most_some : (n m : ℕ) → (m ≡ 0 → ⊥) → ltb m n ≡ over_most n (Decimal.Is m)
+pub most_some : (n m : ℕ) → (m ≡ 0 → ⊥) → ltb m n ≡ over_most n (Ok m)
 most_some n m h = sym (ap (λ (t : Bool). and t (ltb m n)) (lt-ltb 0 m (omega arith)))
-
-module _ (edition : Edition) (s : List ℕ) (i n : ℕ) where
-  pub first_sound : edition ≡ First → Sound ≡ above_fault edition s i n
-  first_sound q = sym (ap (λ (o : Edition). above_fault o s i n) q)
-
-  module _ (q : edition ≡ Second) (b : Bool) (e : b ≡ exceeds s i n) where
-    pub is_above_lem : b ≡ true → (y : Refusal) → y ≡ because Above (start s i) → At y ≡ above_fault edition s i n
-    is_above_lem h y z = ap At z ∙ sym (ap (λ (o : Edition). above_fault o s i n) q ∙ choose_true (exceeds s i n) _ _ (sym e ∙ h))
-
-    pub not_above : b ≡ false → Sound ≡ above_fault edition s i n
-    not_above h = sym (ap (λ (o : Edition). above_fault o s i n) q ∙ choose_false (exceeds s i n) _ _ (sym e ∙ h))
 
 -- ---- by what stands before
 
-module _ (edition : Edition) (s : List ℕ) (before i : ℕ) (r : Fault) where
+module _ (edition : Edition) (s : List ℕ) (before i : ℕ) (r : Option Refusal) where
   pub number_after_bracket : before ≡ 4 → r ≡ peek_fault s i (integer_of s i) → r ≡ number_fault edition s before i
   number_after_bracket q h = h ∙ sym (choose_true (or (eqb before 4) (eqb before 22)) _ _ (or_first (eqb before 4) (eqb before 22) (eq-eqb before 4 q)))
 
@@ -180,39 +148,22 @@ module _ (edition : Edition) (s : List ℕ) (before i : ℕ) (r : Fault) where
   pub number_repeats : (before ≡ 4 → ⊥) → (before ≡ 22 → ⊥) → r ≡ repeat_fault edition s i (decimal_of 4294967295 (word s i)) → r ≡ number_fault edition s before i
   number_repeats q p h = h ∙ sym (choose_false (or (eqb before 4) (eqb before 22)) _ _ (or_neither (eqb before 4) (eqb before 22) (ne_eqb before 4 q) (ne_eqb before 22 p)))
 
--- ---- words
-
-module _ (level : Level) (s : List ℕ) (i : ℕ) (q : level ≡ Plain) (b : Bool) (e : b ≡ spells push_literal s i) where
-  pub word_pushed : b ≡ true → (y : Refusal) → y ≡ because NotPlain (start s i) → At y ≡ word_fault level s i
-  word_pushed h y z = ap At z ∙ sym (ap (λ (l : Level). word_fault l s i) q ∙ choose_true (spells push_literal s i) _ _ (sym e ∙ h))
-
-  pub word_plain : b ≡ false → Sound ≡ word_fault level s i
-  word_plain h = sym (ap (λ (l : Level). word_fault l s i) q ∙ choose_false (spells push_literal s i) _ _ (sym e ∙ h))
-
 -- ---- literals
 
 -- a bad escape stands inside
-bad_in : (xs : List ℕ) (k : ℕ) → bad_escape xs ≡ Scan.StopsAt k → k < length xs
+bad_in : (xs : List ℕ) (k : ℕ) → bad_escape xs ≡ Some k → k < length xs
 unfolding bad_escape
 bad_in xs k e =
-    let (n, f, g, h) = stop_at escape_look xs 0 k (ap (later 0) e ∙ ap Scan.StopsAt (zero-add k)) in
+    let (n, f, g, h) = stop_at escape_look xs 0 k (ap (later 0) e ∙ ap Some (zero-add k)) in
     omega arith
 
-module _ (s : List ℕ) (i n a z : ℕ) (e : n ≡ opening s i) (f : a ≡ start s i + n) (g : z ≡ end s i - 1) (r : Scan) (h : r ≡ bad_escape (between s a z)) where
-  pub literal_sound : r ≡ Scan.Through → Sound ≡ literal_fault s i (bad_escape (literal_bytes s i))
-  literal_sound q = sym (ap (literal_fault s i) (ap bad_escape (sym (inside_of s i n a z e f g)) ∙ sym h ∙ q))
-
-  pub literal_bad : (k : ℕ) → r ≡ Scan.StopsAt k → At (because NotScalar (a + k)) ≡ literal_fault s i (bad_escape (literal_bytes s i))
-  literal_bad k q =
-      let y : a + k ≡ start s i + opening s i + k = omega arith in
-      ap (λ (n : ℕ). At (because NotScalar n)) y ∙ sym (ap (literal_fault s i) (ap bad_escape (sym (inside_of s i n a z e f g)) ∙ sym h ∙ q))
-
-  pub literal_low : (k : ℕ) → r ≡ Scan.StopsAt k → k < length s
+module _ (s : List ℕ) (i n a z : ℕ) (e : n ≡ opening s i) (f : a ≡ start s i + n) (g : z ≡ end s i - 1) (r : Option ℕ) (h : r ≡ bad_escape (between s a z)) where
+  pub literal_low : (k : ℕ) → r ≡ Some k → k < length s
   literal_low k q = let m = bad_in (between s a z) k (sym h ∙ q) in let l = part_short s a z in omega arith
 
 -- ---- a token's value
 
-module _ (edition : Edition) (level : Level) (s : List ℕ) (before i x : ℕ) (e : x ≡ kind s i) (r : Fault) where
+module _ (edition : Edition) (level : Level) (s : List ℕ) (before i x : ℕ) (e : x ≡ kind s i) (r : Option Refusal) where
   pub value_word : x ≡ 18 → r ≡ word_fault level s i → r ≡ fault_at edition level s before i
   unfolding fault_at
   value_word q h = h ∙ sym (choose_true (is s i 18) _ _ (sees s i x 18 e q))
@@ -250,7 +201,7 @@ module _ (edition : Edition) (level : Level) (s : List ℕ) (before i x : ℕ) (
   value_quoted (inl q) h = value_string q h
   value_quoted (inr q) h = value_character q h
 
-  pub value_none : (x ≡ 18 → ⊥) → (x ≡ 20 → ⊥) → (x ≡ 21 → ⊥) → (x ≡ 23 → ⊥) → (x ≡ 24 → ⊥) → (x ≡ 25 → ⊥) → Sound ≡ fault_at edition level s before i
+  pub value_none : (x ≡ 18 → ⊥) → (x ≡ 20 → ⊥) → (x ≡ 21 → ⊥) → (x ≡ 23 → ⊥) → (x ≡ 24 → ⊥) → (x ≡ 25 → ⊥) → None ≡ fault_at edition level s before i
   unfolding fault_at
   value_none a b c d f g =
       sym (choose_false (is s i 18) _ _ (misses s i x 18 e a) ∙ choose_false (is s i 20) _ _ (misses s i x 20 e b) ∙ choose_false (is s i 21) _ _ (misses s i x 21 e c)
@@ -272,23 +223,23 @@ module _ (edition : Edition) (level : Level) (s : List ℕ) where
   unfolding faults_from
   one-fault before i k = refl
 
-  module _ (before i : ℕ) (h : i < length (toks s)) (v : FaultInv before i) (y : Fault) (e : y ≡ fault_at edition level s before i) where
+  module _ (before i : ℕ) (h : i < length (toks s)) (v : FaultInv before i) (y : Option Refusal) (e : y ≡ fault_at edition level s before i) where
     first : faults edition level s ≡ or_fault y (λ u. faults_from edition level s (kind s i) (i + 1) (length (toks s) - (i + 1)))
     first =
         let z : length (toks s) - i ≡ suc (length (toks s) - (i + 1)) = omega arith in
-        v.same ∙ ap (faults_from edition level s before i) z ∙ one-fault before i (length (toks s) - (i + 1)) ∙ ap (λ (f : Fault). or_fault f (λ u. faults_from edition level s (kind s i) (i + 1) (length (toks s) - (i + 1)))) (sym e)
+        v.same ∙ ap (faults_from edition level s before i) z ∙ one-fault before i (length (toks s) - (i + 1)) ∙ ap (λ (f : Option Refusal). or_fault f (λ u. faults_from edition level s (kind s i) (i + 1) (length (toks s) - (i + 1)))) (sym e)
 
-    pub faults_more : y ≡ Sound → (k : ℕ) → k ≡ kind s i → FaultInv k (i + 1)
+    pub faults_more : y ≡ None → (k : ℕ) → k ≡ kind s i → FaultInv k (i + 1)
     faults_more q k f = record {
       within = omega arith;
       same =
-          first ∙ ap (λ (f : Fault). or_fault f (λ u. faults_from edition level s (kind s i) (i + 1) (length (toks s) - (i + 1)))) q
+          first ∙ ap (λ (f : Option Refusal). or_fault f (λ u. faults_from edition level s (kind s i) (i + 1) (length (toks s) - (i + 1)))) q
           ∙ ap (λ (j : ℕ). faults_from edition level s j (i + 1) (length (toks s) - (i + 1))) (sym f);
     }
 
-    pub faults_stop : (x : Fault) → ((f : Unit {0} → Fault) → or_fault x f ≡ x) → y ≡ x → x ≡ faults edition level s
-    faults_stop x g q = sym (first ∙ ap (λ (f : Fault). or_fault f (λ u. faults_from edition level s (kind s i) (i + 1) (length (toks s) - (i + 1)))) q ∙ g _)
+    pub faults_stop : (x : Option Refusal) → ((f : Unit {0} → Option Refusal) → or_fault x f ≡ x) → y ≡ x → x ≡ faults edition level s
+    faults_stop x g q = sym (first ∙ ap (λ (f : Option Refusal). or_fault f (λ u. faults_from edition level s (kind s i) (i + 1) (length (toks s) - (i + 1)))) q ∙ g _)
 
-  pub faults_none : (before i : ℕ) → length (toks s) ≤ i → FaultInv before i → Sound ≡ faults edition level s
+  pub faults_none : (before i : ℕ) → length (toks s) ≤ i → FaultInv before i → None ≡ faults edition level s
   unfolding faults_from
   faults_none before i h v = let z : length (toks s) - i ≡ 0 = omega arith in sym (v.same ∙ ap (faults_from edition level s before i) z)

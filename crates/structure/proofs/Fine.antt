@@ -1,23 +1,20 @@
 -- What is read is fine: of a text of UTF-8 whose literals mean characters, as they do where no value is at fault, every rule that is read passes the check of tables.
 -- By descent: a call hands on what is fine if what it was handed is (`Given`). No leaf but a word, a string and a range can be at fault.
+use Rattle.std.specs.Prelude.{ℕ, Option, Some, None}
 use Prim.Native.Nat.{ℕ, ◌+◌, ◌-◌}
 use mathlib.Core.Path.{◌≡◌, refl, ap, ◌∙◌}
 use mathlib.Core.Bool.{Bool, true, false, not}
 use mathlib.Core.List.{List, ◌∷◌}
-use mathlib.Core.Option.{Option, none, some}
 use native.Mathlib.Omega.{arith}
 use lib.Dec.{leb}
 use Rattle.text.specs.Booleans.{and, or}
 use Rattle.text.specs.Words.{is_word, begins, push, word_of}
 use Rattle.text.specs.Utf8.{scalar, char_of, first_bad}
 use Rattle.text.specs.Scans.{sought}
-use Rattle.text.specs.declared.Scan.TheVariants.{Through}
-use Rattle.text.specs.declared.Sequence.{Sequence}
 use Rattle.text.proofs.Booleans.{and_both, and_true, choose_by, or_by, or_first, or_second, split}
 use Rattle.text.proofs.Decodes.{decoded}
 use Rattle.text.proofs.Walks.{later_zero}
 use Rattle.literal.specs.Escapes.{escape_of, escape_look, bad_escape}
-use Rattle.literal.specs.declared.Escape.{Escape}
 use Rattle.literal.proofs.Escaped.{meant, good_scalar}
 use Rattle.literal.proofs.Meanings.{unescaped_utf8}
 use Rattle.token.specs.Table.{start, end, is, word, label}
@@ -28,7 +25,6 @@ use Rattle.table.specs.declared.Join.TheVariants.{Seq}
 use Rattle.structure.specs.declared.Edition.{Edition}
 use Rattle.structure.specs.declared.Level.{Level}
 use Rattle.structure.specs.declared.Level.TheVariants.{Tagged, Plain}
-use Rattle.structure.specs.declared.Fault.TheVariants.{Sound}
 use Rattle.structure.specs.Tokens.{spells}
 use Rattle.structure.specs.Values.{is_integer, literal_bytes, string, raw_char, char_by, character, faults}
 use Rattle.structure.specs.Held.{single, bytes, value_by}
@@ -43,10 +39,10 @@ use Rattle.structure.proofs.Spelled.{word_spelled, no_push, label_spelled, strin
 
 -- every literal of a text means characters
 abbrev pub Characters : List ℕ → Type 0
-Characters s = (i : ℕ) → or (is s i 23) (or (is s i 24) (is s i 25)) ≡ true → bad_escape (literal_bytes s i) ≡ Through
+Characters s = (i : ℕ) → or (is s i 23) (or (is s i 24) (is s i 25)) ≡ true → bad_escape (literal_bytes s i) ≡ None
 
 -- as where no value is at fault
-pub sound_characters : (edition : Edition) (level : Level) (s : List ℕ) → faults edition level s ≡ Sound → Characters s
+pub sound_characters : (edition : Edition) (level : Level) (s : List ℕ) → faults edition level s ≡ None → Characters s
 unfolding value_by
 sound_characters edition level s e i d =
     or_by (is s i 23) _ d (λ a. sound_right edition level s e i (inside_is s i 23 (omega arith) a) (bytes (string s i)) (value_is s i 23 a))
@@ -55,7 +51,7 @@ sound_characters edition level s e i d =
 
 -- ---- texts and characters
 
-utf8_fine : (b : List ℕ) → first_bad b ≡ Through → is_utf8 b ≡ true
+utf8_fine : (b : List ℕ) → first_bad b ≡ None → is_utf8 b ≡ true
 unfolding is_utf8
 utf8_fine b e = ap is_through e
 
@@ -67,17 +63,17 @@ label_fine : (b : List ℕ) → is_word b ≡ true → is_label b ≡ true
 unfolding is_label word_of
 label_fine b w = rw w (choose_by (λ x. Check.may_tag x ≡ true) (begins push b) _ _ (λ e. refl) (λ e. refl))
 
-raw_scalar : (xs : List ℕ) (r : Sequence) → char_of xs ≡ r → scalar (raw_char r) ≡ true
+raw_scalar : (xs : List ℕ) (r : Option (ℕ × ℕ)) → char_of xs ≡ r → scalar (raw_char r) ≡ true
 unfolding scalar
-raw_scalar xs (Sequence.Is c n) e = (decoded xs c n e).good
-raw_scalar xs Sequence.Broken e = refl
+raw_scalar xs (Some (c, n)) e = (decoded xs c n e).good
+raw_scalar xs None e = refl
 
-char_scalar : (xs : List ℕ) (r : Escape) → bad_escape xs ≡ Through → escape_of xs ≡ r → scalar (char_by r xs) ≡ true
+char_scalar : (xs : List ℕ) (r : Option (ℕ × ℕ)) → bad_escape xs ≡ None → escape_of xs ≡ r → scalar (char_by r xs) ≡ true
 unfolding bad_escape
-char_scalar xs (Escape.Means c n) b e =
+char_scalar xs (Some (c, n)) b e =
     let m = meant xs c n e in
     good_scalar xs 0 (omega (arith, m.two, m.inside)) c n (later_zero (sought escape_look 0 xs) ∙ b) e
-char_scalar xs Escape.Plain b e = raw_scalar xs (char_of xs) refl
+char_scalar xs None b e = raw_scalar xs (char_of xs) refl
 
 -- ---- trees
 
@@ -89,8 +85,8 @@ fine_placed p (two s j a b) = refl
 
 fine_closed : (c : Option (Tree Span)) (l r : Tree Span) → fine (closed c l) ≡ true → fine r ≡ true → fine (closed c (join Seq l r)) ≡ true
 unfolding fine closed join
-fine_closed none l r g h = and_both (fine l) (fine r) g h
-fine_closed (some c) l r g h =
+fine_closed None l r g h = and_both (fine l) (fine r) g h
+fine_closed (Some c) l r g h =
     let (a, b) = and_true (fine c) (fine l) g in
     and_both (fine c) (and (fine l) (fine r)) a (and_both (fine l) (fine r) b h)
 
@@ -102,7 +98,7 @@ fine_tag Plain a b t l h = h
 fine_got : {x t : Tree Span} {i n : ℕ} → got x i ≡ got t n → fine x ≡ true → fine t ≡ true
 fine_got {x} {t} e h = let z : x ≡ t = cc in rw z at h
 
-module _ (s : List ℕ) (u : first_bad s ≡ Through) (scalars : Characters s) where
+module _ (s : List ℕ) (u : first_bad s ≡ None) (scalars : Characters s) where
   string_fine : (i : ℕ) → is s i 23 ≡ true → is_utf8 (string s i) ≡ true
   unfolding string
   string_fine i e = utf8_fine _ (unescaped_utf8 (literal_bytes s i) (string_inside s i u e) (scalars i (or_first (is s i 23) (or (is s i 24) (is s i 25)) e)))
@@ -157,12 +153,12 @@ module _ (s : List ℕ) (u : first_bad s ≡ Through) (scalars : Characters s) w
     unfolding body fine closed join prefixed postfixed starts_at ends_at
     step go h (expr o at) t n e g =
         let (x, i, p, q) = next_got (go (term o at)) _ e in
-        h (chain o none x i) t n q (h (term o at) x i p tt)
+        h (chain o None x i) t n q (h (term o at) x i p tt)
     step go h (chain o c l at) t n e g =
         split (is s at 10) _ _
         (λ v w. let (x, i, p, q) = next_got (go (term o (at + 1))) _ w in h (chain o c (join Seq l x) i) t n q (fine_closed c l x g (h (term o (at + 1)) x i p tt)))
         (λ v. split (is s at 11) _ _
-        (λ v w. let (x, i, p, q) = next_got (go (term o (at + 1))) _ w in h (chain o (some (closed c l)) x i) t n q (and_both (fine (closed c l)) (fine x) g (h (term o (at + 1)) x i p tt)))
+        (λ v w. let (x, i, p, q) = next_got (go (term o (at + 1))) _ w in h (chain o (Some (closed c l)) x i) t n q (and_both (fine (closed c l)) (fine x) g (h (term o (at + 1)) x i p tt)))
         (λ v w. fine_got w g)) e
     step go h (term o at) t n e g =
         split (is s at 19) _ _
@@ -224,5 +220,5 @@ module _ (s : List ℕ) (u : first_bad s ≡ Through) (scalars : Characters s) w
     grammar_fine us e = all_rules level s (λ at us. fine_rules us ≡ true) (λ at. refl) (λ at us h. h) more_fine us e
 
 -- of a text of UTF-8 whose values are sound
-pub sound_fine : (edition : Edition) (level : Level) (s : List ℕ) (us : List (Rule Span)) → first_bad s ≡ Through → grammar level s ≡ rules us → faults edition level s ≡ Sound → fine_rules us ≡ true
+pub sound_fine : (edition : Edition) (level : Level) (s : List ℕ) (us : List (Rule Span)) → first_bad s ≡ None → grammar level s ≡ rules us → faults edition level s ≡ None → fine_rules us ≡ true
 sound_fine edition level s us u e f = grammar_fine s u (sound_characters edition level s f) level us e

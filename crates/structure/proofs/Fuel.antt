@@ -1,9 +1,9 @@
 -- Where a reading ends and what it adds, and that more fuel than enough changes nothing: `law`.
+use Rattle.std.specs.Prelude.{Some, None, Option}
 use Prim.Native.Nat.{ℕ, zero, suc, ◌+◌, ◌-◌, ◌*◌, ◌≤◌, ◌<◌, max}
 use mathlib.Core.Path.{◌≡◌, refl, sym, ap, ◌∙◌}
 use mathlib.Core.Bool.{Bool, true, false}
 use mathlib.Core.List.{List}
-use mathlib.Core.Option.{Option, none, some}
 use native.Mathlib.Omega.{arith}
 use lib.ListN.{length}
 use Rattle.text.specs.Booleans.{choose}
@@ -17,7 +17,6 @@ use Rattle.table.specs.declared.Join.TheVariants.{Seq}
 use Rattle.table.specs.declared.Unary.{Unary}
 use Rattle.table.specs.declared.Unary.TheVariants.{PosPred, NegPred, Push}
 use Rattle.table.specs.declared.Sort.TheVariants.{Str, Insens, Ident, PushLiteral}
-use Rattle.table.specs.declared.End.TheVariants.{Open, At}
 use Rattle.structure.specs.declared.Level.{Level}
 use Rattle.structure.specs.Tokens.{across, spells}
 use Rattle.structure.specs.Values.{is_integer, integer, string, character}
@@ -89,8 +88,8 @@ module _ (s : List ℕ) (at : ℕ) where
   unfolding slice_to
   slice_to_lem from i h e =
       split (is_integer s i) _ _
-      (λ a e₀. let (b, p, e₁) = want_got s (i + 1) 5 _ (omega arith) e₀ in leaf_is s at (i + 1 + 1) (across s at (i + 1)) (peek_slice from (At (integer s i))) (omega arith) (omega arith) (λ w. omega arith) e₁)
-      (λ a e₀. let (b, p, e₁) = want_got s i 5 _ (omega arith) e₀ in leaf_is s at (i + 1) (across s at i) (peek_slice from Open) (omega arith) (omega arith) (λ w. omega arith) e₁) e
+      (λ a e₀. let (b, p, e₁) = want_got s (i + 1) 5 _ (omega arith) e₀ in leaf_is s at (i + 1 + 1) (across s at (i + 1)) (peek_slice from (Some (integer s i))) (omega arith) (omega arith) (λ w. omega arith) e₁)
+      (λ a e₀. let (b, p, e₁) = want_got s i 5 _ (omega arith) e₀ in leaf_is s at (i + 1) (across s at i) (peek_slice from None) (omega arith) (omega arith) (λ w. omega arith) e₁) e
 
   slice_leaf : (i : ℕ) {t : Tree Span} {n : ℕ} → at ≤ i → slice s at i ≡ got t n → Leaf s at t n
   unfolding slice
@@ -249,7 +248,7 @@ module _ (level : Level) (s : List ℕ) where
     body_went (expr o at) t n e =
         let (u, i, e₁, e₂) = next_got _ _ e in
         let p = ih (term o at) u i e₁ in
-        let q = ih (chain o none u i) t n e₂ in
+        let q = ih (chain o None u i) t n e₂ in
         record {
           on = omega arith;
           within = omega arith;
@@ -262,7 +261,7 @@ module _ (level : Level) (s : List ℕ) where
         split (is s at 10) _ _
         (λ v e₀. joined_went o at c l (λ r. c) (λ r. join Seq l r) t n (inside_is s at 10 (omega arith) v) (λ r. count_closed c l r) (λ r. size_closed c l r) e₀)
         (λ v. split (is s at 11) _ _
-        (λ v e₀. joined_went o at c l (λ r. some (closed c l)) (λ r. r) t n (inside_is s at 11 (omega arith) v) (λ r. count_more c l r) (λ r. size_more c l r) e₀)
+        (λ v e₀. joined_went o at c l (λ r. Some (closed c l)) (λ r. r) t n (inside_is s at 11 (omega arith) v) (λ r. count_more c l r) (λ r. size_more c l r) e₀)
         (λ v e₀.
         let a : closed c l ≡ t = cc in
         let b : at ≡ n = cc in
@@ -349,7 +348,7 @@ module _ (level : Level) (s : List ℕ) where
   module _ (f g : Call → Parsed) (ih : Wents f) where
     body_cong : (c : Call) → ((d : Call) → weight s d < weight s c → f d ≡ g d) → body level s f c ≡ body level s g c
     unfolding body
-    body_cong (expr o at) h = next_cong _ _ _ _ (h (term o at) (omega arith)) (λ t n e. let p = ih (term o at) t n e in h (chain o none t n) (omega arith))
+    body_cong (expr o at) h = next_cong _ _ _ _ (h (term o at) (omega arith)) (λ t n e. let p = ih (term o at) t n e in h (chain o None t n) (omega arith))
     body_cong (chain o c l at) h =
         choose_cong (is s at 10) _ _ _ _
         (λ v.
@@ -358,7 +357,7 @@ module _ (level : Level) (s : List ℕ) where
         (λ v. choose_cong (is s at 11) _ _ _ _
         (λ v.
         let m = inside_is s at 11 (omega arith) v in
-        next_cong _ _ _ _ (h (term o (at + 1)) (omega arith)) (λ t n e. let p = ih (term o (at + 1)) t n e in h (chain o (some (closed c l)) t n) (omega arith)))
+        next_cong _ _ _ _ (h (term o (at + 1)) (omega arith)) (λ t n e. let p = ih (term o (at + 1)) t n e in h (chain o (Some (closed c l)) t n) (omega arith)))
         (λ v. refl))
     body_cong (term o at) h =
         choose_cong (is s at 19) _ _ _ _

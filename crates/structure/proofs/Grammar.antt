@@ -1,8 +1,8 @@
 -- The grammar's equations, one for each call, without fuel.
+use Rattle.std.specs.Prelude.{Option, Some, None}
 use Prim.Native.Nat.{ℕ, ◌+◌, ◌-◌}
 use mathlib.Core.Path.{◌≡◌}
 use mathlib.Core.List.{List}
-use mathlib.Core.Option.{Option, none, some}
 use Rattle.text.specs.Booleans.{choose}
 use Rattle.text.specs.Words.{push}
 use Rattle.token.specs.Table.{start, end, is, label}
@@ -15,13 +15,13 @@ use Rattle.structure.specs.Structure.{got, refused, next, want, opened, join, cl
 use Rattle.structure.proofs.Fuel.{law}
 
 module _ (level : Level) (s : List ℕ) where
-  pub expr_law : (o at : ℕ) → Run level s (expr o at) ≡ next (Run level s (term o at)) (λ t n. Run level s (chain o none t n))
+  pub expr_law : (o at : ℕ) → Run level s (expr o at) ≡ next (Run level s (term o at)) (λ t n. Run level s (chain o None t n))
   unfolding body
   expr_law o at = law level s (expr o at)
 
   pub chain_law : (o : ℕ) (c : Option (Tree Span)) (l : Tree Span) (at : ℕ) → Run level s (chain o c l at)
       ≡ choose (is s at 10) (λ u. next (Run level s (term o (at + 1))) (λ r n. Run level s (chain o c (join Seq l r) n)))
-      (λ u. choose (is s at 11) (λ u. next (Run level s (term o (at + 1))) (λ r n. Run level s (chain o (some (closed c l)) r n))) (λ u. got (closed c l) at))
+      (λ u. choose (is s at 11) (λ u. next (Run level s (term o (at + 1))) (λ r n. Run level s (chain o (Some (closed c l)) r n))) (λ u. got (closed c l) at))
   unfolding body
   chain_law o c l at = law level s (chain o c l at)
 

@@ -1,11 +1,11 @@
 -- The values of a tree that is read are those of its tokens, in text order. The invariant: some values and what a call was handed are those of the tokens before it;
 -- then the same values and what was read are those of the tokens up to where it ends (`Hold`).
+use Rattle.std.specs.Prelude.{Some, None, Option}
 use Prim.Native.Nat.{ℕ, zero, suc, ◌+◌, ◌-◌, ◌≤◌, ◌<◌}
 use mathlib.Core.Path.{◌≡◌, refl, sym, ap, ◌∙◌}
 use mathlib.Core.Bool.{Bool, true, false, not}
 use mathlib.Core.Logic.{◌⊎◌, inl, inr}
 use mathlib.Core.List.{List, [], ◌∷◌, ◌++◌, append_assoc, append-nil}
-use mathlib.Core.Option.{Option, none, some}
 use native.Mathlib.Numerals.{add-one}
 use native.Mathlib.Omega.{arith}
 use lib.Dec.{leb, eqb}
@@ -22,7 +22,6 @@ use Rattle.table.specs.declared.Unary.{Unary}
 use Rattle.table.specs.declared.Unary.TheVariants.{PosPred, NegPred, Push}
 use Rattle.structure.specs.declared.Level.{Level}
 use Rattle.structure.specs.declared.Level.TheVariants.{Tagged, Plain}
-use Rattle.table.specs.declared.End.TheVariants.{Open, At}
 use Rattle.structure.specs.Tokens.{across, same, spells, peek}
 use Rattle.structure.specs.Values.{number, is_integer, integer, string, character}
 use Rattle.structure.specs.Structure.{Parsed, got, refused, next, want, join, closed, prefixed, postfixed, in_tag, post, postfix_at, slice_to, slice, leaf_at, Call, expr, term, signed, node, chain, posts, body, place, Run, is_name, silent, mark_at, past_mark, past_bar, Ruled, rules, unruled, with_rule, Ruling, ruling, no_rule, then_rules, rule_from, rules_up_to, docs_in, docs, grammar}
@@ -221,11 +220,11 @@ module _ (s : List ℕ) where
       split (is_integer s i) _ _
       (λ a e₀.
       let (c, p, e₁) = want_got s (i + 1) 5 _ (omega arith) e₀ in
-      leaf_is vs (across s at (i + 1)) (peek_slice from (At (integer s i))) (i + 1 + 1)
+      leaf_is vs (across s at (i + 1)) (peek_slice from (Some (integer s i))) (i + 1 + 1)
       (values_kind s (i + 1) 5 c refl ∙ integer_value 22 i refl b a ∙ ap (λ (x : List Value). x ++ (peeked (integer s i) ∷ [])) h ∙ append_assoc vs _ _) e₁)
       (λ a e₀.
       let (c, p, e₁) = want_got s i 5 _ (omega arith) e₀ in
-      leaf_is vs (across s at i) (peek_slice from Open) (i + 1) (values_kind s i 5 c refl ∙ h) e₁) e
+      leaf_is vs (across s at i) (peek_slice from None) (i + 1) (values_kind s i 5 c refl ∙ h) e₁) e
 
   slice_values : (at i : ℕ) {t : Tree Span} {n : ℕ} → kind_before s i ≡ 4 → slice s at i ≡ got t n → values_to s n ≡ values_to s i ++ tree_values t
   unfolding slice value_by
@@ -297,14 +296,14 @@ values_after : (z : ℕ) (v : Unary) (t : Tree Span) → tree_values (postfixed 
 unfolding postfixed tree_values
 values_after z v t = refl
 
-values_some : (c l : Tree Span) → tree_values (closed (some c) l) ≡ tree_values c ++ tree_values l
+values_some : (c l : Tree Span) → tree_values (closed (Some c) l) ≡ tree_values c ++ tree_values l
 unfolding closed join tree_values
 values_some c l = refl
 
 values_sequence : (c : Option (Tree Span)) (l r : Tree Span) → tree_values (closed c (join Seq l r)) ≡ tree_values (closed c l) ++ tree_values r
 unfolding closed join tree_values
-values_sequence none l r = refl
-values_sequence (some c) l r = sym (append_assoc (tree_values c) (tree_values l) (tree_values r))
+values_sequence None l r = refl
+values_sequence (Some c) l r = sym (append_assoc (tree_values c) (tree_values l) (tree_values r))
 
 -- ---- the descent
 
@@ -358,10 +357,10 @@ module _ (level : Level) (s : List ℕ) where
     unfolding body closed value_by
     body_hold (expr o at) t n e vs h =
         let (u, i, e₁, e₂) = next_got _ _ e in
-        ih (chain o none u i) t n e₂ vs (ih (term o at) u i e₁ vs h)
+        ih (chain o None u i) t n e₂ vs (ih (term o at) u i e₁ vs h)
     body_hold (chain o c l at) t n e vs h =
         split (is s at 10) _ _ (λ v e₀. joined_hold o at c l (λ r. c) (λ r. join Seq l r) t n (values_kind s at 10 v refl) (values_sequence c l) e₀ vs h)
-        (λ v. split (is s at 11) _ _ (λ v e₀. joined_hold o at c l (λ r. some (closed c l)) (λ r. r) t n (values_kind s at 11 v refl) (λ r. values_some (closed c l) r) e₀ vs h)
+        (λ v. split (is s at 11) _ _ (λ v e₀. joined_hold o at c l (λ r. Some (closed c l)) (λ r. r) t n (values_kind s at 11 v refl) (λ r. values_some (closed c l) r) e₀ vs h)
         (λ v e₀.
         let a : closed c l ≡ t = cc in
         let b : at ≡ n = cc in

@@ -1,5 +1,6 @@
 -- What the refusals of values mean for trees. A token's fault and its value are told by the same neighbours, so that a sound token's value is right and
 -- a faulty one's is wrong (`judged`); the values of trees are those of tokens (Held).
+use Rattle.std.specs.Prelude.{ℕ, Option, Some, None, Result, Ok, Err}
 use Prim.Native.Nat.{ℕ, zero, suc, ◌+◌, ◌≤◌, ◌<◌}
 use mathlib.Core.Path.{◌≡◌, refl, sym, ap, ◌∙◌, subst}
 use mathlib.Core.Bool.{Bool, true, false, true≢false}
@@ -12,8 +13,7 @@ use lib.ListN.{length}
 use borrow.Author.Tests.{eqb-true}
 use Rattle.text.specs.Booleans.{choose, and, or}
 use Rattle.text.specs.Digits.{decimal_of}
-use Rattle.text.specs.declared.Decimal.{Decimal}
-use Rattle.text.specs.declared.Scan.{Scan}
+use Rattle.text.specs.declared.DecimalError.{DecimalError}
 use Rattle.text.proofs.Booleans.{or_first, or_second, or_neither, or_false, or_by, choose_by, choose_cong, choose_false, choose_true}
 use Rattle.text.proofs.Tests.{lt_or_ge}
 use Rattle.literal.specs.Escapes.{bad_escape}
@@ -24,8 +24,6 @@ use Rattle.structure.specs.declared.Edition.{Edition}
 use Rattle.structure.specs.declared.Level.{Level}
 use Rattle.structure.specs.declared.Level.TheVariants.{Tagged, Plain}
 use Rattle.structure.specs.declared.Refusal.{Refusal}
-use Rattle.structure.specs.declared.Fault.{Fault}
-use Rattle.structure.specs.declared.Fault.TheVariants.{Sound, At}
 use Rattle.structure.specs.declared.Why.TheVariants.{Over, Zero, NotScalar, Above}
 use Rattle.structure.specs.Refusals.{because}
 use Rattle.structure.specs.Tokens.{spells}
@@ -44,34 +42,34 @@ choose_both P false f g h k y n = n refl
 
 module _ (edition : Edition) (level : Level) (s : List ℕ) (i : ℕ) where
   -- a sound token's value is right, and a faulty token has a value that is wrong
-  abbrev Judged : Fault → List Value → Type 0
-  Judged Sound vs = (v : Value) → vs ≡ v ∷ [] → Right edition level s i v
-  Judged (At r) vs = (v : Value) × (vs ≡ v ∷ []) × Wrong edition level s i v r
+  abbrev Judged : Option Refusal → List Value → Type 0
+  Judged None vs = (v : Value) → vs ≡ v ∷ [] → Right edition level s i v
+  Judged (Some r) vs = (v : Value) × (vs ≡ v ∷ []) × Wrong edition level s i v r
 
-  is_right : (w : Value) → Right edition level s i w → Judged Sound (w ∷ [])
+  is_right : (w : Value) → Right edition level s i w → Judged None (w ∷ [])
   is_right w h v e = let z : w ≡ v = cc in subst (λ (x : Value). Right edition level s i x) z h
 
-  has_none : Judged Sound []
+  has_none : Judged None []
   has_none v e = let z : ◌≡◌ {A = ℕ} 0 1 = cc in absurd (omega arith)
 
   -- ---- PEEK numbers
 
-  integer_is : (m : ℕ) → integer_of s i ≡ Decimal.Is m → integer s i ≡ choose (is s i 21) (λ u. negated m) (λ u. m)
+  integer_is : (m : ℕ) → integer_of s i ≡ Ok m → integer s i ≡ choose (is s i 21) (λ u. negated m) (λ u. m)
   unfolding integer
-  integer_is m e = choose_cong (is s i 21) _ _ _ _ (λ v. ap (λ (d : Decimal). negated (value_of d)) e) (λ v. ap value_of e)
+  integer_is m e = choose_cong (is s i 21) _ _ _ _ (λ v. ap (λ (d : Result ℕ DecimalError). negated (value_of d)) e) (λ v. ap value_of e)
 
-  peek_judged : is_integer s i ≡ true → (d : Decimal) → integer_of s i ≡ d → Judged (peek_fault s i d) (peeked (integer s i) ∷ [])
-  peek_judged o (Decimal.Is m) e = is_right (peeked (integer s i)) (inr (m, e, integer_is m e))
-  peek_judged o Decimal.Over e = (peeked (integer s i), refl, (o, e, refl))
-  peek_judged o Decimal.NotDigits e = absurd (integer_digits s i o e)
+  peek_judged : is_integer s i ≡ true → (d : Result ℕ DecimalError) → integer_of s i ≡ d → Judged (peek_fault s i d) (peeked (integer s i) ∷ [])
+  peek_judged o (Ok m) e = is_right (peeked (integer s i)) (inr (m, e, integer_is m e))
+  peek_judged o (Err DecimalError.Over) e = (peeked (integer s i), refl, (o, e, refl))
+  peek_judged o (Err DecimalError.NotDigits) e = absurd (integer_digits s i o e)
 
   -- ---- counts
 
-  count_is : (n : ℕ) → decimal_of 4294967295 (word s i) ≡ Decimal.Is n → (number s i ≡ n) × Counts s i (number s i)
+  count_is : (n : ℕ) → decimal_of 4294967295 (word s i) ≡ Ok n → (number s i ≡ n) × Counts s i (number s i)
   unfolding number
   count_is n e =
       let z : value_of (decimal_of 4294967295 (word s i)) ≡ n = ap value_of e in
-      (z, e ∙ ap Decimal.Is (sym z))
+      (z, e ∙ ap Ok (sym z))
 
   -- a comma and a number behind it
   abbrev paired : Bool
@@ -81,65 +79,65 @@ module _ (edition : Edition) (level : Level) (s : List ℕ) (i : ℕ) where
   minimum_judged n c z =
       let P : Value → Type 0 = λ v. Wrong edition level s i v (because Above (start s i)) in
       let R : Value → Type 0 = Right edition level s i in
-      choose_by (λ (f : Fault). Judged f (minimum_value s i ∷ [])) (exceeds_in edition s i n) _ _
+      choose_by (λ (f : Option Refusal). Judged f (minimum_value s i ∷ [])) (exceeds_in edition s i n) _ _
       (λ x.
       let (q, t, l, k) = exceeds_above edition s i n x in
       (minimum_value s i, refl, choose_by P paired _ _ (λ a. inr (c, q, l, omega arith, refl)) (λ a. absurd (true≢false (sym t ∙ a)))))
       (λ x. is_right (minimum_value s i) (choose_by R paired _ _ (λ a. (c, λ q l. let k = exceeds_not edition s i n a x q l in omega arith)) (λ a. c)))
 
-  repeat_judged : (b : ℕ) → is s i 20 ≡ true → (d : Decimal) → decimal_of 4294967295 (word s i) ≡ d → Judged (repeat_fault edition s i d) (repeat_value s b i ∷ [])
-  repeat_judged b o Decimal.NotDigits e = absurd (number_digits s i 4294967295 o e)
-  repeat_judged b o Decimal.Over e =
+  repeat_judged : (b : ℕ) → is s i 20 ≡ true → (d : Result ℕ DecimalError) → decimal_of 4294967295 (word s i) ≡ d → Judged (repeat_fault edition s i d) (repeat_value s b i ∷ [])
+  repeat_judged b o (Err DecimalError.NotDigits) e = absurd (number_digits s i 4294967295 o e)
+  repeat_judged b o (Err DecimalError.Over) e =
       let P : Value → Type 0 = λ v. Wrong edition level s i v (because Over (start s i)) in (
         repeat_value s b i,
         refl,
         choose_by P (is s (i + 1) 3) _ _ (λ c. choose_by P (eqb b 15) _ _ (λ a. inl (e, refl)) (λ a. inl (e, refl))) (λ c. choose_by P paired _ _ (λ a. inl (e, refl)) (λ a. (e, refl))),
       )
-  repeat_judged b o (Decimal.Is zero) e =
+  repeat_judged b o (Ok zero) e =
       let P : Value → Type 0 = λ v. Wrong edition level s i v (because Zero (start s i)) in
       let R : Value → Type 0 = Right edition level s i in
       let (z, c) = count_is 0 e in
-      choose_both (λ (f : Fault) (v : Value). Judged f (v ∷ [])) (is s (i + 1) 3) _ _ _ _
+      choose_both (λ (f : Option Refusal) (v : Value). Judged f (v ∷ [])) (is s (i + 1) 3) _ _ _ _
       (λ a. (choose (eqb b 15) (λ u. most (number s i)) (λ u. exact (number s i)), refl, choose_by P (eqb b 15) _ _ (λ a. inr (e, refl)) (λ a. inr (e, refl))))
       (λ a. is_right (minimum_value s i) (choose_by R paired _ _ (λ a. (c, λ q l. omega arith)) (λ a. c)))
-  repeat_judged b o (Decimal.Is (suc n)) e =
+  repeat_judged b o (Ok (suc n)) e =
       let (z, c) = count_is (suc n) e in
       let R : Value → Type 0 = Right edition level s i in
       let w = choose (eqb b 15) (λ u. most (number s i)) (λ u. exact (number s i)) in
       choose_by (λ (v : Value). Judged (above_fault edition s i (suc n)) (v ∷ [])) (is s (i + 1) 3) _ _
       (λ a.
-      subst (λ (f : Fault). Judged f (w ∷ [])) (sym (choose_false (exceeds_in edition s i (suc n)) (λ u. At (because Above (start s i))) (λ u. Sound) (alone edition s i (suc n) a)))
+      subst (λ (f : Option Refusal). Judged f (w ∷ [])) (sym (choose_false (exceeds_in edition s i (suc n)) (λ u. Some (because Above (start s i))) (λ u. None) (alone edition s i (suc n) a)))
       (is_right w (choose_by R (eqb b 15) _ _ (λ a. (c, omega arith)) (λ a. (c, omega arith)))))
       (λ a. minimum_judged (suc n) c z)
 
   number_judged : (b : ℕ) → is s i 20 ≡ true → Judged (number_fault edition s b i) (number_value s b i ∷ [])
   number_judged b o =
-      choose_both (λ (f : Fault) (v : Value). Judged f (v ∷ [])) (or (eqb b 4) (eqb b 22)) _ _ _ _ (λ a. peek_judged (or_first (is s i 20) (is s i 21) o) (integer_of s i) refl)
+      choose_both (λ (f : Option Refusal) (v : Value). Judged f (v ∷ [])) (or (eqb b 4) (eqb b 22)) _ _ _ _ (λ a. peek_judged (or_first (is s i 20) (is s i 21) o) (integer_of s i) refl)
       (λ a. repeat_judged b o (decimal_of 4294967295 (word s i)) refl)
 
   -- ---- literals and words
 
-  literal_judged : (w : Value) → (bad_escape (literal_bytes s i) ≡ Scan.Through → Right edition level s i w) → ((r : Refusal) → NoCharacter s i r → Wrong edition level s i w r) → (c : Scan) → bad_escape (literal_bytes s i) ≡ c
+  literal_judged : (w : Value) → (bad_escape (literal_bytes s i) ≡ None → Right edition level s i w) → ((r : Refusal) → NoCharacter s i r → Wrong edition level s i w r) → (c : Option ℕ) → bad_escape (literal_bytes s i) ≡ c
       → Judged (literal_fault s i c) (w ∷ [])
-  literal_judged w f g Scan.Through e = is_right w (f e)
-  literal_judged w f g (Scan.StopsAt k) e = (w, refl, g (because NotScalar (start s i + opening s i + k)) (k, e, refl))
+  literal_judged w f g None e = is_right w (f e)
+  literal_judged w f g (Some k) e = (w, refl, g (because NotScalar (start s i + opening s i + k)) (k, e, refl))
 
   word_judged : (l : Level) → level ≡ l → Judged (word_fault l s i) (choose (spells push_literal s i) (λ u. pushes ∷ []) (λ u. []))
-  word_judged Tagged e = choose_by (Judged Sound) (spells push_literal s i) _ _ (λ a. is_right pushes e) (λ a. has_none)
+  word_judged Tagged e = choose_by (Judged None) (spells push_literal s i) _ _ (λ a. is_right pushes e) (λ a. has_none)
   word_judged Plain e = choose_both Judged (spells push_literal s i) _ _ _ _ (λ a. (pushes, refl, (e, refl))) (λ a. has_none)
 
   -- ---- a token
 
   -- what stands in the last branch of `fault_at`
-  abbrev literal_part : Fault
-  literal_part = choose (or (is s i 23) (or (is s i 24) (is s i 25))) (λ u. literal_fault s i (bad_escape (literal_bytes s i))) (λ u. Sound)
+  abbrev literal_part : Option Refusal
+  literal_part = choose (or (is s i 23) (or (is s i 24) (is s i 25))) (λ u. literal_fault s i (bad_escape (literal_bytes s i))) (λ u. None)
 
-  literal_here : or (is s i 23) (or (is s i 24) (is s i 25)) ≡ true → (w : Value) → (bad_escape (literal_bytes s i) ≡ Scan.Through → Right edition level s i w) → ((r : Refusal) → NoCharacter s i r → Wrong edition level s i w r)
+  literal_here : or (is s i 23) (or (is s i 24) (is s i 25)) ≡ true → (w : Value) → (bad_escape (literal_bytes s i) ≡ None → Right edition level s i w) → ((r : Refusal) → NoCharacter s i r → Wrong edition level s i w r)
       → Judged literal_part (w ∷ [])
-  literal_here o w f g = rw (choose_true (or (is s i 23) (or (is s i 24) (is s i 25))) (λ u. literal_fault s i (bad_escape (literal_bytes s i))) (λ u. Sound) o) (literal_judged w f g (bad_escape (literal_bytes s i)) refl)
+  literal_here o w f g = rw (choose_true (or (is s i 23) (or (is s i 24) (is s i 25))) (λ u. literal_fault s i (bad_escape (literal_bytes s i))) (λ u. None) o) (literal_judged w f g (bad_escape (literal_bytes s i)) refl)
 
-  literal_none : or (is s i 23) (or (is s i 24) (is s i 25)) ≡ false → (vs : List Value) → Judged Sound vs → Judged literal_part vs
-  literal_none o vs h = rw (choose_false (or (is s i 23) (or (is s i 24) (is s i 25))) (λ u. literal_fault s i (bad_escape (literal_bytes s i))) (λ u. Sound) o) h
+  literal_none : or (is s i 23) (or (is s i 24) (is s i 25)) ≡ false → (vs : List Value) → Judged None vs → Judged literal_part vs
+  literal_none o vs h = rw (choose_false (or (is s i 23) (or (is s i 24) (is s i 25))) (λ u. literal_fault s i (bad_escape (literal_bytes s i))) (λ u. None) o) h
 
   judged : Judged (fault_at edition level s (kind_before s i) i) (value_at s i)
   unfolding fault_at value_by is
@@ -152,7 +150,7 @@ module _ (edition : Edition) (level : Level) (s : List ℕ) (i : ℕ) where
       (λ d.
       let q : kind s i ≡ 22 = eqb-true (kind s i) 22 d in
       literal_none (ap (λ (x : ℕ). or (eqb x 23) (or (eqb x 24) (eqb x 25))) q) _
-      (choose_by (Judged Sound) (eqb (kind_before s i) 4) _ _ (λ f. is_right (peeked 0) (inl (d, refl))) (λ f. has_none)))
+      (choose_by (Judged None) (eqb (kind_before s i) 4) _ _ (λ f. is_right (peeked 0) (inl (d, refl))) (λ f. has_none)))
       (λ d. choose_by (Judged literal_part) (or (eqb k 23) (eqb k 24)) _ _
       (λ f. literal_here (or_by (is s i 23) (is s i 24) f (λ g. or_first (is s i 23) _ g) (λ g. or_second (is s i 23) _ (or_first (is s i 24) (is s i 25) g))) (bytes (string s i)) (λ e. e) (λ r h. h))
       (λ f. choose_by (Judged literal_part) (eqb k 25) _ _ (λ g. literal_here (or_second (is s i 23) _ (or_second (is s i 24) (is s i 25) g)) (single (character s i)) (λ e. e) (λ r h. h))
@@ -182,22 +180,22 @@ module _ (edition : Edition) (level : Level) (s : List ℕ) (i : ℕ) where
 -- ---- a text
 
 module _ (edition : Edition) (level : Level) (s : List ℕ) where
-  abbrev fault_of : ℕ → Fault
+  abbrev fault_of : ℕ → Option Refusal
   fault_of i = fault_at edition level s (kind_before s i) i
 
   -- the first fault among n tokens from an index on
-  abbrev First : ℕ → ℕ → Fault → Type 0
-  First i n Sound = (j : ℕ) → i ≤ j → j < i + n → fault_of j ≡ Sound
-  First i n (At r) = (j : ℕ) × (i ≤ j) × (j < i + n) × (fault_of j ≡ At r) × ((k : ℕ) → i ≤ k → k < j → fault_of k ≡ Sound)
+  abbrev First : ℕ → ℕ → Option Refusal → Type 0
+  First i n None = (j : ℕ) → i ≤ j → j < i + n → fault_of j ≡ None
+  First i n (Some r) = (j : ℕ) × (i ≤ j) × (j < i + n) × (fault_of j ≡ Some r) × ((k : ℕ) → i ≤ k → k < j → fault_of k ≡ None)
 
   -- this token, or one behind it
   here_or : {P : Type 0} (i j : ℕ) → i ≤ j → (i ≡ j → P) → (i + 1 ≤ j → P) → P
   here_or i j h f g = ⊎_elim (λ l. g (omega arith)) (λ m. f (omega arith)) (lt_or_ge i j)
 
-  first_by : (i n : ℕ) (f : Fault) → fault_of i ≡ f → (g : Fault) → First (i + 1) n g → First i (suc n) (or_fault f (λ u. g))
-  first_by i n (At r) e g h = (i, omega arith, omega arith, e, λ k a b. absurd (omega arith))
-  first_by i n Sound e Sound h = λ j a b. here_or i j a (λ q. ap fault_of (sym q) ∙ e) (λ l. h j l (omega arith))
-  first_by i n Sound e (At r) h =
+  first_by : (i n : ℕ) (f : Option Refusal) → fault_of i ≡ f → (g : Option Refusal) → First (i + 1) n g → First i (suc n) (or_fault f (λ u. g))
+  first_by i n (Some r) e g h = (i, omega arith, omega arith, e, λ k a b. absurd (omega arith))
+  first_by i n None e None h = λ j a b. here_or i j a (λ q. ap fault_of (sym q) ∙ e) (λ l. h j l (omega arith))
+  first_by i n None e (Some r) h =
       let (j, a, b, f, g) = h in
       (j, omega arith, omega arith, f, λ k c d. here_or i k c (λ q. ap fault_of (sym q) ∙ e) (λ l. g k l d))
 
@@ -207,26 +205,26 @@ module _ (edition : Edition) (level : Level) (s : List ℕ) where
   first_is (suc n) i b e =
       first_by i n (fault_at edition level s b i) (ap (λ (x : ℕ). fault_at edition level s x i) e) (faults_from edition level s (kind s i) (i + 1) n) (first_is n (i + 1) (kind s i) (before_next s i))
 
-  first_fault_lem : (f : Fault) → faults edition level s ≡ f → First 0 (length (toks s)) f
+  first_fault_lem : (f : Option Refusal) → faults edition level s ≡ f → First 0 (length (toks s)) f
   unfolding faults
-  first_fault_lem f e = subst (λ (x : Fault). First 0 (length (toks s)) x) e (first_is (length (toks s)) 0 0 refl)
+  first_fault_lem f e = subst (λ (x : Option Refusal). First 0 (length (toks s)) x) e (first_is (length (toks s)) 0 0 refl)
 
-  right_at : (i : ℕ) → fault_of i ≡ Sound → (v : Value) → value_at s i ≡ v ∷ [] → Right edition level s i v
-  right_at i e = subst (λ (f : Fault). Judged edition level s i f (value_at s i)) e (judged edition level s i)
+  right_at : (i : ℕ) → fault_of i ≡ None → (v : Value) → value_at s i ≡ v ∷ [] → Right edition level s i v
+  right_at i e = subst (λ (f : Option Refusal). Judged edition level s i f (value_at s i)) e (judged edition level s i)
 
   -- where no fault is found, every token's value is what its bytes say, and allowed
-  pub sound_right : faults edition level s ≡ Sound → RightTo edition level s (length (toks s))
-  sound_right e i h v q = right_at i (first_fault_lem Sound e i (omega arith) (omega arith)) v q
+  pub sound_right : faults edition level s ≡ None → RightTo edition level s (length (toks s))
+  sound_right e i h v q = right_at i (first_fault_lem None e i (omega arith) (omega arith)) v q
 
   -- and where every value is, none is found
-  pub right_sound : RightTo edition level s (length (toks s)) → faults edition level s ≡ Sound
+  pub right_sound : RightTo edition level s (length (toks s)) → faults edition level s ≡ None
   right_sound h = go (faults edition level s) refl
     where
-      go : (f : Fault) → faults edition level s ≡ f → f ≡ Sound
-      go Sound e = refl
-      go (At r) e =
-          let (i, a, b, f, g) = first_fault_lem (At r) e in
-          let (v, q, w) = subst (λ (f : Fault). Judged edition level s i f (value_at s i)) f (judged edition level s i) in
+      go : (f : Option Refusal) → faults edition level s ≡ f → f ≡ None
+      go None e = refl
+      go (Some r) e =
+          let (i, a, b, f, g) = first_fault_lem (Some r) e in
+          let (v, q, w) = subst (λ (f : Option Refusal). Judged edition level s i f (value_at s i)) f (judged edition level s i) in
           absurd (right_not_wrong edition level s i v r (h i (omega arith) v q) w)
 
   token_of_lem : (n : ℕ) (v : Value) → Memᴰ v (values_to s n) → (i : ℕ) × (i < n) × (value_at s i ≡ v ∷ [])
@@ -238,7 +236,7 @@ module _ (edition : Edition) (level : Level) (s : List ℕ) where
       (Memᴰ.append_cases (values_to s n) m)
 
   -- so every value of the trees is what the bytes of a token say, and allowed
-  pub each_right : (us : List (Rule Span)) → grammar level s ≡ rules us → faults edition level s ≡ Sound → (v : Value) → Memᴰ v (rules_values us) → (i : ℕ) × (value_at s i ≡ v ∷ []) × Right edition level s i v
+  pub each_right : (us : List (Rule Span)) → grammar level s ≡ rules us → faults edition level s ≡ None → (v : Value) → Memᴰ v (rules_values us) → (i : ℕ) × (value_at s i ≡ v ∷ []) × Right edition level s i v
   each_right us g e v m =
       let (i, h, q) = token_of_lem (length (toks s)) v (rw (grammar_values level s us g) at m) in
       (i, q, sound_right e i h v q)
@@ -255,10 +253,10 @@ module _ (edition : Edition) (level : Level) (s : List ℕ) where
       (vs ++ value_at s n, ap (λ (x : List Value). x ++ value_at s n) e ∙ append_assoc (values_to s i) vs (value_at s n)))
 
   -- where a fault is given, it is that of the first value of the trees that is wrong
-  pub first_wrong : (us : List (Rule Span)) (r : Refusal) → grammar level s ≡ rules us → faults edition level s ≡ At r → FirstWrong edition level s us r
+  pub first_wrong : (us : List (Rule Span)) (r : Refusal) → grammar level s ≡ rules us → faults edition level s ≡ Some r → FirstWrong edition level s us r
   first_wrong us r g e =
-      let (i, a, b, f, h) = first_fault_lem (At r) e in
-      let (v, q, w) = subst (λ (f : Fault). Judged edition level s i f (value_at s i)) f (judged edition level s i) in
+      let (i, a, b, f, h) = first_fault_lem (Some r) e in
+      let (v, q, w) = subst (λ (f : Option Refusal). Judged edition level s i f (value_at s i)) f (judged edition level s i) in
       let (vs, z) = values_split (i + 1) (length (toks s)) (omega arith) in
       record {
         at = i;

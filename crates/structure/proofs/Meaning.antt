@@ -1,10 +1,10 @@
 -- An expression is read exactly as `Expression` says. The invariant of a chain: what is still read from an index on is terms behind `~`
 -- that go on with the last sequence, and then sequences behind `|`.
+use Rattle.std.specs.Prelude.{Option, Some, None}
 use Prim.Native.Nat.{ℕ, zero, suc, ◌+◌, ◌-◌, ◌<◌}
 use mathlib.Core.Path.{◌≡◌, refl, sym, ap, ◌∙◌}
 use mathlib.Core.Bool.{true, false}
 use mathlib.Core.List.{List, [], ◌∷◌, foldl}
-use mathlib.Core.Option.{Option, none, some}
 use native.Mathlib.Omega.{arith}
 use lib.ListN.{length}
 use borrow.Author.Tests.{eqb-true}
@@ -68,7 +68,7 @@ module _ (level : Level) (s : List ℕ) (o : ℕ) where
       let m = inside_is s at 11 (omega arith) w in
       let (u, i, e₁, e₂) = next_got _ _ e₀ in
       let p = went level s (term o (at + 1)) u i e₁ in
-      let r = chain-rest k (some (closed c l)) u i t n (omega arith) e₂ in
+      let r = chain-rest k (Some (closed c l)) u i t n (omega arith) e₂ in
       record {
         terms = [];
         middle = at;
@@ -94,7 +94,7 @@ module _ (level : Level) (s : List ℕ) (o : ℕ) where
       })) (sym (chain_law level s o c l at) ∙ e)
 
   -- the first term and the rest of the chain
-  whole : {at i n : ℕ} {u t : Tree Span} → Term level s o at u i → Rest none u i t n → Expression level s o at t n
+  whole : {at i n : ℕ} {u t : Tree Span} → Term level s o at u i → Rest None u i t n → Expression level s o at t n
   unfolding closed
   whole {u = u} e r = record {
     sequences = record {
@@ -113,7 +113,7 @@ module _ (level : Level) (s : List ℕ) (o : ℕ) where
   pub expression : (at : ℕ) (t : Tree Span) (n : ℕ) → Run level s (expr o at) ≡ got t n → Expression level s o at t n
   expression at t n e =
       let (u, i, e₁, e₂) = next_got _ _ (sym (expr_law level s o at) ∙ e) in
-      whole e₁ (chain-rest (suc (length (toks s))) none u i t n (omega arith) e₂)
+      whole e₁ (chain-rest (suc (length (toks s))) None u i t n (omega arith) e₂)
 
   -- terms behind `~` go on with the last sequence
   terms-run : (c : Option (Tree Span)) (l : Tree Span) {at m : ℕ} {us : List (Tree Span)} → Terms at us m → Run level s (chain o c l at) ≡ Run level s (chain o c (foldl (join Seq) l us) m)
@@ -132,8 +132,8 @@ module _ (level : Level) (s : List ℕ) (o : ℕ) where
   choices-run c l {m = m} nothing x y = chain_law level s o c l m ∙ choose_false (is s m 10) _ _ x ∙ choose_false (is s m 11) _ _ y
   choices-run c l (more {i = i} {j = j} {t = u} w q b) x y =
       chain_law level s o c l i ∙ choose_false (is s i 10) _ _ (no-seq i w) ∙ choose_true (is s i 11) _ _ w ∙ next_good _ _ q.leading
-      ∙ terms-run (some (closed c l)) q.first q.following ∙ ap (λ (z : Tree Span). Run level s (chain o (some (closed c l)) z j)) (sym q.grouped)
-      ∙ choices-run (some (closed c l)) u b x y
+      ∙ terms-run (Some (closed c l)) q.first q.following ∙ ap (λ (z : Tree Span). Run level s (chain o (Some (closed c l)) z j)) (sym q.grouped)
+      ∙ choices-run (Some (closed c l)) u b x y
 
   -- what is an expression is read as it
   pub expression_if : (at : ℕ) (t : Tree Span) (n : ℕ) → Expression level s o at t n → Run level s (expr o at) ≡ got t n
@@ -141,6 +141,6 @@ module _ (level : Level) (s : List ℕ) (o : ℕ) where
   expression_if at t n x =
       let q = x.sequences in
       let a = q.leading in
-      expr_law level s o at ∙ next_good _ _ a.leading ∙ terms-run none a.first a.following
-      ∙ ap (λ (z : Tree Span). Run level s (chain o none z q.past)) (sym a.grouped)
-      ∙ choices-run none q.first q.following x.no_seq x.no_choice ∙ ap (λ (z : Tree Span). got z n) (sym q.grouped)
+      expr_law level s o at ∙ next_good _ _ a.leading ∙ terms-run None a.first a.following
+      ∙ ap (λ (z : Tree Span). Run level s (chain o None z q.past)) (sym a.grouped)
+      ∙ choices-run None q.first q.following x.no_seq x.no_choice ∙ ap (λ (z : Tree Span). got z n) (sym q.grouped)

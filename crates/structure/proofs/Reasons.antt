@@ -1,5 +1,6 @@
 -- Why a text is refused, phase by phase: by structure for what isn't allowed or too deep, by values for the five that a token alone shows.
 -- Each definition hands a refusal on as it is, so that the reason is that of where it was made.
+use Rattle.std.specs.Prelude.{ℕ, Option, Some, None, Result, Ok, Err}
 use Prim.Native.Nat.{ℕ, zero, suc, ◌+◌}
 use mathlib.Core.Path.{◌≡◌, refl}
 use mathlib.Core.Logic.{◌⊎◌, inl, inr}
@@ -9,8 +10,7 @@ use lib.ListN.{length}
 use Rattle.text.specs.Booleans.{or}
 use Rattle.text.specs.Digits.{decimal_of}
 use Rattle.text.specs.Words.{push}
-use Rattle.text.specs.declared.Scan.{Scan}
-use Rattle.text.specs.declared.Decimal.{Decimal}
+use Rattle.text.specs.declared.DecimalError.{DecimalError}
 use Rattle.text.proofs.Booleans.{choose_by}
 use Rattle.text.specs.Limits.{max_open}
 use Rattle.literal.specs.Escapes.{bad_escape}
@@ -25,7 +25,6 @@ use Rattle.structure.specs.declared.Level.TheVariants.{Tagged, Plain}
 use Rattle.structure.specs.declared.Why.{Why}
 use Rattle.structure.specs.declared.Why.TheVariants.{NotAllowed, TooDeep, Over, Zero, PeekRange, NotScalar, NotPlain, Above}
 use Rattle.structure.specs.declared.Refusal.{Refusal}
-use Rattle.structure.specs.declared.Fault.{Fault}
 use Rattle.structure.specs.Refusals.{because}
 use Rattle.structure.specs.Tokens.{spells}
 use Rattle.structure.specs.Values.{is_integer, integer_of, literal_bytes, exceeds, above_fault, repeat_fault, peek_fault, literal_fault, word_fault, fault_at, or_fault, faults_from, faults}
@@ -185,28 +184,28 @@ abbrev pub OfValues : Edition → Why → Type 0
 OfValues edition w = (w ≡ Over) ⊎ (w ≡ Zero) ⊎ (w ≡ PeekRange) ⊎ (w ≡ NotScalar) ⊎ (w ≡ NotPlain) ⊎ ((edition ≡ Second) × (w ≡ Above))
 
 module _ (edition : Edition) (level : Level) (s : List ℕ) where
-  abbrev Valued : Fault → Type 0
-  Valued Fault.Sound = Unit {0}
-  Valued (Fault.At r) = OfValues edition r.why
+  abbrev Valued : Option Refusal → Type 0
+  Valued None = Unit {0}
+  Valued (Some r) = OfValues edition r.why
 
   of_above : (o : Edition) → edition ≡ o → (i n : ℕ) → Valued (above_fault o s i n)
   of_above First e i n = tt
   of_above Second e i n = choose_by Valued (exceeds s i n) _ _ (λ a. inr (inr (inr (inr (inr (e, refl)))))) (λ a. tt)
 
-  of_repeat : (i : ℕ) (d : Decimal) → Valued (repeat_fault edition s i d)
-  of_repeat i Decimal.NotDigits = tt
-  of_repeat i Decimal.Over = inl refl
-  of_repeat i (Decimal.Is zero) = choose_by Valued (is s (i + 1) 3) _ _ (λ e. inr (inl refl)) (λ e. tt)
-  of_repeat i (Decimal.Is (suc n)) = of_above edition refl i (suc n)
+  of_repeat : (i : ℕ) (d : Result ℕ DecimalError) → Valued (repeat_fault edition s i d)
+  of_repeat i (Err DecimalError.NotDigits) = tt
+  of_repeat i (Err DecimalError.Over) = inl refl
+  of_repeat i (Ok zero) = choose_by Valued (is s (i + 1) 3) _ _ (λ e. inr (inl refl)) (λ e. tt)
+  of_repeat i (Ok (suc n)) = of_above edition refl i (suc n)
 
-  of_peek : (i : ℕ) (d : Decimal) → Valued (peek_fault s i d)
-  of_peek i (Decimal.Is n) = tt
-  of_peek i Decimal.Over = inr (inr (inl refl))
-  of_peek i Decimal.NotDigits = tt
+  of_peek : (i : ℕ) (d : Result ℕ DecimalError) → Valued (peek_fault s i d)
+  of_peek i (Ok n) = tt
+  of_peek i (Err DecimalError.Over) = inr (inr (inl refl))
+  of_peek i (Err DecimalError.NotDigits) = tt
 
-  of_literal : (i : ℕ) (c : Scan) → Valued (literal_fault s i c)
-  of_literal i Scan.Through = tt
-  of_literal i (Scan.StopsAt k) = inr (inr (inr (inl refl)))
+  of_literal : (i : ℕ) (c : Option ℕ) → Valued (literal_fault s i c)
+  of_literal i None = tt
+  of_literal i (Some k) = inr (inr (inr (inl refl)))
 
   of_word : (l : Level) (i : ℕ) → Valued (word_fault l s i)
   of_word Tagged i = tt
@@ -221,9 +220,9 @@ module _ (edition : Edition) (level : Level) (s : List ℕ) where
       (λ e. choose_by Valued (is s i 21) _ _ (λ e. of_peek i (integer_of s i))
       (λ e. choose_by Valued (or (is s i 23) (or (is s i 24) (is s i 25))) _ _ (λ e. of_literal i (bad_escape (literal_bytes s i))) (λ e. tt))))
 
-  of_first : (f : Fault) (g : Unit {0} → Fault) → Valued f → Valued (g tt) → Valued (or_fault f g)
-  of_first Fault.Sound g x y = y
-  of_first (Fault.At r) g x y = x
+  of_first : (f : Option Refusal) (g : Unit {0} → Option Refusal) → Valued f → Valued (g tt) → Valued (or_fault f g)
+  of_first None g x y = y
+  of_first (Some r) g x y = x
 
   of_tokens : (n before i : ℕ) → Valued (faults_from edition level s before i n)
   unfolding faults_from
@@ -234,5 +233,5 @@ module _ (edition : Edition) (level : Level) (s : List ℕ) where
   unfolding faults
   of_text = of_tokens (length (toks s)) 0 0
 
-  pub faults_why : (r : Refusal) → faults edition level s ≡ Fault.At r → OfValues edition r.why
+  pub faults_why : (r : Refusal) → faults edition level s ≡ Some r → OfValues edition r.why
   faults_why r e = rw e at of_text

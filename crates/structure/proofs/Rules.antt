@@ -1,4 +1,5 @@
 -- The paths of the functions that check rules and a whole grammar.
+use Rattle.std.specs.Prelude.{ℕ, Option, Some, None, Result, Ok, Err}
 use Prim.Native.Nat.{ℕ, zero, suc, ◌+◌, ◌-◌, ◌*◌, ◌≤◌, ◌<◌}
 use mathlib.Core.Path.{◌≡◌, refl, sym, ap, ◌∙◌}
 use mathlib.Core.Bool.{Bool, true, false, not}
@@ -6,7 +7,7 @@ use mathlib.Core.List.{List, [], ◌++◌}
 use native.Mathlib.Omega.{arith}
 use lib.Dec.{leb, eqb}
 use lib.ListN.{length, take, drop, length-append}
-use borrow.Author.Tests.{le-leb, lt-leb, eq-eqb, ne_eqb}
+use borrow.Author.Tests.{le-leb, lt-leb}
 use Rattle.text.specs.Booleans.{choose, and}
 use Rattle.text.specs.Words.{begins, push}
 use Rattle.text.proofs.Booleans.{and_left, choose_false, choose_true, split}
@@ -18,17 +19,15 @@ use Rattle.structure.specs.declared.Level.{Level}
 use Rattle.structure.specs.declared.Refusal.{Refusal}
 use Rattle.structure.specs.declared.Why.TheVariants.{NotAllowed}
 use Rattle.structure.specs.Refusals.{because}
-use Rattle.structure.specs.declared.Checked.{Checked}
-use Rattle.structure.specs.declared.Counted.{Counted}
-use Rattle.structure.specs.declared.Wanted.{Wanted}
-use Rattle.structure.specs.declared.Wanted.TheVariants.{Here, Missing}
+use Rattle.structure.specs.declared.Piece.{Piece}
+use Rattle.structure.specs.declared.Counts.{Counts}
 use Rattle.structure.specs.Tokens.{across, spells}
 use Rattle.structure.specs.Structure.{Parsed, got, refused, want, expr, Run, is_name, silent, mark_at, past_mark, past_bar, Ruled, rules, unruled, with_rule, Ruling, ruling, no_rule, rule_of, then_rules, rule_from, rules_up_to, docs_in, docs, grammar}
 use Rattle.structure.specs.Answers.{summary, wanted, rule_summary, summaries}
 use Rattle.structure.proofs.Steps.{inside_is, sees, misses, another, spells_in, spells_kind}
 use Rattle.structure.proofs.Sizes.{most, word_short}
 use Rattle.structure.proofs.Fuel.{Past, went}
-use Rattle.structure.proofs.Wants.{wanted_on, wanted_off, good, bad}
+use Rattle.structure.proofs.Wants.{piece, rule_counts, wanted_on, wanted_off, good, bad}
 
 -- ---- a name, a mark, a `|`
 
@@ -88,12 +87,6 @@ mark_inside s i x e q =
     split (spells silent s i) _ _ (λ a f. spells_in silent s i a)
     (λ a. split (is s i 16) _ _ (λ b f. inside_is s i 16 (omega arith) b)
     (λ b. split (is s i 17) _ _ (λ c f. inside_is s i 17 (omega arith) c) (λ c. split (is s i 9) _ _ (λ d f. inside_is s i 9 (omega arith) d) (λ d f. absurd (q (sym f)))))) (sym e)
-
-pub mark_past : (s : List ℕ) (i x : ℕ) → x ≡ mark_at s i → (x ≡ 0 → ⊥) → i + 1 ≡ past_mark s i
-mark_past s i x e q = sym (choose_false (eqb (mark_at s i) 0) _ _ (ne_eqb (mark_at s i) 0 (λ h. q (e ∙ h))))
-
-pub mark_stays : (s : List ℕ) (i x : ℕ) → x ≡ mark_at s i → x ≡ 0 → i ≡ past_mark s i
-mark_stays s i x e q = sym (choose_true (eqb (mark_at s i) 0) _ _ (eq-eqb (mark_at s i) 0 (sym e ∙ q)))
 
 by_test : (b : Bool) (i : ℕ) → (i ≤ choose b (λ u. i) (λ u. i + 1)) × (i ≤ choose b (λ u. i + 1) (λ u. i))
 by_test true i = (omega arith, omega arith)
@@ -163,35 +156,37 @@ pub rule_went : (level : Level) (s : List ℕ) (at : ℕ) (r : Rule Span) (n : �
     → (at + count r.tree < n) × (n ≤ length (toks s)) × (length (rule_stored r) ≤ most * count r.tree + most)
 rule_went level s at r n w e = let (a, b, c) = rule_goes level s at r n e in (a, b, c w)
 
-was_ruled : (m : Ruling) (r : Checked) (n k b : ℕ) → r ≡ rule_summary m → r ≡ Checked.Good n k b → (u : Rule Span) × (m ≡ ruling u n) × (count u.tree ≡ k) × (length (rule_stored u) ≡ b)
+was_ruled : (m : Ruling) (r : Result Piece Refusal) (n k b : ℕ) → r ≡ rule_summary m → r ≡ Ok (piece n k b) → (u : Rule Span) × (m ≡ ruling u n) × (count u.tree ≡ k) × (length (rule_stored u) ≡ b)
 unfolding rule_summary
-was_ruled (ruling u i) r n k b e q = let a : i ≡ n = cc in (u, ap (ruling u) a, cc, cc)
+was_ruled (ruling u i) r n k b e q =
+    let h : ◌≡◌ {A = Piece} (piece i (count u.tree) (length (rule_stored u))) (piece n k b) = cc in
+    (u, ap (λ (z : Piece). ruling u z.next) h, ap (λ (z : Piece). z.nodes) h, ap (λ (z : Piece). z.bytes) h)
 was_ruled (no_rule x) r n k b e q = let z : ◌≡◌ {A = ℕ} 0 1 = cc in absurd (omega arith)
 
-was_unruled : (m : Ruling) (r : Checked) (x : Refusal) → r ≡ rule_summary m → r ≡ Checked.Refused x → m ≡ no_rule x
+was_unruled : (m : Ruling) (r : Result Piece Refusal) (x : Refusal) → r ≡ rule_summary m → r ≡ Err x → m ≡ no_rule x
 unfolding rule_summary
 was_unruled (ruling u i) r x e q = let z : ◌≡◌ {A = ℕ} 0 1 = cc in absurd (omega arith)
 was_unruled (no_rule y) r x e q = cc
 
-sum_unruled : {m : Ruling} {x : Refusal} → m ≡ no_rule x → Checked.Refused x ≡ rule_summary m
+sum_unruled : {m : Ruling} {x : Refusal} → m ≡ no_rule x → Err x ≡ rule_summary m
 unfolding rule_summary
 sum_unruled e = sym (ap rule_summary e)
 
-sum_ruled : {m : Ruling} {u : Rule Span} {n : ℕ} (k b : ℕ) → m ≡ ruling u n → k ≡ count u.tree → b ≡ length (rule_stored u) → Checked.Good n k b ≡ rule_summary m
+sum_ruled : {m : Ruling} {u : Rule Span} {n : ℕ} (k b : ℕ) → m ≡ ruling u n → k ≡ count u.tree → b ≡ length (rule_stored u) → Ok (piece n k b) ≡ rule_summary m
 unfolding rule_summary
-sum_ruled {u = u} {n = n} k b e q w = ap (λ (x : ℕ). Checked.Good n x b) q ∙ ap (Checked.Good n (count u.tree)) w ∙ sym (ap rule_summary e)
+sum_ruled {u = u} {n = n} k b e q w = ap (λ (x : ℕ). Ok (piece n x b)) q ∙ ap (λ (x : ℕ). Ok (piece n (count u.tree) x)) w ∙ sym (ap rule_summary e)
 
 module _ (level : Level) (s : List ℕ) (at : ℕ) (b : Bool) (e : b ≡ is_name s at) where
-  pub rule_unnamed : b ≡ false → (y : Refusal) → y ≡ because NotAllowed (start s at) → Checked.Refused y ≡ rule_summary (rule_from level s at)
+  pub rule_unnamed : b ≡ false → (y : Refusal) → y ≡ because NotAllowed (start s at) → Err y ≡ rule_summary (rule_from level s at)
   unfolding rule_from
-  rule_unnamed q y z = ap Checked.Refused z ∙ sum_unruled (choose_false (is_name s at) _ _ (sym e ∙ q))
+  rule_unnamed q y z = ap Err z ∙ sum_unruled (choose_false (is_name s at) _ _ (sym e ∙ q))
 
-  module _ (q : b ≡ true) (a : Wanted) (f : a ≡ wanted s (at + 1) 1) where
-    pub rule_untied : a ≡ Missing → (y : Refusal) → y ≡ because NotAllowed (start s (at + 1)) → Checked.Refused y ≡ rule_summary (rule_from level s at)
+  module _ (q : b ≡ true) (a : Option ℕ) (f : a ≡ wanted s (at + 1) 1) where
+    pub rule_untied : a ≡ None → (y : Refusal) → y ≡ because NotAllowed (start s (at + 1)) → Err y ≡ rule_summary (rule_from level s at)
     unfolding rule_from
     rule_untied g y z = sum_unruled (choose_true (is_name s at) _ _ (sym e ∙ q) ∙ wanted_off no_rule s (at + 1) 1 _ a y f g z)
 
-    module _ (i : ℕ) (g : a ≡ Here i) (p : ℕ) (h : p ≡ past_mark s i) (c : Wanted) (l : c ≡ wanted s p 2) where
+    module _ (i : ℕ) (g : a ≡ Some i) (p : ℕ) (h : p ≡ past_mark s i) (c : Option ℕ) (l : c ≡ wanted s p 2) where
       to_brace : rule_from level s at
           ≡ want no_rule s p 2
           (λ j. rule_of (Run level s (expr 0 (past_bar s j))) (λ t n. want no_rule s n 3 (λ m. ruling (record { name = word s at; mark = mark_at s i; tree = t; place = across s at at }) m)))
@@ -202,24 +197,24 @@ module _ (level : Level) (s : List ℕ) (at : ℕ) (b : Bool) (e : b ≡ is_name
           (λ (x : ℕ). want no_rule s x 2 (λ j. rule_of (Run level s (expr 0 (past_bar s j))) (λ t n. want no_rule s n 3 (λ m. ruling (record { name = word s at; mark = mark_at s i; tree = t; place = across s at at }) m))))
           (sym h)
 
-      pub rule_unbraced : c ≡ Missing → (y : Refusal) → y ≡ because NotAllowed (start s p) → Checked.Refused y ≡ rule_summary (rule_from level s at)
+      pub rule_unbraced : c ≡ None → (y : Refusal) → y ≡ because NotAllowed (start s p) → Err y ≡ rule_summary (rule_from level s at)
       rule_unbraced m y z = sum_unruled (to_brace ∙ wanted_off no_rule s p 2 _ c y l m z)
 
-      module _ (j : ℕ) (m : c ≡ Here j) (t : ℕ) (o : t ≡ past_bar s j) (r : Checked) (u : r ≡ summary (Run level s (expr 0 t))) where
+      module _ (j : ℕ) (m : c ≡ Some j) (t : ℕ) (o : t ≡ past_bar s j) (r : Result Piece Refusal) (u : r ≡ summary (Run level s (expr 0 t))) where
         to_body : rule_from level s at
             ≡ rule_of (Run level s (expr 0 t)) (λ t n. want no_rule s n 3 (λ m. ruling (record { name = word s at; mark = mark_at s i; tree = t; place = across s at at }) m))
         to_body =
             to_brace ∙ wanted_on no_rule s p 2 _ c j l m
             ∙ ap (λ (x : ℕ). rule_of (Run level s (expr 0 x)) (λ t n. want no_rule s n 3 (λ m. ruling (record { name = word s at; mark = mark_at s i; tree = t; place = across s at at }) m))) (sym o)
 
-        pub rule_refused : (x : Refusal) → r ≡ Checked.Refused x → Checked.Refused x ≡ rule_summary (rule_from level s at)
+        pub rule_refused : (x : Refusal) → r ≡ Err x → Err x ≡ rule_summary (rule_from level s at)
         rule_refused x v = sum_unruled (to_body ∙ rule_bad _ _ (bad _ r x u v))
 
-        module _ (n k b₁ : ℕ) (v : r ≡ Checked.Good n k b₁) (d : Wanted) (w : d ≡ wanted s n 3) where
-          pub rule_unclosed : d ≡ Missing → (y : Refusal) → y ≡ because NotAllowed (start s n) → Checked.Refused y ≡ rule_summary (rule_from level s at)
+        module _ (n k b₁ : ℕ) (v : r ≡ Ok (piece n k b₁)) (d : Option ℕ) (w : d ≡ wanted s n 3) where
+          pub rule_unclosed : d ≡ None → (y : Refusal) → y ≡ because NotAllowed (start s n) → Err y ≡ rule_summary (rule_from level s at)
           rule_unclosed x y z = let (t₁, g₁, c₁, d₁) = good _ r n k b₁ u v in sum_unruled (to_body ∙ rule_good _ _ g₁ ∙ wanted_off no_rule s n 3 _ d y w x z)
 
-          pub rule_read : (z : ℕ) → d ≡ Here z → (y : ℕ) → y ≡ length (word s at) → Checked.Good z k (y + b₁) ≡ rule_summary (rule_from level s at)
+          pub rule_read : (z : ℕ) → d ≡ Some z → (y : ℕ) → y ≡ length (word s at) → Ok (piece z k (y + b₁)) ≡ rule_summary (rule_from level s at)
           rule_read z x y h₁ =
               let (t₁, g₁, c₁, d₁) = good _ r n k b₁ u v in
               let d₂ = size_rule (record { name = word s at; mark = mark_at s i; tree = t₁; place = across s at at }) in
@@ -240,9 +235,6 @@ pub record DocsInv (s : List ℕ) (i : ℕ) : Type 0 where
   pub within : i ≤ length (toks s)
   pub same : docs s ≡ docs_in s (length (toks s) - i) i
 
-pub docs_start : (s : List ℕ) → DocsInv s 0
-docs_start s = record { within = omega arith; same = let z : length (toks s) ≡ length (toks s) - 0 = omega arith in ap (λ (k : ℕ). docs_in s k 0) z }
-
 pub docs_more : (s : List ℕ) (i x : ℕ) → x ≡ kind s i → x ≡ 26 → DocsInv s i → (i < length (toks s)) × DocsInv s (i + 1)
 docs_more s i x e q v =
     let f = sees s i x 26 e q in
@@ -256,22 +248,22 @@ docs_done s i x e q v = sym (v.same ∙ docs_stop s (length (toks s) - i) i (mis
 -- ---- the rules
 
 -- counts that come before those of what is left
-unfoldable pub plus : ℕ → ℕ → ℕ → Counted → Counted
-plus a b c (Counted.Rules x y z) = Counted.Rules (a + x) (b + y) (c + z)
-plus a b c (Counted.Refused r) = Counted.Refused r
+unfoldable pub plus : ℕ → ℕ → ℕ → Result Counts Refusal → Result Counts Refusal
+plus a b c (Ok m) = Ok (record { rules = a + m.rules; nodes = b + m.nodes; bytes = c + m.bytes })
+plus a b c (Err r) = Err r
 
-rules₃ : (a b c x y z : ℕ) → a ≡ x → b ≡ y → c ≡ z → Counted.Rules a b c ≡ Counted.Rules x y z
-rules₃ a b c x y z e f g = cc
+rules₃ : (a b c x y z : ℕ) → a ≡ x → b ≡ y → c ≡ z → ◌≡◌ {A = Result Counts Refusal} (Ok (rule_counts a b c)) (Ok (rule_counts x y z))
+rules₃ a b c x y z e f g = rw (e, f, g) refl
 
-plus_none : (r : Counted) → plus 0 0 0 r ≡ r
+plus_none : (r : Result Counts Refusal) → plus 0 0 0 r ≡ r
 unfolding plus
-plus_none (Counted.Rules x y z) = rules₃ (0 + x) (0 + y) (0 + z) x y z (omega arith) (omega arith) (omega arith)
-plus_none (Counted.Refused r) = refl
+plus_none (Ok m) = rules₃ (0 + m.rules) (0 + m.nodes) (0 + m.bytes) m.rules m.nodes m.bytes (omega arith) (omega arith) (omega arith)
+plus_none (Err r) = refl
 
-plus_plus : (a b c x y z : ℕ) (r : Counted) → plus a b c (plus x y z r) ≡ plus (a + x) (b + y) (c + z) r
+plus_plus : (a b c x y z : ℕ) (r : Result Counts Refusal) → plus a b c (plus x y z r) ≡ plus (a + x) (b + y) (c + z) r
 unfolding plus
-plus_plus a b c x y z (Counted.Rules k l m) = rules₃ (a + (x + k)) (b + (y + l)) (c + (z + m)) (a + x + k) (b + y + l) (c + z + m) (omega arith) (omega arith) (omega arith)
-plus_plus a b c x y z (Counted.Refused r) = refl
+plus_plus a b c x y z (Ok m) = rules₃ (a + (x + m.rules)) (b + (y + m.nodes)) (c + (z + m.bytes)) (a + x + m.rules) (b + y + m.nodes) (c + z + m.bytes) (omega arith) (omega arith) (omega arith)
+plus_plus a b c x y z (Err r) = refl
 
 with_sum : (r : Rule Span) (m : Ruled) → summaries (with_rule r m) ≡ plus 1 (count r.tree) (length (rule_stored r)) (summaries m)
 unfolding summaries plus counts rules_stored
@@ -312,7 +304,7 @@ module _ (level : Level) (s : List ℕ) where
     pub bytes : c ≤ most * i
     pub same : summaries (grammar level s) ≡ plus a b c (summaries (rules_up_to level s fuel i))
 
-  pub grammar_none : (i : ℕ) → i ≡ docs s → length (toks s) ≤ i → Counted.Refused (because NotAllowed (length s)) ≡ summaries (grammar level s)
+  pub grammar_none : (i : ℕ) → i ≡ docs s → length (toks s) ≤ i → Err (because NotAllowed (length s)) ≡ summaries (grammar level s)
   unfolding grammar summaries
   grammar_none i e h = sym (ap summaries (choose_true (leb (length (toks s)) (docs s)) _ _ (le-leb (length (toks s)) (docs s) (omega arith))))
 
@@ -330,7 +322,7 @@ module _ (level : Level) (s : List ℕ) where
         ∙ sym (plus_none (summaries (rules_up_to level s (length (toks s)) i)));
   }
 
-  pub grammar_done : (i a b c : ℕ) → length (toks s) ≤ i → RulesInv i a b c → Counted.Rules a b c ≡ summaries (grammar level s)
+  pub grammar_done : (i a b c : ℕ) → length (toks s) ≤ i → RulesInv i a b c → Ok (rule_counts a b c) ≡ summaries (grammar level s)
   unfolding summaries plus counts rules_stored
   grammar_done i a b c h v =
       rules₃ a b c (a + 0) (b + 0) (c + 0) (omega arith) (omega arith) (omega arith) ∙ sym (v.same ∙ ap (λ (m : Ruled). plus a b c (summaries m)) (rules_end v.fuel i h))
@@ -350,18 +342,18 @@ module _ (level : Level) (s : List ℕ) where
         same = g ∙ ap (λ (m : Ruled). plus a b c (summaries m)) (rules_doc k i h (sees s i x 27 e q));
       }
 
-  pub grammar_refused : (i a b c x : ℕ) → i < length (toks s) → x ≡ kind s i → (x ≡ 27 → ⊥) → RulesInv i a b c → (r : Checked) (y : Refusal) → r ≡ rule_summary (rule_from level s i) → r ≡ Checked.Refused y
-      → Counted.Refused y ≡ summaries (grammar level s)
+  pub grammar_refused : (i a b c x : ℕ) → i < length (toks s) → x ≡ kind s i → (x ≡ 27 → ⊥) → RulesInv i a b c → (r : Result Piece Refusal) (y : Refusal) → r ≡ rule_summary (rule_from level s i) → r ≡ Err y
+      → Err y ≡ summaries (grammar level s)
   unfolding summaries plus
   grammar_refused i a b c x h e q v r y f g = go v.fuel v.enough v.same
     where
-      go : (k : ℕ) → length (toks s) ≤ i + k → summaries (grammar level s) ≡ plus a b c (summaries (rules_up_to level s k i)) → Counted.Refused y ≡ summaries (grammar level s)
+      go : (k : ℕ) → length (toks s) ≤ i + k → summaries (grammar level s) ≡ plus a b c (summaries (rules_up_to level s k i)) → Err y ≡ summaries (grammar level s)
       go zero l w = absurd (omega arith)
       go (suc k) l w =
           sym (w ∙ ap (λ (m : Ruled). plus a b c (summaries m)) (rules_rule k i h (misses s i x 27 e q) ∙ rule_else i k (was_unruled (rule_from level s i) r y f g)))
 
   pub grammar_more : length s ≤ max_text → (i a b c x : ℕ) → i < length (toks s) → x ≡ kind s i → (x ≡ 27 → ⊥) → RulesInv i a b c
-      → (r : Checked) (n k₁ b₁ : ℕ) → r ≡ rule_summary (rule_from level s i) → r ≡ Checked.Good n k₁ b₁ → (i < n) × RulesInv n (a + 1) (b + k₁) (c + b₁)
+      → (r : Result Piece Refusal) (n k₁ b₁ : ℕ) → r ≡ rule_summary (rule_from level s i) → r ≡ Ok (piece n k₁ b₁) → (i < n) × RulesInv n (a + 1) (b + k₁) (c + b₁)
   grammar_more t i a b c x h e q v r n k₁ b₁ f g = go v.fuel v.enough v.same
     where
       go : (k : ℕ) → length (toks s) ≤ i + k → summaries (grammar level s) ≡ plus a b c (summaries (rules_up_to level s k i)) → (i < n) × RulesInv n (a + 1) (b + k₁) (c + b₁)

@@ -1,8 +1,8 @@
 -- How many nodes and store bytes a tree has, step by step; and no text that a token gives is long.
+use Rattle.std.specs.Prelude.{ℕ, Option, Some, None}
 use Prim.Native.Nat.{ℕ, zero, suc, ◌+◌, ◌-◌, ◌*◌, ◌≤◌}
 use mathlib.Core.Path.{◌≡◌, refl, ap}
 use mathlib.Core.List.{List, [], ◌∷◌}
-use mathlib.Core.Option.{Option, none, some}
 use native.Mathlib.Omega.{arith}
 use lib.Dec.{ltb}
 use lib.ListN.{length, drop, length-append, length-take, length-drop}
@@ -10,7 +10,6 @@ use Rattle.text.specs.Scans.{Piece, spelled}
 use Rattle.text.specs.Utf8.{encoded}
 use Rattle.text.proofs.Booleans.{choose_by}
 use Rattle.literal.specs.Escapes.{escape_of, escape_piece_by, escape_piece, unescaped}
-use Rattle.literal.specs.declared.Escape.{Escape}
 use Rattle.token.specs.Table.{start, end, between, word, label}
 use Rattle.table.specs.Tree.{Span, Wrap, plain, node_tag, Tree, leaf, one, two, below, count, stored, size, wrap_stored, place_of, placed, ends_at, starts_at}
 use Rattle.table.specs.declared.Join.{Join}
@@ -44,9 +43,9 @@ encoded_short c =
     (λ e. choose_by (λ (l : List ℕ). length l ≤ 4) (ltb c 0x800) _ _ (λ e. omega arith)
     (λ e. choose_by (λ (l : List ℕ). length l ≤ 4) (ltb c 0x10000) _ _ (λ e. omega arith) (λ e. omega arith)))
 
-piece_short : (xs : List ℕ) (e : Escape) → length (escape_piece_by xs e).gives ≤ 4
-piece_short xs Escape.Plain = omega (arith, length-take 1 xs)
-piece_short xs (Escape.Means c n) = encoded_short c
+piece_short : (xs : List ℕ) (e : Option (ℕ × ℕ)) → length (escape_piece_by xs e).gives ≤ 4
+piece_short xs None = omega (arith, length-take 1 xs)
+piece_short xs (Some (c, n)) = encoded_short c
 
 pub unescaped_short : (s : List ℕ) → length (unescaped s) ≤ 4 * length s
 unfolding unescaped
@@ -148,18 +147,18 @@ size_join j a b = length-append (stored a) (stored b)
 
 pub count_closed : (c : Option (Tree Span)) (l r : Tree Span) → count (closed c (join Seq l r)) ≡ count (closed c l) + count r + 1
 unfolding closed
-count_closed none l r = count_join Seq l r
-count_closed (some c) l r = let x = count_join Choice c (join Seq l r) in let y = count_join Seq l r in let z = count_join Choice c l in omega arith
+count_closed None l r = count_join Seq l r
+count_closed (Some c) l r = let x = count_join Choice c (join Seq l r) in let y = count_join Seq l r in let z = count_join Choice c l in omega arith
 
 pub size_closed : (c : Option (Tree Span)) (l r : Tree Span) → size (closed c (join Seq l r)) ≡ size (closed c l) + size r
 unfolding closed
-size_closed none l r = size_join Seq l r
-size_closed (some c) l r = let x = size_join Choice c (join Seq l r) in let y = size_join Seq l r in let z = size_join Choice c l in omega arith
+size_closed None l r = size_join Seq l r
+size_closed (Some c) l r = let x = size_join Choice c (join Seq l r) in let y = size_join Seq l r in let z = size_join Choice c l in omega arith
 
-pub count_more : (c : Option (Tree Span)) (l r : Tree Span) → count (closed (some (closed c l)) r) ≡ count (closed c l) + count r + 1
+pub count_more : (c : Option (Tree Span)) (l r : Tree Span) → count (closed (Some (closed c l)) r) ≡ count (closed c l) + count r + 1
 unfolding closed
 count_more c l r = count_join Choice (closed c l) r
 
-pub size_more : (c : Option (Tree Span)) (l r : Tree Span) → size (closed (some (closed c l)) r) ≡ size (closed c l) + size r
+pub size_more : (c : Option (Tree Span)) (l r : Tree Span) → size (closed (Some (closed c l)) r) ≡ size (closed c l) + size r
 unfolding closed
 size_more c l r = size_join Choice (closed c l) r

@@ -1,5 +1,6 @@
 -- What tokens spell: a word and a tag's label are words, a word that begins PUSH is PUSH or PUSH_LITERAL, a number has digits, and a string stands between two `"`.
 -- Rule by rule over what is left of a text at the token's first byte, then for the token of an index.
+use Rattle.std.specs.Prelude.{ℕ, Option, Some, None}
 use Prim.Native.Nat.{ℕ, zero, suc, ◌+◌, ◌-◌, ◌≤◌, ◌<◌}
 use mathlib.Core.Path.{◌≡◌, refl, sym, ap, ◌∙◌}
 use mathlib.Core.Bool.{Bool, true, false}
@@ -15,13 +16,9 @@ use Rattle.text.specs.Classes.{blanks, letter, digit, ones, openers, class_of}
 use Rattle.text.specs.Words.{starts_word, in_word, is_word, begins, push}
 use Rattle.text.specs.Scans.{later, sought}
 use Rattle.text.specs.Utf8.{char_of, first_bad}
-use Rattle.text.specs.declared.Scan.{Scan}
-use Rattle.text.specs.declared.Scan.TheVariants.{Through, StopsAt}
-use Rattle.text.specs.declared.Sequence.{Sequence}
 use Rattle.text.proofs.Booleans.{and_both, and_true, choose_by, or_by, split}
 use Rattle.text.proofs.Tests.{lt_or_ge}
 use Rattle.literal.specs.Escapes.{escape_of}
-use Rattle.literal.specs.declared.Escape.{Escape}
 use Rattle.token.specs.Blanks.{run, first, in_digits, words, digit_run, zeros, blank_of}
 use Rattle.token.specs.Tokens.{moved, push_literal, allowed, word_token, tag_token, number_token, minus_token, dots_token, inside_look, string_by, string_of, insens_token, quoted, escaped_by, raw_by, char_token, doc_token, opener_token, place_in, one_kind, token_by, first_token, token_at}
 use Rattle.token.specs.Lists.{Tok, tok, kind_of, start_of, end_of, place_from}
@@ -117,9 +114,9 @@ Front xs End = Unit {0}
 Front xs (NoToken p) = Unit {0}
 
 module _ (ws : List ℕ) (kind k : ℕ) (make : (n : ℕ) → next_is 34 (drop (n - 1) ws) ≡ true → Front ws (Found kind 0 n)) where
-  string_by_lem : (r : Scan) → Front ws (string_by kind k (drop k ws) r)
-  string_by_lem Through = tt
-  string_by_lem (StopsAt n) =
+  string_by_lem : (r : Option ℕ) → Front ws (string_by kind k (drop k ws) r)
+  string_by_lem None = tt
+  string_by_lem (Some n) =
       let z : k + n ≡ (k + (n + 1)) - 1 = omega arith in
       choose_by (Front ws) (next_is 34 (drop n (drop k ws))) _ _ (λ e. make (k + (n + 1)) (rw (drop-drop n k ws, z) at e)) (λ e. tt)
 
@@ -135,13 +132,13 @@ module _ (x : ℕ) (xs : List ℕ) where
   unfolding quoted
   quoted_front n = choose_by Here (next_is 39 (drop n xs)) _ _ (λ e. (refl, tt)) (λ e. tt)
 
-  escaped_front : (r : Escape) → Here (escaped_by xs r)
-  escaped_front (Escape.Means c n) = quoted_front n
-  escaped_front Escape.Plain = tt
+  escaped_front : (r : Option (ℕ × ℕ)) → Here (escaped_by xs r)
+  escaped_front (Some (c, n)) = quoted_front n
+  escaped_front None = tt
 
-  raw_front : (r : Sequence) → Here (raw_by xs r)
-  raw_front (Sequence.Is c n) = quoted_front n
-  raw_front Sequence.Broken = tt
+  raw_front : (r : Option (ℕ × ℕ)) → Here (raw_by xs r)
+  raw_front (Some (c, n)) = quoted_front n
+  raw_front None = tt
 
   char_front : Here (char_token xs)
   unfolding char_token
@@ -243,9 +240,9 @@ front_at s f (Found j x y) k a b h e =
 front_at s f End k a b h e = let z : ◌≡◌ {A = ℕ} 0 1 = cc in absurd (omega arith)
 front_at s f (NoToken p) k a b h e = let z : ◌≡◌ {A = ℕ} 0 1 = cc in absurd (omega arith)
 
-landed_says : (s : List ℕ) (r : Scan) (k a b : ℕ) → landed s r ≡ Found k a b → Known (spells_of k) (drop a s) (b - a)
-landed_says s Through k a b e = let z : ◌≡◌ {A = ℕ} 0 1 = cc in absurd (omega arith)
-landed_says s (StopsAt f) k a b e = front_at s f (first_token (drop f s)) k a b (first_front (drop f s)) e
+landed_says : (s : List ℕ) (r : Option ℕ) (k a b : ℕ) → landed s r ≡ Found k a b → Known (spells_of k) (drop a s) (b - a)
+landed_says s None k a b e = let z : ◌≡◌ {A = ℕ} 0 1 = cc in absurd (omega arith)
+landed_says s (Some f) k a b e = front_at s f (first_token (drop f s)) k a b (first_front (drop f s)) e
 
 tok_says : (s : List ℕ) (at : ℕ) (t : Tok) → token_at s at ≡ found_as t → Known (spells_of (kind_of t)) (drop (start_of t) s) (end_of t - start_of t)
 tok_says s at (tok k a b) e = landed_says s (later at (sought blank_of 0 (drop at s))) k a b (sym (landed_is s at) ∙ e)
@@ -317,28 +314,28 @@ module _ (s : List ℕ) (i : ℕ) where
       rw (z, sym (drop-drop 1 (start s i) s)) (says 19 (omega arith) e)
 
   -- the inside of a string: between two `"`, or empty
-  module _ (u : first_bad s ≡ Through) where
-    inside_by : (p q : ℕ) → q < length s → get_or s p 0 ≡ 34 → get_or s q 0 ≡ 34 → (p < q) ⊎ (q ≤ p) → first_bad (between s (p + 1) q) ≡ Through
+  module _ (u : first_bad s ≡ None) where
+    inside_by : (p q : ℕ) → q < length s → get_or s p 0 ≡ 34 → get_or s q 0 ≡ 34 → (p < q) ⊎ (q ≤ p) → first_bad (between s (p + 1) q) ≡ None
     unfolding first_bad sought
     inside_by p q h a b (inl l) = between_utf8 34 (omega arith) s p q l h a b u
     inside_by p q h a b (inr l) = rw (part_none s (p + 1) q (omega arith))
 
     inside : (k : ℕ) → next_is 34 (drop k (drop (start s i) s)) ≡ true → next_is 34 (drop ((end s i - start s i) - 1) (drop (start s i) s)) ≡ true → start s i < end s i
-        → first_bad (between s ((start s i + k) + 1) (end s i - 1)) ≡ Through
+        → first_bad (between s ((start s i + k) + 1) (end s i - 1)) ≡ None
     inside k a b h =
         let z : start s i + ((end s i - start s i) - 1) ≡ end s i - 1 = omega arith in
         let y : next_is 34 (drop (end s i - 1) s) ≡ true = rw (drop-drop ((end s i - start s i) - 1) (start s i) s, z) at b in
         inside_by (start s i + k) (end s i - 1) (some_next 34 (end s i - 1) s y) (is_at s (start s i + k) 34 (rw (drop-drop k (start s i) s) at a)) (is_at s (end s i - 1) 34 y)
         (lt_or_ge (start s i + k) (end s i - 1))
 
-    pub string_inside : is s i 23 ≡ true → first_bad (literal_bytes s i) ≡ Through
+    pub string_inside : is s i 23 ≡ true → first_bad (literal_bytes s i) ≡ None
     string_inside e =
         let r = says 23 (omega arith) e in
         let l = spans s i (inside_is s i 23 (omega arith) e) in
         let z : (start s i + 0) + 1 ≡ start s i + 1 = omega arith in
         rw (another s i (kind s i) 23 24 refl (is_kind s i 23 e) (λ m. omega arith)) (rw z at (inside 0 r.0 r.1 l.0))
 
-    pub insens_inside : is s i 24 ≡ true → first_bad (literal_bytes s i) ≡ Through
+    pub insens_inside : is s i 24 ≡ true → first_bad (literal_bytes s i) ≡ None
     insens_inside e =
         let r = says 24 (omega arith) e in
         let l = spans s i (inside_is s i 24 (omega arith) e) in

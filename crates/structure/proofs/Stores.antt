@@ -1,11 +1,11 @@
 -- What is read has no more store bytes than the text has bytes: a token gives at most its own, and the bytes up to an index (`up_to`) grow with it.
 -- By descent: what a call adds to what it was handed fits between where it begins and where it ends.
+use Rattle.std.specs.Prelude.{ℕ, Option, Some, None}
 use Prim.Native.Nat.{ℕ, zero, suc, ◌+◌, ◌-◌, ◌≤◌, ◌<◌}
 use mathlib.Core.Path.{◌≡◌, refl, ap, ◌∙◌}
 use mathlib.Core.Bool.{true}
 use mathlib.Core.List.{List, [], ◌∷◌}
 use mathlib.Core.Logic.{⊎_elim}
-use mathlib.Core.Option.{none, some}
 use native.Mathlib.Nat.{eq-or-lt_of_le}
 use native.Mathlib.Numerals.{add-one}
 use native.Mathlib.Omega.{arith}
@@ -15,13 +15,9 @@ use Rattle.text.specs.Booleans.{next_is}
 use Rattle.text.specs.Words.{push}
 use Rattle.text.specs.Scans.{Piece, spelled}
 use Rattle.text.specs.Utf8.{encoded}
-use Rattle.text.specs.declared.Value.{Value}
-use Rattle.text.specs.declared.Value.TheVariants.{Number, Nothing}
 use Rattle.text.proofs.Booleans.{and_left, choose_by, split}
 use Rattle.literal.specs.Escapes.{digits_of, simple_of, pair_by, pair_of, braced_by, braced_of, after_by, after_of, escape_of, escape_piece_by, escape_piece, unescaped}
 use Rattle.literal.specs.declared.Digits.{Digits}
-use Rattle.literal.specs.declared.Escape.{Escape}
-use Rattle.literal.specs.declared.Escape.TheVariants.{Means, Plain}
 use Rattle.literal.proofs.Escaped.{meant}
 use Rattle.token.specs.Lists.{Tok, tok, end_of, place_from}
 use Rattle.token.specs.Table.{toks, tok_of, start, end, is, trimmed, word, label}
@@ -45,13 +41,13 @@ use Rattle.structure.proofs.Ruled.{all_rules}
 
 -- ---- an escape is no shorter than what it means
 
-abbrev Short : Escape → Type 0
-Short (Means c n) = length (encoded c) ≤ n
-Short Plain = Unit {0}
+abbrev Short : Option (ℕ × ℕ) → Type 0
+Short (Some (c, n)) = length (encoded c) ≤ n
+Short None = Unit {0}
 
-abbrev Little : Value → Type 0
-Little (Number c) = length (encoded c) ≤ 2
-Little Nothing = Unit {0}
+abbrev Little : Option ℕ → Type 0
+Little (Some c) = length (encoded c) ≤ 2
+Little None = Unit {0}
 
 simple_short : (x : ℕ) → Little (simple_of x)
 unfolding simple_of encoded
@@ -76,10 +72,10 @@ unfolding braced_of
 open_short [] = tt
 open_short (x ∷ xs) = choose_by Short (eqb x 123) _ _ (λ e. braced_short xs (digits_of 6 0 0 xs)) (λ e. tt)
 
-after_by_lem : (v : Value) (x : ℕ) (xs : List ℕ) → Little v → Short (after_by v x xs)
+after_by_lem : (v : Option ℕ) (x : ℕ) (xs : List ℕ) → Little v → Short (after_by v x xs)
 unfolding pair_of
-after_by_lem (Number c) x xs h = h
-after_by_lem Nothing x xs h =
+after_by_lem (Some c) x xs h = h
+after_by_lem None x xs h =
     choose_by Short (eqb x 120) _ _ (λ e. pair_short (digits_of 2 0 0 xs)) (λ e. choose_by Short (eqb x 117) _ _ (λ e. open_short xs) (λ e. tt))
 
 after_short : (xs : List ℕ) → Short (after_of xs)
@@ -96,9 +92,9 @@ escape_short (x ∷ xs) = choose_by Short (eqb x 92) _ _ (λ e. after_short xs) 
 abbrev Fair : List ℕ → Piece → Type 0
 Fair xs p = (length p.gives ≤ p.more + 1) × (p.more ≤ length xs)
 
-piece_fair : (x : ℕ) (xs : List ℕ) (r : Escape) → escape_of (x ∷ xs) ≡ r → Short r → Fair xs (escape_piece_by (x ∷ xs) r)
-piece_fair x xs Plain e h = (omega arith, omega arith)
-piece_fair x xs (Means c n) e h = let m = meant (x ∷ xs) c n e in (omega (arith, m.two), omega (arith, m.two, m.inside))
+piece_fair : (x : ℕ) (xs : List ℕ) (r : Option (ℕ × ℕ)) → escape_of (x ∷ xs) ≡ r → Short r → Fair xs (escape_piece_by (x ∷ xs) r)
+piece_fair x xs None e h = (omega arith, omega arith)
+piece_fair x xs (Some (c, n)) e h = let m = meant (x ∷ xs) c n e in (omega (arith, m.two), omega (arith, m.two, m.inside))
 
 spelled_fair : (p : List ℕ → Piece) → ((x : ℕ) (xs : List ℕ) → Fair xs (p (x ∷ xs))) → (k : ℕ) (xs : List ℕ) → k ≤ length xs → length (spelled p k xs) + k ≤ length xs
 unfolding spelled
@@ -209,7 +205,7 @@ module _ (s : List ℕ) where
       let w : i ≡ n = cc in
       rw (z, w) at h
 
-  first_adds : (o at i : ℕ) (x t : Tree Span) (n : ℕ) → Adds (term o at) x i → Adds (chain o none x i) t n → Adds (expr o at) t n
+  first_adds : (o at i : ℕ) (x t : Tree Span) (n : ℕ) → Adds (term o at) x i → Adds (chain o None x i) t n → Adds (expr o at) t n
   unfolding closed
   first_adds o at i x t n a b = omega arith
 
@@ -222,7 +218,7 @@ module _ (s : List ℕ) where
     unfolding body
     step go h (expr o at) t n e =
         let (x, i, p, q) = next_got (go (term o at)) _ e in
-        first_adds o at i x t n (h (term o at) x i p) (h (chain o none x i) t n q)
+        first_adds o at i x t n (h (term o at) x i p) (h (chain o None x i) t n q)
     step go h (chain o c l at) t n e =
         split (is s at 10) _ _
         (λ v w.
@@ -234,7 +230,7 @@ module _ (s : List ℕ) where
         (λ v w.
         let (x, i, p, q) = next_got (go (term o (at + 1))) _ w in
         let a = h (term o (at + 1)) x i p in
-        let b = h (chain o (some (closed c l)) x i) t n q in
+        let b = h (chain o (Some (closed c l)) x i) t n q in
         omega (arith, size_more c l x, grows at (at + 1) (omega arith)))
         (λ v w. same_got (chain o c l at) w (omega arith))) e
     step go h (term o at) t n e =

@@ -1,5 +1,5 @@
 -- What the checking functions ask for and answer.
-use Rattle.std.specs.Prelude.{ℕ, zero, suc, ◌+◌, ◌-◌, ◌≤◌, ◌≡◌, Bool, false, List, length}
+use Rattle.std.specs.Prelude.{ℕ, zero, suc, ◌+◌, ◌-◌, ◌≤◌, ◌≡◌, Bool, false, List, length, Option, Some, None, Result, Ok, Err}
 use Rattle.text.specs.Booleans.{choose, or}
 use Rattle.text.specs.Words.{push}
 use Rattle.token.specs.Lists.{place_from}
@@ -9,16 +9,12 @@ use Rattle.table.specs.declared.Unary.{Unary}
 use Rattle.table.specs.declared.Unary.TheVariants.{PosPred, NegPred}
 use Rattle.structure.specs.declared.Level.{Level}
 use Rattle.structure.specs.declared.Level.TheVariants.{Tagged, Plain}
-use Rattle.structure.specs.declared.Checked.{Checked}
-use Rattle.structure.specs.declared.Wanted.{Wanted}
-use Rattle.structure.specs.declared.Wanted.TheVariants.{Here, Missing}
-use Rattle.structure.specs.declared.Opening.{Opening}
-use Rattle.structure.specs.declared.Opening.TheVariants.{From, Untied}
+use Rattle.structure.specs.declared.Piece.{Piece}
+use Rattle.structure.specs.declared.Posts.{Posts}
+use Rattle.structure.specs.declared.Counts.{Counts}
+use Rattle.structure.specs.declared.Refusal.{Refusal}
 use Rattle.structure.specs.declared.Bracket.{Bracket}
 use Rattle.structure.specs.declared.Bracket.TheVariants.{Opens, Unopened, Nothing}
-use Rattle.structure.specs.declared.PostfixEnd.{PostfixEnd}
-use Rattle.structure.specs.declared.PostfixEnds.{PostfixEnds}
-use Rattle.structure.specs.declared.Counted.{Counted}
 use Rattle.structure.specs.Tokens.{spells}
 use Rattle.structure.specs.Values.{is_integer}
 use Rattle.structure.specs.Structure.{Parsed, got, refused, next, prefixed, Postfix, post, not_post, no_post, signed, posts, Run, Ruling, ruling, no_rule, Ruled, rules, unruled}
@@ -28,12 +24,12 @@ unfoldable pub unread : List ℕ → ℕ → ℕ
 unread s i = length s - place_from 0 (toks s) i
 
 -- where a reading ends, its nodes and its bytes in the store
-unfoldable pub summary : Parsed → Checked
-summary (got t n) = Checked.Good n (count t) (size t)
-summary (refused r) = Checked.Refused r
+unfoldable pub summary : Parsed → Result Piece Refusal
+summary (got t n) = Ok (record { next = n; nodes = count t; bytes = size t })
+summary (refused r) = Err r
 
-unfoldable pub wanted : List ℕ → ℕ → ℕ → Wanted
-wanted s i k = choose (is s i k) (λ u. Here (i + 1)) (λ u. Missing)
+unfoldable pub wanted : List ℕ → ℕ → ℕ → Option ℕ
+wanted s i k = choose (is s i k) (λ u. Some (i + 1)) (λ u. None)
 
 -- the nodes and the bytes of a tag
 abbrev pub tag_nodes : Level → ℕ
@@ -45,10 +41,10 @@ tag_bytes Tagged n = n
 tag_bytes Plain n = 0
 
 -- where a term's predicates begin, and the nodes and bytes of its tag
-unfoldable pub opening_of : Level → List ℕ → ℕ → Opening
+unfoldable pub opening_of : Level → List ℕ → ℕ → Option Piece
 opening_of level s at =
     choose (is s at 19)
-    (λ u. choose (is s (at + 1) 1) (λ u. From (at + 2) (tag_nodes level) (tag_bytes level (length (label s at)))) (λ u. Untied)) (λ u. From at 0 0)
+    (λ u. choose (is s (at + 1) 1) (λ u. Some (record { next = at + 2; nodes = tag_nodes level; bytes = tag_bytes level (length (label s at)) })) (λ u. None)) (λ u. Some (record { next = at; nodes = 0; bytes = 0 }))
 
 -- a token that is a predicate
 abbrev pub is_sign : List ℕ → ℕ → Bool
@@ -90,26 +86,26 @@ abbrev pub past_integer : List ℕ → ℕ → ℕ
 past_integer s i = choose (is_integer s i) (λ u. i + 1) (λ u. i)
 
 -- where a postfix ends
-unfoldable pub tail_of : Postfix → PostfixEnd
-tail_of (post v n) = PostfixEnd.Past n
-tail_of (not_post r) = PostfixEnd.Bad r
-tail_of no_post = PostfixEnd.Ended
+unfoldable pub tail_of : Postfix → Result (Option ℕ) Refusal
+tail_of (post v n) = Ok (Some n)
+tail_of (not_post r) = Err r
+tail_of no_post = Ok None
 
 -- a tree with the nodes of postfixes around it
-unfoldable pub tailed : Tree Span → PostfixEnds → Checked
-tailed t (PostfixEnds.All n k) = Checked.Good n (count t + k) (size t)
-tailed t (PostfixEnds.Bad r) = Checked.Refused r
+unfoldable pub tailed : Tree Span → Result Posts Refusal → Result Piece Refusal
+tailed t (Ok p) = Ok (record { next = p.next; nodes = count t + p.nodes; bytes = size t })
+tailed t (Err r) = Err r
 
 -- the postfixes from an index on, around any tree, at either level
-pub record Posted (s : List ℕ) (at : ℕ) (r : PostfixEnds) : Type 0 where
+pub record Posted (s : List ℕ) (at : ℕ) (r : Result Posts Refusal) : Type 0 where
   pub around : (level : Level) (t : Tree Span) → tailed t r ≡ summary (Run level s (posts t at))
 
 -- where a rule ends, its nodes and its bytes in the store
-unfoldable pub rule_summary : Ruling → Checked
-rule_summary (ruling r n) = Checked.Good n (count r.tree) (length (rule_stored r))
-rule_summary (no_rule x) = Checked.Refused x
+unfoldable pub rule_summary : Ruling → Result Piece Refusal
+rule_summary (ruling r n) = Ok (record { next = n; nodes = count r.tree; bytes = length (rule_stored r) })
+rule_summary (no_rule x) = Err x
 
 -- how many rules, nodes and store bytes
-unfoldable pub summaries : Ruled → Counted
-summaries (rules rs) = Counted.Rules (length rs) (counts rs) (length (rules_stored rs))
-summaries (unruled r) = Counted.Refused r
+unfoldable pub summaries : Ruled → Result Counts Refusal
+summaries (rules rs) = Ok (record { rules = length rs; nodes = counts rs; bytes = length (rules_stored rs) })
+summaries (unruled r) = Err r

@@ -1,10 +1,8 @@
 -- The numbers of trees that can be printed and read back: each is of 32 bits, and no exact count or maximum is 0.
-use Rattle.std.specs.Prelude.{ℕ, Bool, true, not, List, [], ◌∷◌, leb, eqb}
+use Rattle.std.specs.Prelude.{ℕ, Bool, true, not, List, [], ◌∷◌, leb, eqb, Option, Some, None}
 use Rattle.text.specs.Booleans.{and}
 use Rattle.table.specs.declared.Unary.{Unary}
 use Rattle.table.specs.declared.Unary.TheVariants.{PosPred, NegPred, Opt, Rep, RepOnce, RepExact, RepMin, RepMax, RepMinMax, Push}
-use Rattle.table.specs.declared.End.{End}
-use Rattle.table.specs.declared.End.TheVariants.{Open, At}
 use Rattle.table.specs.Tree.{Atom, text, range, peek_slice, Wrap, plain, node_tag, Tree, leaf, one, two, Rule}
 
 -- a number of 32 bits
@@ -38,9 +36,9 @@ wrap_counts (plain u) = unary_counts u
 wrap_counts (node_tag b) = true
 
 -- where a slice ends
-abbrev pub end_counts : End → Bool
-end_counts Open = true
-end_counts (At n) = small n
+abbrev pub end_counts : Option ℕ → Bool
+end_counts None = true
+end_counts (Some n) = small n
 
 -- a slice's numbers are of 32 bits, as two's complement has them
 abbrev pub atom_counts : Atom → Bool

@@ -1,9 +1,8 @@
 -- The values of trees and those of tokens, in text order; and when a token's value is right, and by which refusal it is wrong.
-use Rattle.std.specs.Prelude.{ℕ, zero, suc, ◌+◌, ◌≤◌, ◌<◌, ◌≡◌, true, ◌⊎◌, List, [], ◌∷◌, ◌++◌, eqb, length}
+use Rattle.std.specs.Prelude.{ℕ, zero, suc, ◌+◌, ◌≤◌, ◌<◌, ◌≡◌, true, ◌⊎◌, List, [], ◌∷◌, ◌++◌, eqb, length, Option, Some, None, Ok, Err}
 use Rattle.text.specs.Booleans.{choose, and, or}
 use Rattle.text.specs.Digits.{decimal_of}
-use Rattle.text.specs.declared.Decimal.TheVariants as Decimal
-use Rattle.text.specs.declared.Scan.TheVariants as Scan
+use Rattle.text.specs.declared.DecimalError.{DecimalError}
 use Rattle.literal.specs.Escapes.{bad_escape}
 use Rattle.token.specs.Table.{toks, kind, start, is, word}
 use Rattle.token.specs.Tokens.{push_literal}
@@ -11,8 +10,6 @@ use Rattle.table.specs.declared.Unary.{Unary}
 use Rattle.table.specs.declared.Unary.TheVariants.{PosPred, NegPred, Opt, Rep, RepOnce, RepExact, RepMin, RepMax, RepMinMax, Push}
 use Rattle.table.specs.declared.Sort.{Sort}
 use Rattle.table.specs.declared.Sort.TheVariants.{Str, Insens, Ident, PushLiteral}
-use Rattle.table.specs.declared.End.{End}
-use Rattle.table.specs.declared.End.TheVariants.{Open, At}
 use Rattle.table.specs.Tree.{Span, Atom, text, range, peek_slice, Wrap, plain, node_tag, Tree, leaf, one, two, Rule}
 use Rattle.structure.specs.declared.Edition.{Edition}
 use Rattle.structure.specs.declared.Edition.TheVariants.{Second}
@@ -60,9 +57,9 @@ sort_values Ident b = []
 sort_values PushLiteral b = pushes ∷ bytes b ∷ []
 
 -- where a slice ends, unless it is open
-abbrev pub end_values : End → List Value
-end_values Open = []
-end_values (At n) = peeked n ∷ []
+abbrev pub end_values : Option ℕ → List Value
+end_values None = []
+end_values (Some n) = peeked n ∷ []
 
 -- the values of a leaf: a slice always has a start
 abbrev pub atom_values : Atom → List Value
@@ -128,12 +125,12 @@ values_in s = values_to s (length (toks s))
 
 -- a token's digits are a repeat number
 abbrev pub Counts : List ℕ → ℕ → ℕ → Type 0
-Counts s i n = decimal_of 4294967295 (word s i) ≡ Decimal.Is n
+Counts s i n = decimal_of 4294967295 (word s i) ≡ Ok n
 
 -- a token says a number of a PEEK slice: it fits, or is an absent start
 abbrev pub Peeks : List ℕ → ℕ → ℕ → Type 0
 Peeks s i n =
-    ((is s i 22 ≡ true) × (n ≡ 0)) ⊎ ((m : ℕ) × (integer_of s i ≡ Decimal.Is m) × (n ≡ choose (is s i 21) (λ u. negated m) (λ u. m)))
+    ((is s i 22 ≡ true) × (n ≡ 0)) ⊎ ((m : ℕ) × (integer_of s i ≡ Ok m) × (n ≡ choose (is s i 21) (λ u. negated m) (λ u. m)))
 
 -- a token's value is what its bytes say, and allowed
 abbrev pub Right : Edition → Level → List ℕ → ℕ → Value → Type 0
@@ -142,13 +139,13 @@ Right edition level s i (least n) = Counts s i n
 Right edition level s i (lower n m) = Counts s i n × (edition ≡ Second → 1 ≤ m → n ≤ m)
 Right edition level s i (most n) = Counts s i n × (1 ≤ n)
 Right edition level s i (peeked n) = Peeks s i n
-Right edition level s i (single c) = bad_escape (literal_bytes s i) ≡ Scan.Through
-Right edition level s i (bytes b) = bad_escape (literal_bytes s i) ≡ Scan.Through
+Right edition level s i (single c) = bad_escape (literal_bytes s i) ≡ None
+Right edition level s i (bytes b) = bad_escape (literal_bytes s i) ≡ None
 Right edition level s i pushes = level ≡ Tagged
 
 -- 5: a token's digits are too large for a repeat number
 abbrev pub TooMany : List ℕ → ℕ → Refusal → Type 0
-TooMany s i r = (decimal_of 4294967295 (word s i) ≡ Decimal.Over) × (r ≡ because Over (start s i))
+TooMany s i r = (decimal_of 4294967295 (word s i) ≡ Err DecimalError.Over) × (r ≡ because Over (start s i))
 
 -- 6: they are worth 0
 abbrev pub NoTimes : List ℕ → ℕ → Refusal → Type 0
@@ -160,7 +157,7 @@ AboveMost edition s i n m r = Counts s i n × (edition ≡ Second) × (1 ≤ m) 
 
 -- 8: an escape of a literal is of no character
 abbrev pub NoCharacter : List ℕ → ℕ → Refusal → Type 0
-NoCharacter s i r = (k : ℕ) × (bad_escape (literal_bytes s i) ≡ Scan.StopsAt k) × (r ≡ because NotScalar (start s i + opening s i + k))
+NoCharacter s i r = (k : ℕ) × (bad_escape (literal_bytes s i) ≡ Some k) × (r ≡ because NotScalar (start s i + opening s i + k))
 
 -- what is wrong with a token's value; 7 is for a PEEK number that doesn't fit, 13 for PUSH_LITERAL
 abbrev pub Wrong : Edition → Level → List ℕ → ℕ → Value → Refusal → Type 0
@@ -168,7 +165,7 @@ Wrong edition level s i (exact n) r = TooMany s i r ⊎ NoTimes s i r
 Wrong edition level s i (least n) r = TooMany s i r
 Wrong edition level s i (lower n m) r = TooMany s i r ⊎ AboveMost edition s i n m r
 Wrong edition level s i (most n) r = TooMany s i r ⊎ NoTimes s i r
-Wrong edition level s i (peeked n) r = (is_integer s i ≡ true) × (integer_of s i ≡ Decimal.Over) × (r ≡ because PeekRange (start s i))
+Wrong edition level s i (peeked n) r = (is_integer s i ≡ true) × (integer_of s i ≡ Err DecimalError.Over) × (r ≡ because PeekRange (start s i))
 Wrong edition level s i (single c) r = NoCharacter s i r
 Wrong edition level s i (bytes b) r = NoCharacter s i r
 Wrong edition level s i pushes r = (level ≡ Plain) × (r ≡ because NotPlain (start s i))

@@ -1,7 +1,6 @@
 -- Structure: what a text's tokens mean, as a descent over their list and an index.
 -- `body` is the grammar; `go` reads what stands inside. `Run c` is `body Run c` (a law), so nobody above looks at fuel.
-use Rattle.std.specs.Prelude.{ℕ, zero, suc, ◌+◌, ◌-◌, ◌*◌, Bool, not, List, [], ◌∷◌, leb, eqb, length}
-use Rattle.std.proofs.Math.Option.{Option, none, some}
+use Rattle.std.specs.Prelude.{ℕ, zero, suc, ◌+◌, ◌-◌, ◌*◌, Bool, not, List, [], ◌∷◌, leb, eqb, length, Some, None, Option}
 use Rattle.text.specs.Booleans.{choose, and}
 use Rattle.text.specs.Words.{begins, push}
 use Rattle.text.specs.Limits.{max_open}
@@ -13,7 +12,6 @@ use Rattle.table.specs.declared.Join.TheVariants.{Seq, Choice}
 use Rattle.table.specs.declared.Unary.{Unary}
 use Rattle.table.specs.declared.Unary.TheVariants.{PosPred, NegPred, Opt, Rep, RepOnce, RepExact, RepMin, RepMax, RepMinMax, Push}
 use Rattle.table.specs.declared.Sort.TheVariants.{Str, Insens, Ident, PushLiteral}
-use Rattle.table.specs.declared.End.TheVariants.{Open, At}
 use Rattle.structure.specs.declared.Level.{Level}
 use Rattle.structure.specs.declared.Level.TheVariants.{Tagged, Plain}
 use Rattle.structure.specs.declared.Refusal.{Refusal}
@@ -49,8 +47,8 @@ join j a b = two (over a b) j a b
 
 -- `~` binds tighter than `|`: the choices before the last sequence, and that sequence
 unfoldable pub closed : Option (Tree Span) → Tree Span → Tree Span
-closed none l = l
-closed (some c) l = join Choice c l
+closed None l = l
+closed (Some c) l = join Choice c l
 
 -- a predicate or a tag before an expression, which starts there and ends with it
 unfoldable pub prefixed : ℕ → Wrap → Tree Span → Tree Span
@@ -98,8 +96,8 @@ postfix_at s i =
 -- `PEEK[` from `..` to `]`, either number absent, from past the `..` on: an absent start is 0
 unfoldable pub slice_to : List ℕ → ℕ → ℕ → ℕ → Parsed
 slice_to s at from i =
-    choose (is_integer s i) (λ u. want refused s (i + 1) 5 (λ n. got (leaf (across s at (i + 1)) (peek_slice from (At (integer s i)))) n))
-    (λ u. want refused s i 5 (λ n. got (leaf (across s at i) (peek_slice from Open)) n))
+    choose (is_integer s i) (λ u. want refused s (i + 1) 5 (λ n. got (leaf (across s at (i + 1)) (peek_slice from (Some (integer s i)))) n))
+    (λ u. want refused s i 5 (λ n. got (leaf (across s at i) (peek_slice from None)) n))
 
 unfoldable pub slice : List ℕ → ℕ → ℕ → Parsed
 slice s at i =
@@ -146,10 +144,10 @@ pub data Call : Type 0 where
 module _ (level : Level) (s : List ℕ) where
   unfoldable pub body : (Call → Parsed) → Call → Parsed
   -- terms joined by `~` or `|`, both grouped left
-  body go (expr o at) = next (go (term o at)) (λ t n. go (chain o none t n))
+  body go (expr o at) = next (go (term o at)) (λ t n. go (chain o None t n))
   body go (chain o c l at) =
       choose (is s at 10) (λ u. next (go (term o (at + 1))) (λ r n. go (chain o c (join Seq l r) n)))
-      (λ u. choose (is s at 11) (λ u. next (go (term o (at + 1))) (λ r n. go (chain o (some (closed c l)) r n)))
+      (λ u. choose (is s at 11) (λ u. next (go (term o (at + 1))) (λ r n. go (chain o (Some (closed c l)) r n)))
       (λ u. got (closed c l) at))
   -- at most one (tag, `=`)
   body go (term o at) =

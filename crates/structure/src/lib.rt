@@ -46,40 +46,12 @@ pub struct Refusal {
     pub place: usize,
 }
 
-// What is wrong with the values of tokens.
+// What was gone past: the index past it, its nodes and its bytes in the store.
 #[derive(Clone, Copy)]
-pub enum Fault {
-    Sound,
-    At(Refusal),
-}
-
-// What was checked: the index of the next token, its nodes and its bytes in the store.
-#[derive(Clone, Copy)]
-pub enum Checked {
-    Good {
-        next: usize,
-        nodes: usize,
-        bytes: usize,
-    },
-    Refused(Refusal),
-}
-
-// A token that is wanted: the index past it.
-#[derive(Clone, Copy)]
-pub enum Wanted {
-    Here(usize),
-    Missing,
-}
-
-// A term's tag, if any: the index past it, its nodes and bytes; or no `=` after it.
-#[derive(Clone, Copy)]
-pub enum Opening {
-    From {
-        next: usize,
-        nodes: usize,
-        bytes: usize,
-    },
-    Untied,
+pub struct Piece {
+    pub next: usize,
+    pub nodes: usize,
+    pub bytes: usize,
 }
 
 // What opens an expression in a node: the `(`, and the nodes around what it holds; no `(` after PUSH;
@@ -91,28 +63,17 @@ pub enum Bracket {
     Nothing,
 }
 
-// One postfix: the index past it.
-#[derive(Clone, Copy)]
-pub enum PostfixEnd {
-    Past(usize),
-    Bad(Refusal),
-    Ended,
-}
-
 // All postfixes of a node: the index past the last, and how many.
 #[derive(Clone, Copy)]
-pub enum PostfixEnds {
-    All { next: usize, nodes: usize },
-    Bad(Refusal),
+pub struct Posts {
+    pub next: usize,
+    pub nodes: usize,
 }
 
 // What the rules of a text use.
 #[derive(Clone, Copy)]
-pub enum Counted {
-    Rules {
-        rules: usize,
-        nodes: usize,
-        bytes: usize,
-    },
-    Refused(Refusal),
+pub struct Counts {
+    pub rules: usize,
+    pub nodes: usize,
+    pub bytes: usize,
 }

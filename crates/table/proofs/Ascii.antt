@@ -1,4 +1,5 @@
 -- Texts whose nodes are told by their kind alone, and strings in a store of ASCII.
+use Rattle.std.specs.Prelude.{Some}
 use mathlib.Core.Path.{◌≡◌, refl, ap, ◌∙◌}
 use mathlib.Core.Bool.{Bool, true, false}
 use mathlib.Core.List.{List, [], ◌∷◌}
@@ -13,7 +14,6 @@ use Rattle.table.specs.declared.Sort.{Sort}
 use Rattle.table.specs.declared.Sort.TheVariants.{Str, Insens, Ident, PushLiteral}
 use Rattle.table.specs.declared.Leaf.TheVariants.{Text}
 use Rattle.table.specs.declared.Node.TheVariants.{Tip}
-use Rattle.table.specs.declared.First.TheVariants.{At}
 use Rattle.table.specs.Record.{node_size, part, node_of, node_at}
 use Rattle.table.specs.Check.{is_through, is_utf8, fine_text, in_store, verdict}
 use Rattle.table.proofs.Texts.{text_in}
@@ -84,7 +84,7 @@ module _ (ns st : List ℕ) (i : ℕ) where
     unfolding node_at
     string_at = string_of_lem.is
 
-    pub string_good : Low st → in_store st p q ≡ true → verdict ns st i ≡ At i
+    pub string_good : Low st → in_store st p q ≡ true → verdict ns st i ≡ Some i
     string_good h g =
         let s = string_of_lem in
         verdict_tip ns st i string_at (text_in st s.sort p q g ∙ s.fine (part st p q) ∙ low_utf8 _ (take_low q _ (drop_low p st h)))

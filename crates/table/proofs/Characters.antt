@@ -1,5 +1,6 @@
 -- Laws of characters. Good bytes before a text change nothing of what is good behind them, so that a place behind whole characters parts
 -- a line into two that are UTF-8.
+use Rattle.std.specs.Prelude.{ℕ, Option, Some, None}
 use mathlib.Core.Path.{◌≡◌, refl, sym, ap, ◌∙◌}
 use mathlib.Core.Bool.{true, false}
 use mathlib.Core.List.{List, [], ◌∷◌, ◌++◌, append-nil, map}
@@ -11,16 +12,6 @@ use lib.Seq.{drop-length, drop-append-le, drop-drop, take-add}
 use Rattle.text.specs.Booleans.{within}
 use Rattle.text.specs.Scans.{later, sought_by, sought}
 use Rattle.text.specs.Utf8.{scalar, lead_of, gathered, judged, sequence_by, char_of, look_by, seq_look, first_bad, encoded}
-use Rattle.text.specs.declared.Scan.{Scan}
-use Rattle.text.specs.declared.Scan.TheVariants.{Through, StopsAt}
-use Rattle.text.specs.declared.Lead.{Lead}
-use Rattle.text.specs.declared.Lead.TheVariants.{Row, Stray}
-use Rattle.text.specs.declared.Look.{Look}
-use Rattle.text.specs.declared.Look.TheVariants.{Past, Stop}
-use Rattle.text.specs.declared.Sequence.{Sequence}
-use Rattle.text.specs.declared.Sequence.TheVariants.{Is, Broken}
-use Rattle.table.specs.declared.Character.TheVariants as Character
-use Rattle.table.specs.Characters.{character}
 use Rattle.text.proofs.Tests.{lt_or_ge, at_byte, within_low}
 use Rattle.text.proofs.Walks.{later_zero, later_later}
 use Rattle.text.proofs.Decodes.{Found, one, two, three, four, found, decoded}
@@ -28,16 +19,11 @@ use Rattle.text.proofs.Encodes.{found_read, encoded_read, look_step}
 
 -- ---- the code
 
-pub ascii_at : (s : List ℕ) (at : ℕ) → at < length s → get_or s at 0 < 128 → char_of (drop at s) ≡ Is (get_or s at 0) 1
+pub ascii_at : (s : List ℕ) (at : ℕ) → at < length s → get_or s at 0 < 128 → char_of (drop at s) ≡ Some (get_or s at 0, 1)
 ascii_at s at l h = rw (at_byte s at l) (found_read (one h))
 
--- the answer says what the sequence is
-pub is_sequence : (q : Sequence) (c n : ℕ) → character q ≡ Character.Is c n → q ≡ Is c n
-is_sequence (Is d m) c n e = let x : d ≡ c = cc in let y : m ≡ n = cc in cc
-is_sequence Broken c n e = let z : ◌≡◌ {A = ℕ} 0 1 = cc in absurd (omega arith)
-
-pub char_inside : (s : List ℕ) (at c n : ℕ) → character (char_of (drop at s)) ≡ Character.Is c n → at + n ≤ length s
-char_inside s at c n e = let d = decoded (drop at s) c n (is_sequence (char_of (drop at s)) c n e) in omega (arith, d.some, d.inside, length-drop at s)
+pub char_inside : (s : List ℕ) (at c n : ℕ) → char_of (drop at s) ≡ Some (c, n) → at + n ≤ length s
+char_inside s at c n e = let d = decoded (drop at s) c n e in omega (arith, d.some, d.inside, length-drop at s)
 
 -- ---- a text behind good bytes
 
@@ -47,12 +33,12 @@ found_before ys (two a b t e l s) = two a b t e l s
 found_before ys (three a b t u e l s) = three a b t u e l s
 found_before ys (four a b t u v e l s) = four a b t u v e l s
 
-later_good : (k : ℕ) (r : Scan) → later k r ≡ Through → r ≡ Through
-later_good k Through e = refl
-later_good k (StopsAt i) e = let z : ◌≡◌ {A = ℕ} 0 1 = cc in absurd (omega arith)
+later_good : (k : ℕ) (r : Option ℕ) → later k r ≡ None → r ≡ None
+later_good k None e = refl
+later_good k (Some i) e = let z : ◌≡◌ {A = ℕ} 0 1 = cc in absurd (omega arith)
 
--- a character and what stands behind it
-step : (s : List ℕ) (c n : ℕ) → char_of s ≡ Is c n → first_bad s ≡ later n (first_bad (drop n s))
+-- a and what stands behind it
+step : (s : List ℕ) (c n : ℕ) → char_of s ≡ Some (c, n) → first_bad s ≡ later n (first_bad (drop n s))
 unfolding first_bad
 step s c n e =
     let d = decoded s c n e in
@@ -60,29 +46,29 @@ step s c n e =
     let h : 0 < length s = omega (arith, d.some, d.inside) in
     sym (later_zero (sought seq_look 0 s)) ∙ look_step s 0 c n h e ∙ rw z
 
-broken : (x : ℕ) (xs : List ℕ) → char_of (x ∷ xs) ≡ Broken → first_bad (x ∷ xs) ≡ Through → ⊥
+broken : (x : ℕ) (xs : List ℕ) → char_of (x ∷ xs) ≡ None → first_bad (x ∷ xs) ≡ None → ⊥
 unfolding first_bad sought
-broken x xs e g = let w : StopsAt 0 ≡ Through = sym (ap (λ q. sought_by (look_by q) (λ n. sought seq_look n xs)) e) ∙ g in let z : ◌≡◌ {A = ℕ} 0 1 = cc in omega arith
+broken x xs e g = let w : Some 0 ≡ None = sym (ap (λ q. sought_by (look_by q) (λ n. sought seq_look n xs)) e) ∙ g in let z : ◌≡◌ {A = ℕ} 0 1 = cc in omega arith
 
 abbrev Before : List ℕ → List ℕ → Type 0
-Before xs ys = first_bad xs ≡ Through → first_bad (xs ++ ys) ≡ later (length xs) (first_bad ys)
+Before xs ys = first_bad xs ≡ None → first_bad (xs ++ ys) ≡ later (length xs) (first_bad ys)
 
 before_step : (f : ℕ) (ys : List ℕ) → ((zs : List ℕ) → length zs ≤ f → Before zs ys) → (xs : List ℕ) → length xs ≤ suc f → Before xs ys
 before_step f ys ih [] l g = sym (later_zero (first_bad ys))
 before_step f ys ih (x ∷ xs) l g = by (char_of (x ∷ xs)) refl
   where
-    by : (q : Sequence) → char_of (x ∷ xs) ≡ q → first_bad ((x ∷ xs) ++ ys) ≡ later (length (x ∷ xs)) (first_bad ys)
-    by (Is c n) e =
+    by : (q : Option (ℕ × ℕ)) → char_of (x ∷ xs) ≡ q → first_bad ((x ∷ xs) ++ ys) ≡ later (length (x ∷ xs)) (first_bad ys)
+    by (Some (c, n)) e =
         let d = decoded (x ∷ xs) c n e in
         let h : length (drop n (x ∷ xs)) ≡ length (x ∷ xs) - n = length-drop n (x ∷ xs) in
         let k : n + length (drop n (x ∷ xs)) ≡ length (x ∷ xs) = omega (arith, d.inside) in
-        let r : first_bad (drop n (x ∷ xs)) ≡ Through = later_good n _ (sym (step (x ∷ xs) c n e) ∙ g) in
+        let r : first_bad (drop n (x ∷ xs)) ≡ None = later_good n _ (sym (step (x ∷ xs) c n e) ∙ g) in
         step ((x ∷ xs) ++ ys) c n (found_read (found_before ys (found (x ∷ xs) c n e)))
         ∙ ap (λ t. later n (first_bad t)) (drop-append-le n (x ∷ xs) ys d.inside)
         ∙ ap (later n) (ih (drop n (x ∷ xs)) (omega (arith, d.some)) r)
         ∙ later_later n (length (drop n (x ∷ xs))) (first_bad ys)
         ∙ ap (λ m. later m (first_bad ys)) k
-    by Broken e = absurd (broken x xs e g)
+    by None e = absurd (broken x xs e g)
 
 pub good_before : (f : ℕ) (xs ys : List ℕ) → length xs ≤ f → Before xs ys
 good_before zero xs ys l g = before_step zero ys (λ zs m. none zs m) xs (omega arith) g
@@ -92,24 +78,24 @@ good_before zero xs ys l g = before_step zero ys (λ zs m. none zs m) xs (omega 
     none (z ∷ zs) m h = absurd (omega arith)
 good_before (suc f) xs ys l g = before_step f ys (λ zs m. good_before f zs ys m) xs l g
 
-encoded_good : (c : ℕ) → scalar c ≡ true → first_bad (encoded c) ≡ Through
+encoded_good : (c : ℕ) → scalar c ≡ true → first_bad (encoded c) ≡ None
 unfolding first_bad sought
 encoded_good c s =
-    let e : char_of (encoded c) ≡ Is c (length (encoded c)) = ap char_of (sym (append-nil (encoded c))) ∙ encoded_read c [] s in
+    let e : char_of (encoded c) ≡ Some (c, length (encoded c)) = ap char_of (sym (append-nil (encoded c))) ∙ encoded_read c [] s in
     step (encoded c) c (length (encoded c)) e ∙ ap (λ z. later (length (encoded c)) (first_bad z)) (drop-length (encoded c))
 
 -- a place that parts a line between two characters
 pub record Edge (line : List ℕ) (at : ℕ) : Type 0 where
   pub inside : at ≤ length line
-  pub front : first_bad (take at line) ≡ Through
-  pub back : first_bad (drop at line) ≡ Through
+  pub front : first_bad (take at line) ≡ None
+  pub back : first_bad (drop at line) ≡ None
 
-pub edge_first : (line : List ℕ) → first_bad line ≡ Through → Edge line 0
+pub edge_first : (line : List ℕ) → first_bad line ≡ None → Edge line 0
 unfolding first_bad sought
 edge_first line g = record { inside = omega arith; front = refl; back = g }
 
 module _ (line : List ℕ) (at : ℕ) (t : Edge line at) where
-  pub edge_more : (n : ℕ) → at + n ≤ length line → first_bad (take n (drop at line)) ≡ Through → Edge line (at + n)
+  pub edge_more : (n : ℕ) → at + n ≤ length line → first_bad (take n (drop at line)) ≡ None → Edge line (at + n)
   edge_more n l g =
       let a : length (take n (drop at line)) ≡ n = simp (length-take, length-drop) (omega arith) in
       record {
@@ -121,9 +107,9 @@ module _ (line : List ℕ) (at : ℕ) (t : Edge line at) where
       whole : take n (drop at line) ++ drop (at + n) line ≡ drop at line
       whole = ap (λ z. take n (drop at line) ++ z) (sym (drop-drop n at line)) ∙ take-append-drop n (drop at line)
 
-  pub edge_char : (c n : ℕ) → character (char_of (drop at line)) ≡ Character.Is c n → Edge line (at + n)
+  pub edge_char : (c n : ℕ) → char_of (drop at line) ≡ Some (c, n) → Edge line (at + n)
   edge_char c n e =
-      let d = decoded (drop at line) c n (is_sequence (char_of (drop at line)) c n e) in
+      let d = decoded (drop at line) c n e in
       let h : length (drop at line) ≡ length line - at = length-drop at line in
       edge_more n (omega (arith, d.inside, d.some)) (ap first_bad d.front ∙ encoded_good c d.good)
 
@@ -149,9 +135,9 @@ module _ (f : ℕ → ℕ) (k : Keeps f) where
       above : ((w : ℕ) → gathered n w (map f xs) ≡ gathered n w xs) → 128 ≤ x → gathered (suc n) v (map f (x ∷ xs)) ≡ gathered (suc n) v (x ∷ xs)
       above ih l = rw (k.high x l, ih (v * 64 + (x - 0x80)))
 
-  by_lead : (l : Lead) (xs : List ℕ) → sequence_by l (map f xs) ≡ sequence_by l xs
-  by_lead Stray xs = refl
-  by_lead (Row b m w) xs = ap (judged w (m + 1)) (gathered_map m b xs)
+  by_lead : (l : Option (ℕ × ℕ × ℕ)) (xs : List ℕ) → sequence_by l (map f xs) ≡ sequence_by l xs
+  by_lead None xs = refl
+  by_lead (Some (b, m, w)) xs = ap (judged w (m + 1)) (gathered_map m b xs)
 
   look_map : (x : ℕ) (xs : List ℕ) → seq_look (map f (x ∷ xs)) ≡ seq_look (x ∷ xs)
   unfolding char_of
@@ -159,8 +145,8 @@ module _ (f : ℕ → ℕ) (k : Keeps f) where
     where
       below : x < 128 → look_by (char_of (f x ∷ map f xs)) ≡ look_by (char_of (x ∷ xs))
       below l =
-          let p : char_of (f x ∷ map f xs) ≡ Is (f x) 1 = found_read (one (k.low x l)) in
-          let q : char_of (x ∷ xs) ≡ Is x 1 = found_read (one l) in
+          let p : char_of (f x ∷ map f xs) ≡ Some (f x, 1) = found_read (one (k.low x l)) in
+          let q : char_of (x ∷ xs) ≡ Some (x, 1) = found_read (one l) in
           ap look_by p ∙ sym (ap look_by q)
 
       above : 128 ≤ x → look_by (char_of (f x ∷ map f xs)) ≡ look_by (char_of (x ∷ xs))
@@ -172,9 +158,9 @@ module _ (f : ℕ → ℕ) (k : Keeps f) where
   sought_map (suc n) (x ∷ xs) = ap (later 1) (sought_map n xs)
   sought_map zero (x ∷ xs) = ap (λ l. sought_by l (λ n. sought seq_look n (map f xs))) (look_map x xs) ∙ by (seq_look (x ∷ xs)) (λ n. sought_map n xs)
     where
-      by : (l : Look) → ((n : ℕ) → sought seq_look n (map f xs) ≡ sought seq_look n xs) → sought_by l (λ n. sought seq_look n (map f xs)) ≡ sought_by l (λ n. sought seq_look n xs)
-      by Stop ih = refl
-      by (Past n) ih = ap (later 1) (ih n)
+      by : (l : Option ℕ) → ((n : ℕ) → sought seq_look n (map f xs) ≡ sought seq_look n xs) → sought_by l (λ n. sought seq_look n (map f xs)) ≡ sought_by l (λ n. sought seq_look n xs)
+      by None ih = refl
+      by (Some n) ih = ap (later 1) (ih n)
 
   -- what is good stays so
   pub good_map : (xs : List ℕ) → first_bad (map f xs) ≡ first_bad xs

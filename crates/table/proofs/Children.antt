@@ -1,4 +1,5 @@
 -- Nodes that their numbers and children alone tell.
+use Rattle.std.specs.Prelude.{Some, None}
 use mathlib.Core.Path.{◌≡◌, refl, sym, ap, ◌∙◌}
 use mathlib.Core.Bool.{Bool, true, false}
 use mathlib.Core.List.{List}
@@ -15,7 +16,6 @@ use Rattle.table.specs.declared.Unary.{Unary}
 use Rattle.table.specs.declared.Unary.TheVariants.{PosPred, NegPred, Opt, Rep, RepOnce, RepExact, RepMin, RepMax, RepMinMax, Push}
 use Rattle.table.specs.declared.Leaf.TheVariants.{Range}
 use Rattle.table.specs.declared.Op.TheVariants.{Plain}
-use Rattle.table.specs.declared.First.TheVariants.{At, Nowhere}
 use Rattle.table.specs.Record.{node_size, node_of, node_at, first_at}
 use Rattle.table.specs.Check.{good_op, good_leaf, verdict, Firsts}
 use Rattle.table.specs.Children.{ones, twos, limits, Limits, Told}
@@ -46,10 +46,10 @@ module _ (ns st : List ℕ) (i : ℕ) where
   q = get_or ns (node_size * i + 4) 0
 
   module _ {ls : List ℕ} (l : Limits st ls) where
-    string_told : string_kind kind ≡ true → p + q < l.size → verdict ns st i ≡ At i
+    string_told : string_kind kind ≡ true → p + q < l.size → verdict ns st i ≡ Some i
     string_told e h = string_good ns st i e (l.low (omega arith)) (le-leb (p + q) (length st) (omega (arith, l.ends)))
 
-    range_told : kind ≡ 3 → p + q < 0xd800 → verdict ns st i ≡ At i
+    range_told : kind ≡ 3 → p + q < 0xd800 → verdict ns st i ≡ Some i
     unfolding node_at node_of
     range_told e h = verdict_tip ns st i (rw e) (range_good st p q (omega arith) (omega arith))
 
@@ -82,7 +82,7 @@ module _ (ns st : List ℕ) (i : ℕ) where
     told {os} {ts} o t h = rw (o, t) (told_by kind refl (rw l.are at h))
 
   -- the last child is not the node just before
-  pub last_out : (one two : ℕ) → Told ns st i one two → {x : ℕ} → x ≡ choose (eqb two 1) (λ u. q) (λ u. p) → ((x + 1) * one ≡ i * one → ⊥) → Nowhere ≡ verdict ns st i
+  pub last_out : (one two : ℕ) → Told ns st i one two → {x : ℕ} → x ≡ choose (eqb two 1) (λ u. q) (λ u. p) → ((x + 1) * one ≡ i * one → ⊥) → None ≡ verdict ns st i
   last_out zero zero t d h = absurd (h (omega arith))
   last_out zero (suc two) t d h = absurd t
   last_out (suc zero) zero t d h = sym (verdict_one_child ns st i t.1 (λ e. h (omega arith)))
@@ -92,17 +92,8 @@ module _ (ns st : List ℕ) (i : ℕ) where
 
   -- it is
   module _ {fs : List ℕ} (f : Firsts ns fs i) where
-    -- so that a right child has an entry
-    pub right_in : (one two : ℕ) → Told ns st i one two → {x : ℕ} → x ≡ choose (eqb two 1) (λ u. q) (λ u. p) → (x + 1) * one ≡ i * one → {n : ℕ} → i ≤ n → 0 < n → q * two < n
-    right_in zero zero t d n l z = omega arith
-    right_in zero (suc two) t d n l z = absurd t
-    right_in (suc zero) zero t d n l z = omega arith
-    right_in (suc zero) (suc zero) t d n l z = omega arith
-    right_in (suc zero) (suc (suc two)) t d n l z = absurd t
-    right_in (suc (suc one)) two t d n l z = absurd t
-
     -- the left child does not stand just before the right child's first node
-    pub left_out : (one two : ℕ) → Told ns st i one two → {x : ℕ} → x ≡ choose (eqb two 1) (λ u. q) (λ u. p) → (x + 1) * one ≡ i * one → {w : ℕ} → w ≡ get_or fs (q * two) 0 → ((p + 1) * two ≡ w * two → ⊥) → Nowhere ≡ verdict ns st i
+    pub left_out : (one two : ℕ) → Told ns st i one two → {x : ℕ} → x ≡ choose (eqb two 1) (λ u. q) (λ u. p) → (x + 1) * one ≡ i * one → {w : ℕ} → w ≡ get_or fs (q * two) 0 → ((p + 1) * two ≡ w * two → ⊥) → None ≡ verdict ns st i
     left_out zero zero t d n v h = absurd (h (omega arith))
     left_out zero (suc two) t d n v h = absurd t
     left_out (suc zero) zero t d n v h = absurd (h (omega arith))
@@ -112,7 +103,7 @@ module _ (ns st : List ℕ) (i : ℕ) where
     left_out (suc zero) (suc (suc two)) t d n v h = absurd t
     left_out (suc (suc one)) two t d n v h = absurd t
 
-    -- it does, so that it has an entry too
+    -- it does, so that it has an entry
     pub left_in : (one two : ℕ) → Told ns st i one two → {x : ℕ} → x ≡ choose (eqb two 1) (λ u. q) (λ u. p) → (x + 1) * one ≡ i * one → {w : ℕ} → w ≡ get_or fs (q * two) 0 → (p + 1) * two ≡ w * two → {n : ℕ} → i ≤ n → 0 < n → p * one < n
     left_in zero zero t d n v h l z = omega arith
     left_in zero (suc two) t d n v h l z = absurd t
@@ -125,46 +116,18 @@ module _ (ns st : List ℕ) (i : ℕ) where
 
     -- and the node is not false
     pub told_first : (one two : ℕ) → Told ns st i one two → {x : ℕ} → x ≡ choose (eqb two 1) (λ u. q) (λ u. p) → (x + 1) * one ≡ i * one → {w : ℕ} → w ≡ get_or fs (q * two) 0 → (p + 1) * two ≡ w * two
-        → {y : ℕ} → y ≡ get_or fs (p * one) 0 → At (y * one + i * (1 - one)) ≡ verdict ns st i
-    told_first zero zero t d n v h {y} m = let e : y * 0 + i * (1 - 0) ≡ i = omega arith in ap At e ∙ sym t
+        → {y : ℕ} → y ≡ get_or fs (p * one) 0 → Some (y * one + i * (1 - one)) ≡ verdict ns st i
+    told_first zero zero t d n v h {y} m = let e : y * 0 + i * (1 - 0) ≡ i = omega arith in ap Some e ∙ sym t
     told_first zero (suc two) t d n v h m = absurd t
     told_first (suc zero) zero t d n v h {y} m =
         let e : p * 1 ≡ p = omega arith in
         let z : y * 1 + i * (1 - 1) ≡ first_at ns p = omega (arith, m, ap (λ y. get_or fs y 0) e, f.at p (omega arith)) in
-        ap At z ∙ sym (verdict_one ns st i t.1 (omega arith) (plain_good st t.0))
+        ap Some z ∙ sym (verdict_one ns st i t.1 (omega arith) (plain_good st t.0))
     told_first (suc zero) (suc zero) t d n {w} v h {y} m =
         let e : p * 1 ≡ p = omega arith in
         let g : q * 1 ≡ q = omega arith in
         let r : p + 1 ≡ first_at ns q = omega (arith, v, h, ap (λ y. get_or fs y 0) g, f.at q (omega arith)) in
         let z : y * 1 + i * (1 - 1) ≡ first_at ns p = omega (arith, m, ap (λ y. get_or fs y 0) e, f.at p (omega (arith, first_le ns q))) in
-        ap At z ∙ sym (verdict_two ns st i t.1 (omega arith) r)
+        ap Some z ∙ sym (verdict_two ns st i t.1 (omega arith) r)
     told_first (suc zero) (suc (suc two)) t d n v h m = absurd t
     told_first (suc (suc one)) two t d n v h m = absurd t
-
-pub choose_below : (b : Bool) (x y n : ℕ) {r : ℕ} → r ≡ choose b (λ u. x) (λ u. y) → x < n → y < n → r < n
-choose_below true x y n e h l = omega arith
-choose_below false x y n e h l = omega arith
-
--- strings have a limit in a store of ASCII alone
-pub limits_are : (st : List ℕ) (b : Bool) {s : ℕ} {ls : List ℕ} → (b ≡ true → (k : ℕ) → get_or st k 0 < 128) → s ≡ choose b (λ u. length st) (λ u. 0) → ls ≡ limits s → Limits st ls
-limits_are st true {s} h e l = record { size = s; are = l; ends = omega arith; low = λ g. h refl }
-limits_are st false {s} h e l = record { size = s; are = l; ends = omega arith; low = λ g. absurd (omega arith) }
-
--- the numbers are 0 or 1
-pub told_low : (ns st : List ℕ) (i one two : ℕ) → Told ns st i one two → (one ≤ 1) × (two ≤ 1)
-told_low ns st i zero zero t = (omega arith, omega arith)
-told_low ns st i zero (suc two) t = absurd t
-told_low ns st i (suc zero) zero t = (omega arith, omega arith)
-told_low ns st i (suc zero) (suc zero) t = (omega arith, omega arith)
-told_low ns st i (suc zero) (suc (suc two)) t = absurd t
-told_low ns st i (suc (suc one)) two t = absurd t
-
-pub small : (x m : ℕ) → m ≤ 1 → x * m ≤ x
-small x zero l = omega arith
-small x (suc zero) l = omega arith
-small x (suc (suc m)) l = absurd (omega arith)
-
-pub one_of : (x y m n : ℕ) → m ≤ 1 → x < n → y < n → x * m + y * (1 - m) < n
-one_of x y zero n l h g = omega arith
-one_of x y (suc zero) n l h g = omega arith
-one_of x y (suc (suc m)) n l h g = absurd (omega arith)

@@ -1,4 +1,5 @@
 -- A tree's records are as long as they should be, and a table that has them has the tree.
+use Rattle.std.specs.Prelude.{Some, None}
 use mathlib.Core.Path.{◌≡◌, refl, sym, ap, ◌∙◌}
 use mathlib.Core.List.{List, ◌++◌, append_assoc}
 use Prim.Native.Nat.{ℕ, ◌+◌, ◌*◌}
@@ -8,7 +9,6 @@ use Rattle.table.specs.declared.Join.{Join}
 use Rattle.table.specs.declared.Join.TheVariants.{Seq, Choice}
 use Rattle.table.specs.declared.Unary.TheVariants.{PosPred, NegPred, Opt, Rep, RepOnce, RepExact, RepMin, RepMax, RepMinMax, Push}
 use Rattle.table.specs.declared.Sort.TheVariants.{Str, Insens, Ident, PushLiteral}
-use Rattle.table.specs.declared.End.TheVariants.{Open, At}
 use Rattle.table.specs.declared.Leaf.TheVariants.{Text, Range, PeekSlice}
 use Rattle.table.specs.declared.Op.TheVariants.{Plain, NodeTag}
 use Rattle.table.specs.declared.Node.{Node}
@@ -46,8 +46,8 @@ numbers_back (Tip (Text Insens p n)) = refl
 numbers_back (Tip (Text Ident p n)) = refl
 numbers_back (Tip (Text PushLiteral p n)) = refl
 numbers_back (Tip (Range x y)) = refl
-numbers_back (Tip (PeekSlice x Open)) = refl
-numbers_back (Tip (PeekSlice x (At y))) = refl
+numbers_back (Tip (PeekSlice x None)) = refl
+numbers_back (Tip (PeekSlice x (Some y))) = refl
 numbers_back (One (Plain PosPred) c) = refl
 numbers_back (One (Plain NegPred) c) = refl
 numbers_back (One (Plain Opt) c) = refl

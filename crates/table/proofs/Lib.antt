@@ -9,7 +9,6 @@ pub mod Heavy
 pub mod Light
 pub mod Ascii
 pub mod Children
-pub mod Heads
 pub mod Lowest
 pub mod Held
 pub mod Flats

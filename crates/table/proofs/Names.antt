@@ -1,4 +1,5 @@
 -- Laws of names. The search goes up the rules, and all that it passed have another name; texts that pass the test are equal.
+use Rattle.std.specs.Prelude.{ℕ, Option, Some, None}
 use mathlib.Core.Path.{◌≡◌, refl, sym, ap, ◌∙◌}
 use mathlib.Core.Bool.{Bool, true, false, not}
 use mathlib.Core.List.{List, [], ◌∷◌}
@@ -8,11 +9,8 @@ use lib.Dec.{eqb}
 use lib.ListN.{length, take, drop}
 use borrow.Author.Tests.{eq-eqb, ne_eqb, eqb-true}
 use Rattle.text.specs.Words.{begins}
-use Rattle.text.specs.declared.Scan.{Scan}
-use Rattle.text.specs.declared.Scan.TheVariants.{Through, StopsAt}
 use Rattle.text.proofs.Booleans.{and_true, not_false}
 use Rattle.table.specs.declared.Head.{Head}
-use Rattle.table.specs.declared.Named.TheVariants.{By, Nobody}
 use Rattle.table.specs.Record.{rules_in, name_at, part, head_at}
 use Rattle.table.specs.Check.{lowest, Valid}
 use Rattle.table.specs.Names.{same_text, other_name, named_by, rule_named, NamesInside}
@@ -50,7 +48,7 @@ same_equal xs ys e = let b = and_true (eqb (length xs) (length ys)) (begins xs y
 -- ---- the search
 
 module _ (rs st b : List ℕ) where
-  pub named_at : (n k : ℕ) {t : Bool} → n ≡ rules_in rs → k < n → lowest (other_name rs st b) k ≡ Through → t ≡ same_text (name_at rs st k) b → t ≡ true → By k ≡ rule_named rs st b
+  pub named_at : (n k : ℕ) {t : Bool} → n ≡ rules_in rs → k < n → lowest (other_name rs st b) k ≡ None → t ≡ same_text (name_at rs st k) b → t ≡ true → Some k ≡ rule_named rs st b
   unfolding rule_named other_name
   named_at n k m l h e t = let z : other_name rs st b k ≡ false = ap not (sym e ∙ t) in sym (ap named_by (lowest_bad (other_name rs st b) (rules_in rs) k (omega arith) h z))
 
@@ -58,20 +56,20 @@ module _ (rs st b : List ℕ) where
   unfolding other_name
   other_at k e t = ap not (sym e ∙ t)
 
-  pub named_none : (n k : ℕ) → n ≡ rules_in rs → k ≤ n → n ≤ k → lowest (other_name rs st b) k ≡ Through → Nobody ≡ rule_named rs st b
+  pub named_none : (n k : ℕ) → n ≡ rules_in rs → k ≤ n → n ≤ k → lowest (other_name rs st b) k ≡ None → None ≡ rule_named rs st b
   unfolding rule_named
   named_none n k m l g h = let e : rules_in rs ≡ k = omega arith in sym (ap (λ x. named_by (lowest (other_name rs st b) x)) e ∙ ap named_by h)
 
 -- what is found is a rule of that name
-pub named_rule : (rs st b : List ℕ) (k : ℕ) → rule_named rs st b ≡ By k → (k < rules_in rs) × (name_at rs st k ≡ b)
+pub named_rule : (rs st b : List ℕ) (k : ℕ) → rule_named rs st b ≡ Some k → (k < rules_in rs) × (name_at rs st k ≡ b)
 unfolding rule_named other_name
 named_rule rs st b k e =
     let f = lowest_fails (other_name rs st b) (rules_in rs) k (by_bad (lowest (other_name rs st b) (rules_in rs)) e) in
     (f.0, same_equal (name_at rs st k) b (not_false (same_text (name_at rs st k) b) f.1))
   where
-    by_bad : (r : Scan) → named_by r ≡ By k → r ≡ StopsAt k
-    by_bad Through w = let z : ◌≡◌ {A = ℕ} 0 1 = cc in absurd (omega arith)
-    by_bad (StopsAt j) w = let q : j ≡ k = cc in ap StopsAt q
+    by_bad : (r : Option ℕ) → named_by r ≡ Some k → r ≡ Some k
+    by_bad None w = let z : ◌≡◌ {A = ℕ} 0 1 = cc in absurd (omega arith)
+    by_bad (Some j) w = let q : j ≡ k = cc in ap Some q
 
 module _ (rs st : List ℕ) (k : ℕ) (h : Head) (e : h ≡ head_at rs k) where
   pub head_name : take (h.offset + h.length - h.offset) (drop h.offset st) ≡ name_at rs st k

@@ -1,4 +1,5 @@
 -- Tables that aren't false: what a good check gives its callers.
+use Rattle.std.specs.Prelude.{ℕ, Option, Some, None}
 use mathlib.Core.Path.{◌≡◌, refl, sym, ap, ◌∙◌}
 use mathlib.Core.Bool.{Bool, true, false}
 use mathlib.Core.List.{List}
@@ -16,8 +17,6 @@ use Rattle.table.proofs.Nodes.{sound_below}
 use Rattle.table.proofs.Lowest.{lowest_good, lowest_all}
 use Rattle.table.proofs.Rules.{length_nodes, length_records, rules_many, nodes_alike, rules_alike, flat_lie, flat_valid}
 use Rattle.text.specs.Booleans.{choose}
-use Rattle.text.specs.declared.Scan.{Scan}
-use Rattle.text.specs.declared.Scan.TheVariants.{Through, StopsAt}
 use Rattle.text.proofs.Booleans.{and_both, and_true, choose_false, choose_true}
 use Rattle.text.specs.Limits.{max_nodes, max_rules, max_store}
 use Rattle.table.specs.declared.TableCheck.{TableCheck}
@@ -119,11 +118,6 @@ module _ {ns rs st : List ℕ} (v : Valid ns rs st) where
 
 -- ---- the check of whole tables
 
--- more nodes than the limit are no table
-pub over_nodes : (ns rs st : List ℕ) → length ns % node_size ≡ 0 → length rs % rule_size ≡ 0 → max_nodes < nodes_in ns → false ≡ shaped ns rs st
-unfolding shaped
-over_nodes ns rs st p q l = rw (eq-eqb (length ns % node_size) 0 p, eq-eqb (length rs % rule_size) 0 q, lt-leb (nodes_in ns) max_nodes l)
-
 pub shaped_few : (ns rs st : List ℕ) → shaped ns rs st ≡ true → nodes_in ns ≤ max_nodes
 unfolding shaped
 shaped_few ns rs st e =
@@ -150,17 +144,17 @@ module _ (ns rs st : List ℕ) where
     unfolding tables
     past_shape = choose_true (shaped ns rs st) _ _ e
 
-    pub tables_node : {i : ℕ} → lowest (good_at ns st) (nodes_in ns) ≡ StopsAt i → tables ns rs st ≡ Table.Node i
+    pub tables_node : {i : ℕ} → lowest (good_at ns st) (nodes_in ns) ≡ Some i → tables ns rs st ≡ Table.Node i
     tables_node h = past_shape ∙ rw h
 
-    module _ (g : lowest (good_at ns st) (nodes_in ns) ≡ Through) where
+    module _ (g : lowest (good_at ns st) (nodes_in ns) ≡ None) where
       past_nodes : tables ns rs st ≡ or_else (lowest (good_rule ns rs st) (rules_in rs)) Table.Rule (λ u. left_over ns rs)
       past_nodes = past_shape ∙ rw g
 
-      pub tables_rule : {i : ℕ} → lowest (good_rule ns rs st) (rules_in rs) ≡ StopsAt i → tables ns rs st ≡ Table.Rule i
+      pub tables_rule : {i : ℕ} → lowest (good_rule ns rs st) (rules_in rs) ≡ Some i → tables ns rs st ≡ Table.Rule i
       tables_rule h = past_nodes ∙ rw h
 
-      module _ (h : lowest (good_rule ns rs st) (rules_in rs) ≡ Through) where
+      module _ (h : lowest (good_rule ns rs st) (rules_in rs) ≡ None) where
         past_rules : tables ns rs st ≡ left_over ns rs
         past_rules = past_nodes ∙ rw h
 
@@ -172,9 +166,9 @@ module _ (ns rs st : List ℕ) where
 
 -- ---- a good check is what makes tables valid
 
-or_else_good : (c : Scan) (f : ℕ → TableCheck) (g : Unit {0} → TableCheck) → ((i : ℕ) → f i ≡ Table.Good → ⊥) → or_else c f g ≡ Table.Good → (c ≡ Through) × (g tt ≡ Table.Good)
-or_else_good Through f g n e = (refl, e)
-or_else_good (StopsAt i) f g n e = absurd (n i e)
+or_else_good : (c : Option ℕ) (f : ℕ → TableCheck) (g : Unit {0} → TableCheck) → ((i : ℕ) → f i ≡ Table.Good → ⊥) → or_else c f g ≡ Table.Good → (c ≡ None) × (g tt ≡ Table.Good)
+or_else_good None f g n e = (refl, e)
+or_else_good (Some i) f g n e = absurd (n i e)
 
 choose_good : (b : Bool) (x y : TableCheck) → (y ≡ Table.Good → ⊥) → choose b (λ u. x) (λ u. y) ≡ Table.Good → (b ≡ true) × (x ≡ Table.Good)
 choose_good true x y n e = (refl, e)

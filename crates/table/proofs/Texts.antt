@@ -1,4 +1,5 @@
 -- Laws of the texts of leaves and tags.
+use Rattle.std.specs.Prelude.{ℕ, Option, Some, None}
 use mathlib.Core.Path.{◌≡◌, refl}
 use mathlib.Core.Bool.{Bool, true, false}
 use mathlib.Core.List.{List}
@@ -16,8 +17,6 @@ use Rattle.table.specs.declared.Op.TheVariants.{NodeTag}
 use Rattle.table.specs.Record.{part, atom_of, wrap_of}
 use Rattle.text.specs.Utf8.{scalar, first_bad}
 use Rattle.text.specs.Words.{word_of}
-use Rattle.text.specs.declared.Scan.{Scan}
-use Rattle.text.specs.declared.Scan.TheVariants.{Through, StopsAt}
 use Rattle.text.specs.declared.Word.{Word}
 use Rattle.text.proofs.Booleans.{and_true}
 use Rattle.table.specs.Check.{is_through, may_name, may_tag, is_utf8, is_name, is_label, fine_text, fine_atom, fine_wrap, in_store, leaf_inside, op_inside, good_leaf, good_op}
@@ -44,37 +43,15 @@ module _ (st : List ℕ) where
   unfolding good_leaf
   text_in k p n h = rw h
 
-  pub text_out : (k : Sort) (p n : ℕ) → in_store st p n ≡ false → good_leaf st (Text k p n) ≡ false
-  unfolding good_leaf
-  text_out k p n h = rw h
-
-  pub tag_in : (p n : ℕ) → in_store st p n ≡ true → good_op st (NodeTag p n) ≡ is_label (part st p n)
-  unfolding good_op
-  tag_in p n h = rw h
-
-  pub tag_out : (p n : ℕ) → in_store st p n ≡ false → good_op st (NodeTag p n) ≡ false
-  unfolding good_op
-  tag_out p n h = rw h
-
 -- a part, by its start and end
 pub part_between : (st : List ℕ) (p n : ℕ) → take (p + n - p) (drop p st) ≡ part st p n
 part_between st p n = let e : p + n - p ≡ n = omega arith in rw e
 
--- a length against what is left, instead of a sum
-pub leb_sub : (p n m : ℕ) → p ≤ m → leb n (m - p) ≡ leb (p + n) m
-leb_sub p n m h = by (leb n (m - p)) (leb (p + n) m) refl refl
-  where
-    by : (a b : Bool) → leb n (m - p) ≡ a → leb (p + n) m ≡ b → a ≡ b
-    by true true x y = refl
-    by false false x y = refl
-    by true false x y = absurd (omega (arith, leb-true n (m - p) x, leb-false (p + n) m y))
-    by false true x y = absurd (omega (arith, leb-false n (m - p) x, leb-true (p + n) m y))
-
 -- ---- what fine texts are
 
-good_is : (c : Scan) → is_through c ≡ true → c ≡ Through
-good_is Through e = refl
-good_is (StopsAt i) e = let z : ◌≡◌ {A = ℕ} 0 1 = cc in absurd (omega arith)
+good_is : (c : Option ℕ) → is_through c ≡ true → c ≡ None
+good_is None e = refl
+good_is (Some i) e = let z : ◌≡◌ {A = ℕ} 0 1 = cc in absurd (omega arith)
 
 name_word : (w : Word) → may_name w ≡ true → w ≡ Word.Name
 name_word Word.Name e = refl
@@ -87,7 +64,7 @@ label_word Word.Push e = inr refl
 label_word Word.Neither e = let z : ◌≡◌ {A = ℕ} 0 1 = cc in absurd (omega arith)
 
 module _ (b : List ℕ) where
-  pub utf8_is : is_utf8 b ≡ true → first_bad b ≡ Through
+  pub utf8_is : is_utf8 b ≡ true → first_bad b ≡ None
   unfolding is_utf8
   utf8_is e = good_is (first_bad b) e
 

@@ -1,10 +1,8 @@
 -- What makes a table false: numbers 20, 21 and 22.
-use Rattle.std.specs.Prelude.{ℕ, zero, suc, ◌+◌, ◌*◌, ◌%◌, ◌≤◌, ◌<◌, ◌≡◌, Bool, true, false, List, [], ◌∷◌, leb, ltb, eqb, length, get_or}
+use Rattle.std.specs.Prelude.{ℕ, zero, suc, ◌+◌, ◌*◌, ◌%◌, ◌≤◌, ◌<◌, ◌≡◌, Bool, true, false, List, [], ◌∷◌, leb, ltb, eqb, length, get_or, Option, Some, None}
 use Rattle.text.specs.Booleans.{choose, and}
 use Rattle.text.specs.Utf8.{scalar, first_bad}
 use Rattle.text.specs.Words.{word_of}
-use Rattle.text.specs.declared.Scan.{Scan}
-use Rattle.text.specs.declared.Scan.TheVariants.{Through, StopsAt}
 use Rattle.text.specs.declared.Word.{Word}
 use Rattle.text.specs.Limits.{max_nodes, max_rules, max_store}
 use Rattle.table.specs.declared.Sort.{Sort}
@@ -15,8 +13,6 @@ use Rattle.table.specs.declared.Op.{Op}
 use Rattle.table.specs.declared.Op.TheVariants.{Plain, NodeTag}
 use Rattle.table.specs.declared.Node.{Node}
 use Rattle.table.specs.declared.Node.TheVariants.{Tip, One, Two, Unknown}
-use Rattle.table.specs.declared.First.{First}
-use Rattle.table.specs.declared.First.TheVariants.{At, Nowhere}
 use Rattle.table.specs.declared.TableCheck.{TableCheck}
 use Rattle.table.specs.declared.TableCheck.TheVariants as Table
 use Rattle.table.specs.Tree.{Atom, text, range, peek_slice, Wrap, plain, node_tag, Tree, leaf, one, two, Rule}
@@ -29,9 +25,9 @@ shaped ns rs st =
     (and (eqb (length rs % rule_size) 0)
     (and (leb (nodes_in ns) max_nodes) (and (leb (rules_in rs) max_rules) (leb (length st) max_store))))
 
-abbrev pub is_through : Scan → Bool
-is_through Through = true
-is_through (StopsAt i) = false
+abbrev pub is_through : Option ℕ → Bool
+is_through None = true
+is_through (Some i) = false
 
 abbrev pub may_name : Word → Bool
 may_name Word.Name = true
@@ -120,19 +116,19 @@ good_root ns begin root = and (ltb root (nodes_in ns)) (eqb (first_at ns root) b
 unfoldable pub good_rule : List ℕ → List ℕ → List ℕ → ℕ → Bool
 good_rule ns rs st k = and (good_name rs st k) (and (leb (mark_at rs k) 4) (good_root ns (begin_at rs k) (root_at rs k)))
 
-abbrev pub lowest_by : Scan → Bool → ℕ → Scan
-lowest_by (StopsAt k) g i = StopsAt k
-lowest_by Through true i = Through
-lowest_by Through false i = StopsAt i
+abbrev pub lowest_by : Option ℕ → Bool → ℕ → Option ℕ
+lowest_by (Some k) g i = Some k
+lowest_by None true i = None
+lowest_by None false i = Some i
 
 -- the lowest index below a number at which a test fails
-unfoldable pub lowest : (ℕ → Bool) → ℕ → Scan
-lowest f zero = Through
+unfoldable pub lowest : (ℕ → Bool) → ℕ → Option ℕ
+lowest f zero = None
 lowest f (suc i) = lowest_by (lowest f i) (f i) i
 
-abbrev pub or_else : Scan → (ℕ → TableCheck) → (Unit {0} → TableCheck) → TableCheck
-or_else (StopsAt i) f g = f i
-or_else Through f g = g tt
+abbrev pub or_else : Option ℕ → (ℕ → TableCheck) → (Unit {0} → TableCheck) → TableCheck
+or_else (Some i) f g = f i
+or_else None f g = g tt
 
 -- nodes left over are a fault at the number of rules
 abbrev pub left_over : List ℕ → List ℕ → TableCheck
@@ -158,8 +154,8 @@ numbered (Table.Node i) = record { number = 21; place = i }
 numbered (Table.Rule i) = record { number = 22; place = i }
 
 -- a node's first node, unless the node is false
-unfoldable pub verdict : List ℕ → List ℕ → ℕ → First
-verdict ns st i = choose (good_at ns st i) (λ u. At (first_at ns i)) (λ u. Nowhere)
+unfoldable pub verdict : List ℕ → List ℕ → ℕ → Option ℕ
+verdict ns st i = choose (good_at ns st i) (λ u. Some (first_at ns i)) (λ u. None)
 
 -- the first nodes of the nodes below n
 pub record Firsts (ns fs : List ℕ) (n : ℕ) : Type 0 where

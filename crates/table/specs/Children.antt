@@ -1,10 +1,9 @@
 -- Nodes that their numbers and children alone tell: what the check looks up by kind instead of branching.
-use Rattle.std.specs.Prelude.{ℕ, zero, suc, ◌+◌, ◌*◌, ◌≤◌, ◌<◌, ◌≡◌, List, [], ◌∷◌, length, get_or}
+use Rattle.std.specs.Prelude.{ℕ, zero, suc, ◌+◌, ◌*◌, ◌≤◌, ◌<◌, ◌≡◌, List, [], ◌∷◌, length, get_or, Some}
 use Rattle.table.specs.declared.Join.{Join}
 use Rattle.table.specs.declared.Unary.{Unary}
 use Rattle.table.specs.declared.Op.TheVariants.{Plain}
 use Rattle.table.specs.declared.Node.TheVariants.{One, Two}
-use Rattle.table.specs.declared.First.TheVariants.{At}
 use Rattle.table.specs.Record.{node_size, node_at}
 use Rattle.table.specs.Check.{verdict}
 
@@ -29,7 +28,7 @@ pub record Limits (st ls : List ℕ) : Type 0 where
 
 -- what is known of a node by the numbers of its kind: it is a leaf that is not false, or has one child, or two
 abbrev pub Told : List ℕ → List ℕ → ℕ → ℕ → ℕ → Type 0
-Told ns st i zero zero = verdict ns st i ≡ At i
+Told ns st i zero zero = verdict ns st i ≡ Some i
 Told ns st i zero (suc two) = ⊥
 Told ns st i (suc zero) zero = (u : Unary) × (node_at ns i ≡ One (Plain u) (get_or ns (node_size * i + 3) 0))
 Told ns st i (suc zero) (suc zero) = (j : Join) × (node_at ns i ≡ Two j (get_or ns (node_size * i + 3) 0) (get_or ns (node_size * i + 4) 0))

@@ -1,10 +1,9 @@
 -- The tables of trees and rules: children first, left, right, then the node; texts in text order.
-use Rattle.std.specs.Prelude.{ℕ, suc, ◌+◌, ◌<◌, ◌≡◌, List, [], ◌∷◌, ◌++◌, length}
+use Rattle.std.specs.Prelude.{ℕ, suc, ◌+◌, ◌<◌, ◌≡◌, List, [], ◌∷◌, ◌++◌, length, Some, None}
 use Rattle.table.specs.declared.Join.{Join}
 use Rattle.table.specs.declared.Join.TheVariants.{Seq, Choice}
 use Rattle.table.specs.declared.Unary.TheVariants.{PosPred, NegPred, Opt, Rep, RepOnce, RepExact, RepMin, RepMax, RepMinMax, Push}
 use Rattle.table.specs.declared.Sort.TheVariants.{Str, Insens, Ident, PushLiteral}
-use Rattle.table.specs.declared.End.TheVariants.{Open, At}
 use Rattle.table.specs.declared.Leaf.{Leaf}
 use Rattle.table.specs.declared.Leaf.TheVariants.{Text, Range, PeekSlice}
 use Rattle.table.specs.declared.Op.{Op}
@@ -30,8 +29,8 @@ leaf_numbers (Text Insens p n) = numbers 2 p n 0
 leaf_numbers (Text Ident p n) = numbers 4 p n 0
 leaf_numbers (Text PushLiteral p n) = numbers 18 p n 0
 leaf_numbers (Range x y) = numbers 3 x y 0
-leaf_numbers (PeekSlice x Open) = numbers 5 x 0 0
-leaf_numbers (PeekSlice x (At y)) = numbers 5 x 1 y
+leaf_numbers (PeekSlice x None) = numbers 5 x 0 0
+leaf_numbers (PeekSlice x (Some y)) = numbers 5 x 1 y
 
 abbrev pub op_numbers : ℕ → Op → Numbers
 op_numbers c (Plain PosPred) = numbers 6 c 0 0

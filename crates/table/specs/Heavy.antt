@@ -1,11 +1,9 @@
 -- What is known of a store once, where its parts are long, and what the check says of a node without that.
-use Rattle.std.specs.Prelude.{ℕ, ◌+◌, ◌*◌, ◌≤◌, Bool, List, ltb, eqb, length, get_or}
+use Rattle.std.specs.Prelude.{ℕ, ◌+◌, ◌*◌, ◌≤◌, Bool, List, ltb, eqb, length, get_or, Option, None}
 use Rattle.text.specs.Booleans.{choose, or}
 use Rattle.text.specs.Limits.{max_store}
 use Rattle.known.specs.Runs.{Runs}
 use Rattle.known.specs.Stops.{Stops}
-use Rattle.table.specs.declared.First.{First}
-use Rattle.table.specs.declared.First.TheVariants.{Nowhere}
 use Rattle.table.specs.Record.{node_size}
 use Rattle.table.specs.Check.{verdict}
 
@@ -33,6 +31,6 @@ abbrev pub long_at : List ℕ → ℕ → Bool
 long_at ns i = ltb long (text_length (get_or ns (node_size * i) 0) (get_or ns (node_size * i + 4) 0) (get_or ns (node_size * i + 5) 0))
 
 -- a node's first node, unless the node is false or has a long text that its limit doesn't tell
-unfoldable pub lightly : List ℕ → List ℕ → List ℕ → ℕ → First
+unfoldable pub lightly : List ℕ → List ℕ → List ℕ → ℕ → Option ℕ
 lightly ns st ls i =
-    choose (flat_at ns ls i) (λ u. verdict ns st i) (λ u. choose (long_at ns i) (λ u. Nowhere) (λ u. verdict ns st i))
+    choose (flat_at ns ls i) (λ u. verdict ns st i) (λ u. choose (long_at ns i) (λ u. None) (λ u. verdict ns st i))

@@ -1,11 +1,7 @@
 -- Names: which rule a name means.
-use Rattle.std.specs.Prelude.{ℕ, Bool, not, List, ◌+◌, ◌≤◌, ◌<◌, eqb, length}
+use Rattle.std.specs.Prelude.{ℕ, Bool, not, List, ◌+◌, ◌≤◌, ◌<◌, eqb, length, Option, Some, None}
 use Rattle.text.specs.Booleans.{and}
 use Rattle.text.specs.Words.{begins}
-use Rattle.text.specs.declared.Scan.{Scan}
-use Rattle.text.specs.declared.Scan.TheVariants.{Through, StopsAt}
-use Rattle.table.specs.declared.Named.{Named}
-use Rattle.table.specs.declared.Named.TheVariants.{By, Nobody}
 use Rattle.table.specs.Record.{rules_in, name_offset, name_length, name_at}
 use Rattle.table.specs.Check.{lowest}
 
@@ -17,12 +13,12 @@ same_text xs ys = and (eqb (length xs) (length ys)) (begins xs ys)
 unfoldable pub other_name : List ℕ → List ℕ → List ℕ → ℕ → Bool
 other_name rs st b k = not (same_text (name_at rs st k) b)
 
-abbrev pub named_by : Scan → Named
-named_by Through = Nobody
-named_by (StopsAt k) = By k
+abbrev pub named_by : Option ℕ → Option ℕ
+named_by None = None
+named_by (Some k) = Some k
 
 -- the lowest rule of a name
-unfoldable pub rule_named : List ℕ → List ℕ → List ℕ → Named
+unfoldable pub rule_named : List ℕ → List ℕ → List ℕ → Option ℕ
 rule_named rs st b = named_by (lowest (other_name rs st b) (rules_in rs))
 
 -- the names of all rules lie inside the store

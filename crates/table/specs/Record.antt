@@ -1,11 +1,10 @@
 -- Node and rule records, and the trees and rules that they stand for.
-use Rattle.std.specs.Prelude.{ℕ, zero, suc, ◌+◌, ◌*◌, ◌/◌, List, [], ◌∷◌, ◌++◌, eqb, length, get_or, take, drop}
+use Rattle.std.specs.Prelude.{ℕ, zero, suc, ◌+◌, ◌*◌, ◌/◌, List, [], ◌∷◌, ◌++◌, eqb, length, get_or, take, drop, Some, None}
 use Rattle.text.specs.Booleans.{choose}
 use Rattle.table.specs.declared.Join.{Join}
 use Rattle.table.specs.declared.Join.TheVariants.{Seq, Choice}
 use Rattle.table.specs.declared.Unary.TheVariants.{PosPred, NegPred, Opt, Rep, RepOnce, RepExact, RepMin, RepMax, RepMinMax, Push}
 use Rattle.table.specs.declared.Sort.TheVariants.{Str, Insens, Ident, PushLiteral}
-use Rattle.table.specs.declared.End.TheVariants.{Open, At}
 use Rattle.table.specs.declared.Leaf.{Leaf}
 use Rattle.table.specs.declared.Leaf.TheVariants.{Text, Range, PeekSlice}
 use Rattle.table.specs.declared.Op.{Op}
@@ -37,7 +36,7 @@ part st p n = take n (drop p st)
 -- PEEK: p start, q 1 if an end is there, r end. Any other q is none
 abbrev pub peek_of : ℕ → ℕ → ℕ → Node
 peek_of p q r =
-    choose (eqb q 0) (λ u. Tip (PeekSlice p Open)) (λ u. choose (eqb q 1) (λ u. Tip (PeekSlice p (At r))) (λ u. Unknown))
+    choose (eqb q 0) (λ u. Tip (PeekSlice p None)) (λ u. choose (eqb q 1) (λ u. Tip (PeekSlice p (Some r))) (λ u. Unknown))
 
 -- the nodes of p, q and r for each kind, from 0 on
 abbrev pub kinds : List (ℕ → ℕ → ℕ → Node)

@@ -1,9 +1,8 @@
 -- Trees of expressions with their texts and spans, and rules.
-use Rattle.std.specs.Prelude.{ℕ, suc, ◌+◌, ◌≡◌, List, [], ◌∷◌, ◌++◌, map, length}
+use Rattle.std.specs.Prelude.{ℕ, suc, ◌+◌, ◌≡◌, List, [], ◌∷◌, ◌++◌, map, length, Option}
 use Rattle.table.specs.declared.Join.{Join}
 use Rattle.table.specs.declared.Unary.{Unary}
 use Rattle.table.specs.declared.Sort.{Sort}
-use Rattle.table.specs.declared.End.{End}
 
 -- from the first byte to past the last
 pub record Span : Type 0 where
@@ -14,7 +13,7 @@ pub record Span : Type 0 where
 pub data Atom : Type 0 where
   text : Sort → List ℕ → Atom
   range : ℕ → ℕ → Atom
-  peek_slice : ℕ → End → Atom
+  peek_slice : ℕ → Option ℕ → Atom
 
 -- what stands over one child; a tag has its bytes
 pub data Wrap : Type 0 where

@@ -6,3 +6,4 @@ pub mod heavy;
 pub mod layout;
 pub mod light;
 pub mod names;
+pub mod texts;

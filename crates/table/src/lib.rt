@@ -13,11 +13,10 @@ ghost use Rattle.text.specs.Limits.{max_nodes};
 ghost use Rattle.table.specs.Record.{nodes_in};
 ghost use Rattle.table.specs.Check.{shaped, tables};
 
-use text::Scan;
 pub use text::limits;
 
 // How two expressions are joined.
-#[derive(Clone, Copy)]
+#[derive(Clone, Copy, PartialEq, Eq)]
 pub enum Join {
     Seq,
     Choice,
@@ -47,19 +46,12 @@ pub enum Sort {
     PushLiteral,
 }
 
-// Where a slice of the stack ends.
-#[derive(Clone, Copy)]
-pub enum End {
-    Open,
-    At(u32),
-}
-
 // A leaf, its text by offset and length.
 #[derive(Clone, Copy)]
 pub enum Leaf {
     Text(Sort, usize, usize),
     Range(u32, u32),
-    PeekSlice(u32, End),
+    PeekSlice(u32, Option<u32>),
 }
 
 // What stands over one child, a tag's text by offset and length.
@@ -78,13 +70,6 @@ pub enum Node {
     Unknown,
 }
 
-// The first node of a subtree, if its last is not false.
-#[derive(Clone, Copy)]
-pub enum First {
-    At(usize),
-    Nowhere,
-}
-
 // Tables that are not false; or no whole records, too many, or too long a store; or the lowest false
 // node; or the lowest false rule.
 #[derive(Clone, Copy)]
@@ -93,27 +78,6 @@ pub enum TableCheck {
     Shape,
     Node(usize),
     Rule(usize),
-}
-
-// The place of a fault, if there is one.
-#[derive(Clone, Copy)]
-pub enum Fault {
-    None,
-    At(usize),
-}
-
-// A character with the length of its sequence.
-#[derive(Clone, Copy)]
-pub enum Character {
-    Is(u32, usize),
-    Broken,
-}
-
-// The rule of a name, by its index.
-#[derive(Clone, Copy)]
-pub enum Named {
-    By(usize),
-    Nobody,
 }
 
 // A rule record but for its span: where the name lies, the mark, and the root.
@@ -126,18 +90,23 @@ pub struct Head {
 }
 
 // The check of tables of good shape, with room for the first node of each.
+#[tactic(auto, using(crate::proofs::Tables::shaped_few, crate::proofs::Tables::shaped_short, crate::proofs::Tables::tables_node, crate::proofs::Tables::tables_rule, crate::proofs::Tables::tables_left, crate::proofs::Tables::tables_good))]
 fn check_by(nodes: &[u32], rules: &[u32], store: &[u8], firsts: &mut [u16]) -> TableCheck
     requires store_value { shaped nodes.now rules.now store.now ≡ true }
     requires nodes_in_bounds { nodes_in nodes.now ≤ length firsts.old }
     ensures { result ≡ tables nodes.now rules.now store.now }
 {
     let t = text::inner::classes::classes();
-    let node = inner::light::lowest_node(&t, nodes, store, firsts);
-    if let Scan::StopsAt(i) = node {
+    let texts = inner::texts::Scanned { t: &t, store };
+    if let Some(i) = inner::light::lowest_node(&texts, nodes, firsts) {
         return TableCheck::Node(i);
     }
-    let rule = inner::light::lowest_rule(&t, nodes, rules, store, firsts);
-    if let Scan::StopsAt(k) = rule {
+    let all = inner::checks::Rules {
+        nodes,
+        rules,
+        firsts,
+    };
+    if let Some(k) = inner::light::lowest_rule(&texts, &all) {
         return TableCheck::Rule(k);
     }
     let m = rules.len() / inner::layout::RULE_SIZE;
@@ -147,26 +116,19 @@ fn check_by(nodes: &[u32], rules: &[u32], store: &[u8], firsts: &mut [u16]) -> T
     TableCheck::Rule(m)
 }
 
-// Room of two sizes, since a local array is cleared at each call.
-fn check_small(nodes: &[u32], rules: &[u32], store: &[u8]) -> TableCheck
+// Room for N first nodes: of two sizes, since a local array is cleared at each call.
+fn check_sized<const N: usize>(nodes: &[u32], rules: &[u32], store: &[u8]) -> TableCheck
     requires store_value { shaped nodes.now rules.now store.now ≡ true }
-    requires nodes_bound { nodes_in nodes.now ≤ 256 }
+    requires nodes_bound { nodes_in nodes.now ≤ N }
+    requires room { N ≤ max_nodes }
     ensures { result ≡ tables nodes.now rules.now store.now }
 {
-    let mut firsts = [0u16; 256];
-    check_by(nodes, rules, store, &mut firsts)
-}
-
-fn check_large(nodes: &[u32], rules: &[u32], store: &[u8]) -> TableCheck
-    requires store_value { shaped nodes.now rules.now store.now ≡ true }
-    requires nodes_bound { nodes_in nodes.now ≤ max_nodes }
-    ensures { result ≡ tables nodes.now rules.now store.now }
-{
-    let mut firsts = [0u16; limits::NODES];
+    let mut firsts = [0u16; N];
     check_by(nodes, rules, store, &mut firsts)
 }
 
 // The check of whole tables: their shape, then all nodes, then the rules, the lowest index first.
+#[tactic(auto, using(crate::proofs::Tables::shaped_few, crate::proofs::Tables::tables_shape))]
 pub fn check_tables(nodes: &[u32], rules: &[u32], store: &[u8]) -> TableCheck
     ensures { result ≡ tables nodes.now rules.now store.now }
 {
@@ -174,7 +136,7 @@ pub fn check_tables(nodes: &[u32], rules: &[u32], store: &[u8]) -> TableCheck
         return TableCheck::Shape;
     }
     if nodes.len() / inner::layout::NODE_SIZE <= 256 {
-        return check_small(nodes, rules, store);
+        return check_sized::<256>(nodes, rules, store);
     }
-    check_large(nodes, rules, store)
+    check_sized::<{ limits::NODES }>(nodes, rules, store)
 }

@@ -1,4 +1,5 @@
 -- Laws of decimals: how a number is written, and what digits are worth.
+use Rattle.std.specs.Prelude.{ℕ, Result, Ok, Err}
 use Prim.Native.Nat.{ℕ, zero, suc, ◌+◌, ◌-◌, ◌*◌, ◌/◌, ◌%◌, ◌≤◌, ◌<◌}
 use mathlib.Core.Path.{◌≡◌, refl, sym, ap, ◌∙◌}
 use mathlib.Core.Bool.{false}
@@ -11,7 +12,7 @@ use borrow.Author.Tests.{lt-ltb, le-ltb, le-leb, lt-leb}
 use Rattle.text.specs.Booleans.{choose}
 use Rattle.text.specs.Classes.{digit}
 use Rattle.text.specs.Digits.{digits, decimal, decimal_from, decimal_of}
-use Rattle.text.specs.declared.Decimal.{Decimal}
+use Rattle.text.specs.declared.DecimalError.{DecimalError}
 use Rattle.text.proofs.Tests.{lt_or_ge, at_byte, at_end, within_yes}
 use Rattle.text.proofs.Booleans.{choose_by}
 
@@ -51,8 +52,8 @@ unfolding decimal_from
 from_over limit v w [] h g = rw (lt-leb v limit h, lt-leb w limit g)
 from_over limit v w (x ∷ xs) h g =
     choose_by
-    (λ (r : Decimal). r ≡ choose (digit x) (λ u. decimal_from limit (w * 10 + (x - 48)) xs) (λ u. Decimal.NotDigits)) (digit x)
-    (λ u. decimal_from limit (v * 10 + (x - 48)) xs) (λ u. Decimal.NotDigits)
+    (λ (r : Result ℕ DecimalError). r ≡ choose (digit x) (λ u. decimal_from limit (w * 10 + (x - 48)) xs) (λ u. Err DecimalError.NotDigits)) (digit x)
+    (λ u. decimal_from limit (v * 10 + (x - 48)) xs) (λ u. Err DecimalError.NotDigits)
     (λ t. rw t (from_over limit (v * 10 + (x - 48)) (w * 10 + (x - 48)) xs (omega arith) (omega arith))) (λ f. rw f)
 
 -- a turn of the loop: one more digit, unless the limit is exceeded already
@@ -68,11 +69,11 @@ from_step limit v x w s i h b l g e =
     rw (at_byte s i h, ← b, from_digit limit v x (drop (i + 1) s) l g, f))
     (lt_or_ge limit v)
 
-pub from_stop : (limit v x : ℕ) (s : List ℕ) (i : ℕ) → i < length s → x ≡ get_or s i 0 → digit x ≡ false → decimal_from limit v (drop i s) ≡ Decimal.NotDigits
+pub from_stop : (limit v x : ℕ) (s : List ℕ) (i : ℕ) → i < length s → x ≡ get_or s i 0 → digit x ≡ false → decimal_from limit v (drop i s) ≡ Err DecimalError.NotDigits
 unfolding decimal_from
 from_stop limit v x s i h b e = rw (at_byte s i h, ← b, e)
 
-pub from_end : (limit v : ℕ) (s : List ℕ) (i : ℕ) → length s ≤ i → decimal_from limit v (drop i s) ≡ choose (leb v limit) (λ u. Decimal.Is v) (λ u. Decimal.Over)
+pub from_end : (limit v : ℕ) (s : List ℕ) (i : ℕ) → length s ≤ i → decimal_from limit v (drop i s) ≡ choose (leb v limit) (λ u. Ok v) (λ u. Err DecimalError.Over)
 unfolding decimal_from
 from_end limit v s i h = rw (at_end s i h)
 
@@ -95,7 +96,7 @@ from_written limit n (suc k) ys h =
     rw (digits_more k n m, e) (from_written limit (n / 10) k ((48 + n % 10) ∷ ys) g ∙ written_last limit n ys))
     (lt_or_ge n 10)
 
-from_none : (limit n : ℕ) → n ≤ limit → decimal_from limit n [] ≡ Decimal.Is n
+from_none : (limit n : ℕ) → n ≤ limit → decimal_from limit n [] ≡ Ok n
 unfolding decimal_from
 from_none limit n h = rw (le-leb n limit h)
 
@@ -103,7 +104,7 @@ pub decimal_nonempty : (n : ℕ) → 1 ≤ length (decimal n)
 decimal_nonempty n =
     ⊎_elim (λ l. rw (decimal_one n l) (omega arith)) (λ m. rw (decimal_more n m, length-append) (omega arith)) (lt_or_ge n 10)
 
-pub of_none : (limit : ℕ) (s : List ℕ) → length s ≡ 0 → decimal_of limit s ≡ Decimal.NotDigits
+pub of_none : (limit : ℕ) (s : List ℕ) → length s ≡ 0 → decimal_of limit s ≡ Err DecimalError.NotDigits
 unfolding decimal_of
 of_none limit [] h = refl
 of_none limit (x ∷ xs) h = absurd (omega arith)
@@ -113,7 +114,7 @@ unfolding decimal_of
 of_from limit [] h = absurd (h refl)
 of_from limit (x ∷ xs) h = refl
 
-pub decimal_back : (limit n : ℕ) → n ≤ limit → decimal_of limit (decimal n) ≡ Decimal.Is n
+pub decimal_back : (limit n : ℕ) → n ≤ limit → decimal_of limit (decimal n) ≡ Ok n
 unfolding decimal
 decimal_back limit n h =
     of_from limit (digits (suc n) n) (λ z. omega (arith, decimal_nonempty n))

@@ -1,4 +1,5 @@
 -- What is known of a sequence that was found: its bytes, and that they are its character's encoding.
+use Rattle.std.specs.Prelude.{ℕ, Option, Some, None}
 use Prim.Native.Nat.{ℕ, suc, ◌+◌, ◌-◌, ◌*◌, ◌/◌, ◌%◌, ◌≤◌, ◌<◌}
 use mathlib.Core.Path.{◌≡◌, refl, sym, ◌∙◌}
 use mathlib.Core.Bool.{Bool, true, false}
@@ -10,10 +11,7 @@ use lib.Dec.{leb, ltb}
 use borrow.Author.Tests.{leb-true, ltb-true, ltb-false, lt-ltb, le-ltb}
 use Rattle.text.specs.Booleans.{choose, within}
 use Rattle.text.specs.Utf8.{scalar, lead_of, gathered, judged, sequence_by, char_of, encoded, Tail}
-use Rattle.text.specs.declared.Value.{Value}
-use Rattle.text.specs.declared.Value.TheVariants.{Number, Nothing}
-use Rattle.text.specs.declared.Lead.{Lead}
-use Rattle.text.specs.declared.Sequence.TheVariants.{Is, Broken}
+use Rattle.text.proofs.Pairs.{some_first, some_second}
 use Rattle.text.proofs.Tests.{within_is, within_yes}
 use Rattle.text.proofs.Booleans.{choose_by}
 
@@ -40,40 +38,40 @@ record More (k v : ℕ) (xs : List ℕ) (c : ℕ) : Type 0 where
   rest : List ℕ
   is : xs ≡ byte ∷ rest
   tail : Tail byte
-  then : gathered k (v * 64 + (byte - 0x80)) rest ≡ Number c
+  then : gathered k (v * 64 + (byte - 0x80)) rest ≡ Some c
 
 more_by : (k v x : ℕ) (xs : List ℕ) (c : ℕ) (b : Bool) → within 0x80 0xbf x ≡ b
-    → choose b (λ u. gathered k (v * 64 + (x - 0x80)) xs) (λ u. Nothing) ≡ Number c → More k v (x ∷ xs) c
+    → choose b (λ u. gathered k (v * 64 + (x - 0x80)) xs) (λ u. None) ≡ Some c → More k v (x ∷ xs) c
 more_by k v x xs c true p e = let w = within_is 0x80 0xbf x p in record { byte = x; rest = xs; is = refl; tail = (w.low, w.high); then = e }
 more_by k v x xs c false p e = let z : ◌≡◌ {A = ℕ} 0 1 = cc in absurd (omega arith)
 
-more : (k v : ℕ) (xs : List ℕ) (c : ℕ) → gathered (suc k) v xs ≡ Number c → More k v xs c
+more : (k v : ℕ) (xs : List ℕ) (c : ℕ) → gathered (suc k) v xs ≡ Some c → More k v xs c
 unfolding gathered
 more k v [] c e = let z : ◌≡◌ {A = ℕ} 0 1 = cc in absurd (omega arith)
 more k v (x ∷ xs) c e = more_by k v x xs c (within 0x80 0xbf x) refl e
 
-last : (v : ℕ) (xs : List ℕ) (c : ℕ) → gathered 0 v xs ≡ Number c → c ≡ v
+last : (v : ℕ) (xs : List ℕ) (c : ℕ) → gathered 0 v xs ≡ Some c → c ≡ v
 unfolding gathered
 last v xs c e = cc
 
-record Judged (low n : ℕ) (g : Value) (c m : ℕ) : Type 0 where
-  number : g ≡ Number c
+record Judged (low n : ℕ) (g : Option ℕ) (c m : ℕ) : Type 0 where
+  number : g ≡ Some c
   least : low ≤ c
   good : scalar c ≡ true
   size : m ≡ n
 
 judged_by : (low n v c m : ℕ) (a b : Bool) → leb low v ≡ a → scalar v ≡ b
-    → choose a (λ u. choose b (λ w. Is v n) (λ w. Broken)) (λ u. Broken) ≡ Is c m → Judged low n (Number v) c m
+    → ◌≡◌ {A = Option (ℕ × ℕ)} (choose a (λ u. choose b (λ w. Some (v, n)) (λ w. None)) (λ u. None)) (Some (c, m)) → Judged low n (Some v) c m
 judged_by low n v c m true true p q e =
-    let f : c ≡ v = cc in
-    rw f record { number = refl; least = leb-true low v p; good = q; size = cc }
+    let f = sym (some_first e) in
+    rw f record { number = refl; least = leb-true low v p; good = q; size = sym (some_second e) }
 judged_by low n v c m true false p q e = let z : ◌≡◌ {A = ℕ} 0 1 = cc in absurd (omega arith)
 judged_by low n v c m false b p q e = let z : ◌≡◌ {A = ℕ} 0 1 = cc in absurd (omega arith)
 
-judged_is : (low n : ℕ) (g : Value) (c m : ℕ) → judged low n g ≡ Is c m → Judged low n g c m
+judged_is : (low n : ℕ) (g : Option ℕ) (c m : ℕ) → judged low n g ≡ Some (c, m) → Judged low n g c m
 unfolding judged
-judged_is low n (Number v) c m e = judged_by low n v c m (leb low v) (scalar v) refl refl e
-judged_is low n Nothing c m e = let z : ◌≡◌ {A = ℕ} 0 1 = cc in absurd (omega arith)
+judged_is low n (Some v) c m e = judged_by low n v c m (leb low v) (scalar v) refl refl e
+judged_is low n None c m e = let z : ◌≡◌ {A = ℕ} 0 1 = cc in absurd (omega arith)
 
 -- the four rows of RFC 3629's table, as the bytes that stand first
 pub data Found : List ℕ → ℕ → ℕ → Type 0 where
@@ -82,28 +80,28 @@ pub data Found : List ℕ → ℕ → ℕ → Type 0 where
   three : {x y z c : ℕ} {ys : List ℕ} → 0xe0 ≤ x → x < 0xf0 → Tail y → Tail z → c ≡ ((x - 0xe0) * 64 + (y - 0x80)) * 64 + (z - 0x80) → 0x800 ≤ c → scalar c ≡ true → Found (x ∷ y ∷ z ∷ ys) c 3
   four : {x y z t c : ℕ} {ys : List ℕ} → 0xf0 ≤ x → x < 0xf8 → Tail y → Tail z → Tail t → c ≡ (((x - 0xf0) * 64 + (y - 0x80)) * 64 + (z - 0x80)) * 64 + (t - 0x80) → 0x10000 ≤ c → scalar c ≡ true → Found (x ∷ y ∷ z ∷ t ∷ ys) c 4
 
-none_found : {xs : List ℕ} {c n : ℕ} → Broken ≡ Is c n → Found xs c n
+none_found : {xs : List ℕ} {c n : ℕ} → ◌≡◌ {A = Option (ℕ × ℕ)} None (Some (c, n)) → Found xs c n
 none_found e = let z : ◌≡◌ {A = ℕ} 0 1 = cc in absurd (omega arith)
 
-found_one : (x c n : ℕ) (xs : List ℕ) → x < 0x80 → judged 0 1 (gathered 0 x xs) ≡ Is c n → Found (x ∷ xs) c n
+found_one : (x c n : ℕ) (xs : List ℕ) → x < 0x80 → judged 0 1 (gathered 0 x xs) ≡ Some (c, n) → Found (x ∷ xs) c n
 found_one x c n xs h e =
     let j = judged_is 0 1 (gathered 0 x xs) c n e in
     rw (j.size, last x xs c j.number) (one h)
 
-found_two : (x c n : ℕ) (xs : List ℕ) → 0xc0 ≤ x → x < 0xe0 → judged 0x80 2 (gathered 1 (x - 0xc0) xs) ≡ Is c n → Found (x ∷ xs) c n
+found_two : (x c n : ℕ) (xs : List ℕ) → 0xc0 ≤ x → x < 0xe0 → judged 0x80 2 (gathered 1 (x - 0xc0) xs) ≡ Some (c, n) → Found (x ∷ xs) c n
 found_two x c n xs l h e =
     let j = judged_is 0x80 2 (gathered 1 (x - 0xc0) xs) c n e in
     let m = more 0 (x - 0xc0) xs c j.number in
     rw (j.size, m.is) (two l h m.tail (last _ m.rest c m.then) j.least j.good)
 
-found_three : (x c n : ℕ) (xs : List ℕ) → 0xe0 ≤ x → x < 0xf0 → judged 0x800 3 (gathered 2 (x - 0xe0) xs) ≡ Is c n → Found (x ∷ xs) c n
+found_three : (x c n : ℕ) (xs : List ℕ) → 0xe0 ≤ x → x < 0xf0 → judged 0x800 3 (gathered 2 (x - 0xe0) xs) ≡ Some (c, n) → Found (x ∷ xs) c n
 found_three x c n xs l h e =
     let j = judged_is 0x800 3 (gathered 2 (x - 0xe0) xs) c n e in
     let m = more 1 (x - 0xe0) xs c j.number in
     let k = more 0 _ m.rest c m.then in
     rw (j.size, m.is, k.is) (three l h m.tail k.tail (last _ k.rest c k.then) j.least j.good)
 
-found_four : (x c n : ℕ) (xs : List ℕ) → 0xf0 ≤ x → x < 0xf8 → judged 0x10000 4 (gathered 3 (x - 0xf0) xs) ≡ Is c n → Found (x ∷ xs) c n
+found_four : (x c n : ℕ) (xs : List ℕ) → 0xf0 ≤ x → x < 0xf8 → judged 0x10000 4 (gathered 3 (x - 0xf0) xs) ≡ Some (c, n) → Found (x ∷ xs) c n
 found_four x c n xs l h e =
     let j = judged_is 0x10000 4 (gathered 3 (x - 0xf0) xs) c n e in
     let m = more 2 (x - 0xf0) xs c j.number in
@@ -111,10 +109,10 @@ found_four x c n xs l h e =
     let i = more 0 _ k.rest c k.then in
     rw (j.size, m.is, k.is, i.is) (four l h m.tail k.tail i.tail (last _ i.rest c i.then) j.least j.good)
 
-abbrev By : (x c n : ℕ) (xs : List ℕ) → Lead → Type 0
-By x c n xs r = sequence_by r xs ≡ Is c n → Found (x ∷ xs) c n
+abbrev By : (x c n : ℕ) (xs : List ℕ) → Option (ℕ × ℕ × ℕ) → Type 0
+By x c n xs r = sequence_by r xs ≡ Some (c, n) → Found (x ∷ xs) c n
 
-pub found : (xs : List ℕ) (c n : ℕ) → char_of xs ≡ Is c n → Found xs c n
+pub found : (xs : List ℕ) (c n : ℕ) → char_of xs ≡ Some (c, n) → Found xs c n
 unfolding char_of lead_of
 found [] c n e = none_found e
 found (x ∷ xs) c n e₀ =
@@ -191,5 +189,5 @@ decoded_found (four {x} {y} {z} {t} {c} l h a b d e s g) =
       inside = omega arith;
     }
 
-pub decoded : (xs : List ℕ) (c n : ℕ) → char_of xs ≡ Is c n → Decoded xs c n
+pub decoded : (xs : List ℕ) (c n : ℕ) → char_of xs ≡ Some (c, n) → Decoded xs c n
 decoded xs c n e = decoded_found (found xs c n e)

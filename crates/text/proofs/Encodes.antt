@@ -1,4 +1,5 @@
 -- A character's bytes are read as the character.
+use Rattle.std.specs.Prelude.{Option, Some, None}
 use Prim.Native.Nat.{ℕ, suc, ◌+◌, ◌-◌, ◌*◌, ◌/◌, ◌%◌, ◌≤◌, ◌<◌}
 use mathlib.Core.Path.{◌≡◌, refl, sym, ap, ◌∙◌}
 use mathlib.Core.Bool.{true}
@@ -9,40 +10,37 @@ use lib.ListN.{length, get_or, drop}
 use borrow.Author.Tests.{lt-ltb, le-ltb, le-leb}
 use Rattle.text.specs.Scans.{sought, later}
 use Rattle.text.specs.Utf8.{scalar, lead_of, gathered, judged, char_of, encoded, seq_look, look_by}
-use Rattle.text.specs.declared.Value.TheVariants.{Number}
-use Rattle.text.specs.declared.Lead.TheVariants.{Row, Stray}
-use Rattle.text.specs.declared.Sequence.TheVariants.{Is}
 use Rattle.text.proofs.Tests.{within_yes, lt_or_ge, at_byte}
 use Rattle.text.proofs.Walks.{sought_past}
 use Rattle.text.proofs.Decodes.{Found, one, two, three, four, decoded, scalar_is, scalar_low, encoded_one, encoded_two, encoded_three, encoded_four}
 
 -- what a first byte says, by its row
-pub lead_one : (x : ℕ) → x < 0x80 → lead_of x ≡ Row x 0 0
+pub lead_one : (x : ℕ) → x < 0x80 → lead_of x ≡ Some (x, 0, 0)
 unfolding lead_of
 lead_one x h = rw (lt-ltb x 0x80 h)
 
-pub lead_stray : (x : ℕ) → 0x80 ≤ x → x < 0xc0 → lead_of x ≡ Stray
+pub lead_stray : (x : ℕ) → 0x80 ≤ x → x < 0xc0 → lead_of x ≡ None
 unfolding lead_of
 lead_stray x l h = rw (le-ltb x 0x80 l, lt-ltb x 0xc0 h)
 
-pub lead_two : (x : ℕ) → 0xc0 ≤ x → x < 0xe0 → lead_of x ≡ Row (x - 0xc0) 1 0x80
+pub lead_two : (x : ℕ) → 0xc0 ≤ x → x < 0xe0 → lead_of x ≡ Some (x - 0xc0, 1, 0x80)
 unfolding lead_of
 lead_two x l h = rw (le-ltb x 0x80 (omega arith), le-ltb x 0xc0 l, lt-ltb x 0xe0 h)
 
-pub lead_three : (x : ℕ) → 0xe0 ≤ x → x < 0xf0 → lead_of x ≡ Row (x - 0xe0) 2 0x800
+pub lead_three : (x : ℕ) → 0xe0 ≤ x → x < 0xf0 → lead_of x ≡ Some (x - 0xe0, 2, 0x800)
 unfolding lead_of
 lead_three x l h = rw (le-ltb x 0x80 (omega arith), le-ltb x 0xc0 (omega arith), le-ltb x 0xe0 l, lt-ltb x 0xf0 h)
 
-pub lead_four : (x : ℕ) → 0xf0 ≤ x → x < 0xf8 → lead_of x ≡ Row (x - 0xf0) 3 0x10000
+pub lead_four : (x : ℕ) → 0xf0 ≤ x → x < 0xf8 → lead_of x ≡ Some (x - 0xf0, 3, 0x10000)
 unfolding lead_of
 lead_four x l h = rw (le-ltb x 0x80 (omega arith), le-ltb x 0xc0 (omega arith), le-ltb x 0xe0 (omega arith), le-ltb x 0xf0 l, lt-ltb x 0xf8 h)
 
-pub lead_high : (x : ℕ) → 0xf8 ≤ x → lead_of x ≡ Stray
+pub lead_high : (x : ℕ) → 0xf8 ≤ x → lead_of x ≡ None
 unfolding lead_of
 lead_high x l = rw (le-ltb x 0x80 (omega arith), le-ltb x 0xc0 (omega arith), le-ltb x 0xe0 (omega arith), le-ltb x 0xf0 (omega arith), le-ltb x 0xf8 l)
 
 -- one more byte, or none
-pub gathered_none : (v : ℕ) (xs : List ℕ) → gathered 0 v xs ≡ Number v
+pub gathered_none : (v : ℕ) (xs : List ℕ) → gathered 0 v xs ≡ Some v
 unfolding gathered
 gathered_none v xs = refl
 
@@ -50,12 +48,12 @@ pub gathered_more : (k v x : ℕ) (xs : List ℕ) → 0x80 ≤ x → x ≤ 0xbf 
 unfolding gathered
 gathered_more k v x xs l h = rw (within_yes 0x80 0xbf x l h)
 
-judged_yes : (low n c v : ℕ) → v ≡ c → low ≤ c → scalar c ≡ true → judged low n (Number v) ≡ Is c n
+judged_yes : (low n c v : ℕ) → v ≡ c → low ≤ c → scalar c ≡ true → judged low n (Some v) ≡ Some (c, n)
 unfolding judged
 judged_yes low n c v e l g = rw (e, le-leb low c l, g)
 
 -- the four rows, the other way round
-pub found_read : {xs : List ℕ} {c n : ℕ} → Found xs c n → char_of xs ≡ Is c n
+pub found_read : {xs : List ℕ} {c n : ℕ} → Found xs c n → char_of xs ≡ Some (c, n)
 unfolding char_of
 found_read (one {x} {ys} h) =
     rw (lead_one x h, gathered_none x ys) (judged_yes 0 1 x x refl (omega arith) (scalar_low x (omega arith)))
@@ -90,11 +88,11 @@ encoded_found c xs s =
     (lt_or_ge c 0x10000)) (lt_or_ge c 0x800)) (lt_or_ge c 0x80)
 
 -- decode (encode c) is c
-pub encoded_read : (c : ℕ) (xs : List ℕ) → scalar c ≡ true → char_of (encoded c ++ xs) ≡ Is c (length (encoded c))
+pub encoded_read : (c : ℕ) (xs : List ℕ) → scalar c ≡ true → char_of (encoded c ++ xs) ≡ Some (c, length (encoded c))
 encoded_read c xs s = found_read (encoded_found c xs s)
 
 -- a turn of the search for a bad sequence
-pub look_step : (s : List ℕ) (i c n : ℕ) → i < length s → char_of (drop i s) ≡ Is c n
+pub look_step : (s : List ℕ) (i c n : ℕ) → i < length s → char_of (drop i s) ≡ Some (c, n)
     → later i (sought seq_look 0 (drop i s)) ≡ later (i + n) (sought seq_look 0 (drop (i + n) s))
 look_step s i c n h e =
     let d = decoded (drop i s) c n e in
@@ -110,16 +108,17 @@ pub record Small (bits more : ℕ) : Type 0 where
   pub few : more ≤ 3
   pub low : bits < 256
 
-row_small_lem : (a b d bits more low : ℕ) → Row a b d ≡ Row bits more low → a < 256 → b ≤ 3 → Small bits more
+row_small_lem : (a b d bits more low : ℕ) → ◌≡◌ {A = Option (ℕ × ℕ × ℕ)} (Some (a, b, d)) (Some (bits, more, low)) → a < 256 → b ≤ 3 → Small bits more
 row_small_lem a b d bits more low e h g =
-    let p : bits ≡ a = cc in
-    let q : more ≡ b = cc in
+    let t : ◌≡◌ {A = ℕ × ℕ × ℕ} (a, b, d) (bits, more, low) = cc in
+    let p : a ≡ bits = ap (λ (z : ℕ × ℕ × ℕ). z.0) t in
+    let q : b ≡ more = ap (λ (z : ℕ × ℕ × ℕ). z.1) t in
     record { few = omega arith; low = omega arith }
 
-stray_small : {bits more : ℕ} (low : ℕ) → Stray ≡ Row bits more low → Small bits more
+stray_small : {bits more : ℕ} (low : ℕ) → ◌≡◌ {A = Option (ℕ × ℕ × ℕ)} None (Some (bits, more, low)) → Small bits more
 stray_small low e = let z : ◌≡◌ {A = ℕ} 0 1 = cc in absurd (omega arith)
 
-pub lead_small : (x bits more low : ℕ) → x < 256 → lead_of x ≡ Row bits more low → Small bits more
+pub lead_small : (x bits more low : ℕ) → x < 256 → lead_of x ≡ Some (bits, more, low) → Small bits more
 lead_small x bits more low b e =
     ⊎_elim (λ h. row_small_lem x 0 0 bits more low (sym (lead_one x h) ∙ e) b (omega arith))
     (λ a. ⊎_elim (λ h. stray_small low (sym (lead_stray x a h) ∙ e))

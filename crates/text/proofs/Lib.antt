@@ -7,6 +7,7 @@ pub mod Decodes
 pub mod Encodes
 pub mod Ascii
 pub mod Gathers
+pub mod Pairs
 pub mod Ranges
 pub mod Table
 pub mod Tables

@@ -1,4 +1,5 @@
 -- The table of RFC 3629's section 3 and the byte ranges of its section 4 agree.
+use Rattle.std.specs.Prelude.{Some}
 use Prim.Native.Nat.{ℕ, ◌+◌, ◌-◌, ◌*◌, ◌≤◌, ◌<◌}
 use mathlib.Core.Path.{◌≡◌, refl}
 use mathlib.Core.Bool.{true}
@@ -7,7 +8,6 @@ use mathlib.Core.Logic.{⊎_elim}
 use native.Mathlib.Omega.{arith}
 use lib.ListN.{length, take}
 use Rattle.text.specs.Utf8.{scalar, char_of, Tail, Utf8Char, utf8_1, utf8_2, utf8_3_e0, utf8_3_e1, utf8_3_ed, utf8_3_ee, utf8_4_f0, utf8_4_f1, utf8_4_f4}
-use Rattle.text.specs.declared.Sequence.TheVariants.{Is}
 use Rattle.text.proofs.Tests.{lt_or_ge}
 use Rattle.text.proofs.Decodes.{Found, one, two, three, four, found, scalar_is, scalar_low, scalar_high}
 use Rattle.text.proofs.Encodes.{found_read, scalar_below}
@@ -45,11 +45,11 @@ found_ranges (three {x} {y} {z} {c} l h t u e s g) = three_ranges x y z c l h t 
 found_ranges (four {x} {y} {z} {t} {c} l h a u w e s g) = four_ranges x y z t c l a u w e s (scalar_below c g)
 
 -- a sequence that the table finds is a UTF8-char of the ranges
-pub char_in_ranges : (xs : List ℕ) (c n : ℕ) → char_of xs ≡ Is c n → Utf8Char (take n xs)
+pub char_in_ranges : (xs : List ℕ) (c n : ℕ) → char_of xs ≡ Some (c, n) → Utf8Char (take n xs)
 char_in_ranges xs c n e = found_ranges (found xs c n e)
 
 -- and a UTF8-char of the ranges, whatever follows it, is a sequence that the table finds
-pub ranges_char : {b : List ℕ} → Utf8Char b → (ys : List ℕ) → (c : ℕ) × (char_of (b ++ ys) ≡ Is c (length b))
+pub ranges_char : {b : List ℕ} → Utf8Char b → (ys : List ℕ) → (c : ℕ) × (char_of (b ++ ys) ≡ Some (c, length b))
 ranges_char (utf8_1 {x} h) ys = (x, found_read (one {x = x} (omega arith)))
 ranges_char (utf8_2 {x} {y} l h t) ys =
     let c : ℕ = (x - 0xc0) * 64 + (y - 0x80) in

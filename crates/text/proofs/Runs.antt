@@ -1,14 +1,21 @@
 -- Laws of bytes that all pass a test, and of a text's front.
 use Prim.Native.Nat.{ℕ, ◌+◌, ◌≤◌, ◌<◌}
-use mathlib.Core.Path.{◌≡◌, refl}
-use mathlib.Core.Bool.{Bool, true, false}
+use mathlib.Core.Path.{◌≡◌, refl, ap, ◌∙◌}
+use mathlib.Core.Bool.{Bool, true, false, ◌&&◌}
 use mathlib.Core.List.{List, [], ◌∷◌}
 use native.Mathlib.Omega.{arith}
-use lib.ListN.{length, get_or, drop}
-use borrow.Author.Tests.{eq-eqb, ne_eqb}
+use lib.Dec.{eqb}
+use lib.ListN.{length, get_or, take, drop}
+use Rattle.std.specs.List.{list_all}
+use Rattle.std.specs.Cmp.Lexicographic.{pointwise}
+use Rattle.std.proofs.lemmas.Bool.Decides.{nat_tests}
 use Rattle.text.specs.Booleans.{and, all}
 use Rattle.text.specs.Words.{starts_word, in_word, is_word, begins}
 use Rattle.text.proofs.Tests.{at_byte, at_end}
+
+and_listed : (a b : Bool) → (a && b) ≡ and a b
+and_listed true b = refl
+and_listed false b = refl
 
 -- a byte that passes, one that fails, and the end
 pub all_step : (f : ℕ → Bool) (s : List ℕ) (i : ℕ) → i < length s → f (get_or s i 0) ≡ true → all f (drop i s) ≡ all f (drop (i + 1) s)
@@ -23,21 +30,22 @@ pub all_end : (f : ℕ → Bool) (s : List ℕ) (i : ℕ) → length s ≤ i →
 unfolding all
 all_end f s i h = rw (at_end s i h)
 
--- one byte of the front after the other
-module _ (p s : List ℕ) (at j : ℕ) (h : j < length p) where
-  pub begins_step : at + j < length s → get_or s (at + j) 0 ≡ get_or p j 0 → begins (drop j p) (drop (at + j) s) ≡ begins (drop (j + 1) p) (drop (at + (j + 1)) s)
-  unfolding begins
-  begins_step g e =
-      let k : at + j + 1 ≡ at + (j + 1) = omega arith in
-      rw (at_byte p j h, at_byte s (at + j) g, eq-eqb (get_or s (at + j) 0) (get_or p j 0) e, k)
+-- the list's test of std
+pub all_listed : (f : ℕ → Bool) (xs : List ℕ) → list_all f xs ≡ all f xs
+unfolding all
+all_listed f [] = refl
+all_listed f (x ∷ xs) = and_listed (f x) (list_all f xs) ∙ ap (and (f x)) (all_listed f xs)
 
-  pub begins_stop : at + j < length s → (get_or s (at + j) 0 ≡ get_or p j 0 → ⊥) → begins (drop j p) (drop (at + j) s) ≡ false
-  unfolding begins
-  begins_stop g e = rw (at_byte p j h, at_byte s (at + j) g, ne_eqb (get_or s (at + j) 0) (get_or p j 0) e)
+eqb_turned : (x y : ℕ) → eqb x y ≡ eqb y x
+eqb_turned x y = grind (arith, nat_tests)
 
-  pub begins_short : length s ≤ at + j → begins (drop j p) (drop (at + j) s) ≡ false
-  unfolding begins
-  begins_short g = rw (at_byte p j h, at_end s (at + j) g)
+-- the front's test of std
+pub begins_listed : (p xs : List ℕ) → pointwise eqb p (take (length p) xs) ≡ begins p xs
+unfolding begins
+begins_listed [] xs = refl
+begins_listed (p ∷ ps) [] = refl
+begins_listed (p ∷ ps) (x ∷ xs) =
+    and_listed (eqb p x) (pointwise eqb ps (take (length ps) xs)) ∙ (ap (λ (b : Bool). and b (pointwise eqb ps (take (length ps) xs))) (eqb_turned p x) ∙ ap (and (eqb x p)) (begins_listed ps xs))
 
 pub begins_end : (p xs : List ℕ) (j : ℕ) → length p ≤ j → begins (drop j p) xs ≡ true
 unfolding begins

@@ -32,9 +32,6 @@ within_low lo hi b h = rw (lt-leb lo b h)
 pub within_high : (lo hi b : ℕ) → hi < b → within lo hi b ≡ false
 within_high lo hi b h = rw (lt-leb b hi h) (and_second (leb lo b) false refl)
 
-pub within_if : (lo hi b : ℕ) → lo ≤ b → within lo hi b ≡ leb b hi
-within_if lo hi b h = rw (le-leb lo b h)
-
 pub within_yes : (lo hi b : ℕ) → lo ≤ b → b ≤ hi → within lo hi b ≡ true
 within_yes lo hi b h k = rw (le-leb lo b h) (le-leb b hi k)
 

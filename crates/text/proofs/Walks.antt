@@ -1,4 +1,5 @@
 -- Laws of going through a list piece by piece, and of writing what the pieces give.
+use Rattle.std.specs.Prelude.{ℕ, Option, Some, None}
 use Prim.Native.Nat.{ℕ, zero, suc, ◌+◌, ◌≤◌, ◌<◌}
 use mathlib.Core.Path.{◌≡◌, refl, sym, ap, ◌∙◌}
 use mathlib.Core.List.{List, [], ◌∷◌, ◌++◌}
@@ -8,25 +9,21 @@ use lib.ListN.{length, get_or, drop, length-append}
 use lib.Seq.{drop-drop, sets}
 use Rattle.text.specs.Scans.{Piece, spelled, later, sought}
 use Rattle.text.specs.Splice.{Room, Wrote, spent}
-use Rattle.text.specs.declared.Scan.{Scan}
-use Rattle.text.specs.declared.Scan.TheVariants.{Through, StopsAt}
-use Rattle.text.specs.declared.Look.{Look}
-use Rattle.text.specs.declared.Look.TheVariants.{Past, Stop}
 use Rattle.text.proofs.Tests.{at_byte, at_end}
 use Rattle.text.proofs.Splices.{sets_append, wrote_length, spent_append}
 
-pub later_zero : (r : Scan) → later 0 r ≡ r
-later_zero Through = refl
-later_zero (StopsAt n) = ap StopsAt (zero-add n)
+pub later_zero : (r : Option ℕ) → later 0 r ≡ r
+later_zero None = refl
+later_zero (Some n) = ap Some (zero-add n)
 
-pub later_later : (a b : ℕ) (r : Scan) → later a (later b r) ≡ later (a + b) r
-later_later a b Through = refl
-later_later a b (StopsAt n) = simp add_assoc
+pub later_later : (a b : ℕ) (r : Option ℕ) → later a (later b r) ≡ later (a + b) r
+later_later a b None = refl
+later_later a b (Some n) = simp add_assoc
 
-later_suc : (k : ℕ) (r : Scan) → later 1 (later k r) ≡ later (suc k) r
+later_suc : (k : ℕ) (r : Option ℕ) → later 1 (later k r) ≡ later (suc k) r
 later_suc k r = later_later 1 k r ∙ ap (λ (n : ℕ). later n r) (omega arith)
 
-module _ (p : List ℕ → Look) where
+module _ (p : List ℕ → Option ℕ) where
   pub sought_pending : (k : ℕ) (xs : List ℕ) → sought p k xs ≡ later k (sought p 0 (drop k xs))
   unfolding sought
   sought_pending zero [] = refl
@@ -34,15 +31,15 @@ module _ (p : List ℕ → Look) where
   sought_pending zero (x ∷ xs) = sym (later_zero (sought p 0 (x ∷ xs)))
   sought_pending (suc k) (x ∷ xs) = ap (later 1) (sought_pending k xs) ∙ later_suc k (sought p 0 (drop k xs))
 
-  pub past_head : (x : ℕ) (xs : List ℕ) (n : ℕ) → p (x ∷ xs) ≡ Past n → sought p 0 (x ∷ xs) ≡ later 1 (sought p n xs)
+  pub past_head : (x : ℕ) (xs : List ℕ) (n : ℕ) → p (x ∷ xs) ≡ Some n → sought p 0 (x ∷ xs) ≡ later 1 (sought p n xs)
   unfolding sought
   past_head x xs n h = rw h
 
-  stop_head : (x : ℕ) (xs : List ℕ) → p (x ∷ xs) ≡ Stop → sought p 0 (x ∷ xs) ≡ StopsAt 0
+  stop_head : (x : ℕ) (xs : List ℕ) → p (x ∷ xs) ≡ None → sought p 0 (x ∷ xs) ≡ Some 0
   unfolding sought
   stop_head x xs h = rw h
 
-  pub sought_past : (s : List ℕ) (i n : ℕ) → i < length s → p (drop i s) ≡ Past n
+  pub sought_past : (s : List ℕ) (i n : ℕ) → i < length s → p (drop i s) ≡ Some n
       → later i (sought p 0 (drop i s)) ≡ later (i + (n + 1)) (sought p 0 (drop (i + (n + 1)) s))
   sought_past s i n h e =
       let b : drop i s ≡ get_or s i 0 ∷ drop (i + 1) s = at_byte s i h in
@@ -52,14 +49,14 @@ module _ (p : List ℕ → Look) where
       let l : i + (1 + n) ≡ i + (n + 1) = omega arith in
       ap (later i) (q ∙ later_later 1 n (sought p 0 (drop n (drop (i + 1) s)))) ∙ later_later i (1 + n) (sought p 0 (drop n (drop (i + 1) s))) ∙ rw (drop-drop, k, l)
 
-  pub sought_stop : (s : List ℕ) (i : ℕ) → i < length s → p (drop i s) ≡ Stop → later i (sought p 0 (drop i s)) ≡ StopsAt i
+  pub sought_stop : (s : List ℕ) (i : ℕ) → i < length s → p (drop i s) ≡ None → later i (sought p 0 (drop i s)) ≡ Some i
   sought_stop s i h e =
       let b : drop i s ≡ get_or s i 0 ∷ drop (i + 1) s = at_byte s i h in
-      let q : sought p 0 (drop i s) ≡ StopsAt 0 = rw b (stop_head _ _ (rw b at e)) in
+      let q : sought p 0 (drop i s) ≡ Some 0 = rw b (stop_head _ _ (rw b at e)) in
       let z : i + 0 ≡ i = omega arith in
-      ap (later i) q ∙ ap StopsAt z
+      ap (later i) q ∙ ap Some z
 
-  pub sought_end : (s : List ℕ) (i : ℕ) → length s ≤ i → later i (sought p 0 (drop i s)) ≡ Through
+  pub sought_end : (s : List ℕ) (i : ℕ) → length s ≤ i → later i (sought p 0 (drop i s)) ≡ None
   unfolding sought
   sought_end s i h = rw (at_end s i h)
 

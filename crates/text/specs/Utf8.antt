@@ -1,62 +1,53 @@
 -- UTF-8 as RFC 3629 has it: the table of its section 3, and the byte ranges of its section 4.
-use Rattle.std.specs.Prelude.{ℕ, zero, suc, ◌+◌, ◌-◌, ◌*◌, ◌/◌, ◌%◌, ◌≤◌, Bool, true, List, [], ◌∷◌, leb, ltb, length}
+use Rattle.std.specs.Prelude.{ℕ, zero, suc, ◌+◌, ◌-◌, ◌*◌, ◌/◌, ◌%◌, ◌≤◌, Bool, true, List, [], ◌∷◌, leb, ltb, length, Option, Some, None, Result, Ok, Err}
 use Rattle.text.specs.Booleans.{choose, within}
 use Rattle.text.specs.Scans.{sought}
 use Rattle.text.specs.Splice.{fronted}
-use Rattle.text.specs.declared.Value.{Value}
-use Rattle.text.specs.declared.Value.TheVariants.{Number, Nothing}
-use Rattle.text.specs.declared.Lead.{Lead}
-use Rattle.text.specs.declared.Lead.TheVariants.{Row, Stray}
-use Rattle.text.specs.declared.Sequence.{Sequence}
-use Rattle.text.specs.declared.Sequence.TheVariants.{Is, Broken}
-use Rattle.text.specs.declared.Scan.{Scan}
-use Rattle.text.specs.declared.Look.{Look}
-use Rattle.text.specs.declared.Look.TheVariants.{Past, Stop}
-use Rattle.text.specs.declared.Encoded.{Encoded}
-use Rattle.text.specs.declared.Encoded.TheVariants.{Wrote, NoRoom, NotScalar}
+use Rattle.text.specs.declared.EncodeError.{EncodeError}
+use Rattle.text.specs.declared.EncodeError.TheVariants.{NoRoom, NotScalar}
 
 -- a Unicode scalar value: at most U+10FFFF and no surrogate
 unfoldable pub scalar : ℕ → Bool
 scalar c = choose (ltb c 0xd800) (λ u. true) (λ u. within 0xe000 0x10ffff c)
 
 -- section 3's table by the first byte: the number's bits in it, the bytes that follow, and the row's least number
-unfoldable pub lead_of : ℕ → Lead
+unfoldable pub lead_of : ℕ → Option (ℕ × ℕ × ℕ)
 lead_of x =
-    choose (ltb x 0x80) (λ u. Row x 0 0)
-    (λ u. choose (ltb x 0xc0) (λ u. Stray)
-    (λ u. choose (ltb x 0xe0) (λ u. Row (x - 0xc0) 1 0x80)
-    (λ u. choose (ltb x 0xf0) (λ u. Row (x - 0xe0) 2 0x800)
-    (λ u. choose (ltb x 0xf8) (λ u. Row (x - 0xf0) 3 0x10000) (λ u. Stray)))))
+    choose (ltb x 0x80) (λ u. Some (x, 0, 0))
+    (λ u. choose (ltb x 0xc0) (λ u. None)
+    (λ u. choose (ltb x 0xe0) (λ u. Some (x - 0xc0, 1, 0x80))
+    (λ u. choose (ltb x 0xf0) (λ u. Some (x - 0xe0, 2, 0x800))
+    (λ u. choose (ltb x 0xf8) (λ u. Some (x - 0xf0, 3, 0x10000)) (λ u. None)))))
 
 -- a number with the six bits of each of k more bytes, 10xxxxxx
-unfoldable pub gathered : ℕ → ℕ → List ℕ → Value
-gathered zero v xs = Number v
-gathered (suc k) v [] = Nothing
-gathered (suc k) v (x ∷ xs) = choose (within 0x80 0xbf x) (λ u. gathered k (v * 64 + (x - 0x80)) xs) (λ u. Nothing)
+unfoldable pub gathered : ℕ → ℕ → List ℕ → Option ℕ
+gathered zero v xs = Some v
+gathered (suc k) v [] = None
+gathered (suc k) v (x ∷ xs) = choose (within 0x80 0xbf x) (λ u. gathered k (v * 64 + (x - 0x80)) xs) (λ u. None)
 
 -- a number of n bytes that needs them, since it is at least its row's least, and is a scalar value
-unfoldable pub judged : ℕ → ℕ → Value → Sequence
-judged low n Nothing = Broken
-judged low n (Number v) = choose (leb low v) (λ u. choose (scalar v) (λ u. Is v n) (λ u. Broken)) (λ u. Broken)
+unfoldable pub judged : ℕ → ℕ → Option ℕ → Option (ℕ × ℕ)
+judged low n None = None
+judged low n (Some v) = choose (leb low v) (λ u. choose (scalar v) (λ u. Some (v, n)) (λ u. None)) (λ u. None)
 
-abbrev pub sequence_by : Lead → List ℕ → Sequence
-sequence_by Stray xs = Broken
-sequence_by (Row bits more low) xs = judged low (more + 1) (gathered more bits xs)
+abbrev pub sequence_by : Option (ℕ × ℕ × ℕ) → List ℕ → Option (ℕ × ℕ)
+sequence_by None xs = None
+sequence_by (Some (bits, more, low)) xs = judged low (more + 1) (gathered more bits xs)
 
 -- the first sequence: its character and its length
-unfoldable pub char_of : List ℕ → Sequence
-char_of [] = Broken
+unfoldable pub char_of : List ℕ → Option (ℕ × ℕ)
+char_of [] = None
 char_of (x ∷ xs) = sequence_by (lead_of x) xs
 
-abbrev pub look_by : Sequence → Look
-look_by Broken = Stop
-look_by (Is c n) = Past (n - 1)
+abbrev pub look_by : Option (ℕ × ℕ) → Option ℕ
+look_by None = None
+look_by (Some (c, n)) = Some (n - 1)
 
-abbrev pub seq_look : List ℕ → Look
+abbrev pub seq_look : List ℕ → Option ℕ
 seq_look xs = look_by (char_of xs)
 
 -- the start of the first bad sequence
-unfoldable pub first_bad : List ℕ → Scan
+unfoldable pub first_bad : List ℕ → Option ℕ
 first_bad s = sought seq_look 0 s
 
 -- the bytes of a scalar value, by section 3's table
@@ -68,14 +59,14 @@ encoded c =
     (λ u. (0xf0 + c / 262144) ∷ (0x80 + c / 4096 % 64) ∷ (0x80 + c / 64 % 64) ∷ (0x80 + c % 64) ∷ [])))
 
 -- what writing a number's bytes to the front of a buffer of n bytes answers
-unfoldable pub encode_of : ℕ → ℕ → Encoded
-encode_of c n = choose (scalar c) (λ u. choose (leb (length (encoded c)) n) (λ u. Wrote (length (encoded c))) (λ u. NoRoom)) (λ u. NotScalar)
+unfoldable pub encode_of : ℕ → ℕ → Result ℕ EncodeError
+encode_of c n = choose (scalar c) (λ u. choose (leb (length (encoded c)) n) (λ u. Ok (length (encoded c))) (λ u. Err NoRoom)) (λ u. Err NotScalar)
 
 -- and what it leaves there
-unfoldable pub encode_in : ℕ → List ℕ → Encoded → List ℕ
-encode_in c o (Wrote n) = fronted (encoded c) o
-encode_in c o NoRoom = o
-encode_in c o NotScalar = o
+unfoldable pub encode_in : ℕ → List ℕ → Result ℕ EncodeError → List ℕ
+encode_in c o (Ok n) = fronted (encoded c) o
+encode_in c o (Err NoRoom) = o
+encode_in c o (Err NotScalar) = o
 
 -- section 4: UTF8-tail
 abbrev pub Tail : ℕ → Type 0

@@ -13,46 +13,9 @@ ghost use Rattle.text.specs.Classes.{class_of};
 ghost use Rattle.text.specs.Words.{word_of};
 ghost use Rattle.text.specs.Digits.{decimal_of, decimal_put, decimal_in, hex_of};
 
-// A number, where there is one.
-#[derive(Clone, Copy)]
-pub enum Value {
-    Number(u32),
-    Nothing,
-}
-
-// What a first byte says of its sequence: the number's bits in it, how many bytes follow, and the
-// least number that takes so many.
-#[derive(Clone, Copy)]
-pub enum Lead {
-    Row(u32, usize, u32),
-    Stray,
-}
-
-// A character with the length of its sequence.
-#[derive(Clone, Copy)]
-pub enum Sequence {
-    Is(u32, usize),
-    Broken,
-}
-
-// What came of going over bytes or records in search of one to stop at: there was none, or the first one's place.
-#[derive(Clone, Copy)]
-pub enum Scan {
-    Through,
-    StopsAt(usize),
-}
-
-// A piece to go past, by its bytes after the first, or one to stop at.
-#[derive(Clone, Copy)]
-pub enum Look {
-    Past(usize),
-    Stop,
-}
-
-// A character's bytes, written or not.
-#[derive(Clone, Copy)]
-pub enum Encoded {
-    Wrote(usize),
+// Why a character was not written.
+#[derive(Clone, Copy, Debug, PartialEq, Eq)]
+pub enum EncodeError {
     NoRoom,
     NotScalar,
 }
@@ -65,45 +28,36 @@ pub enum Word {
     Neither,
 }
 
-// What decimal digits are worth, against a limit.
-#[derive(Clone, Copy)]
-pub enum Decimal {
-    Is(u32),
+// Why digits have no worth: it is over the limit, or they are none.
+#[derive(Clone, Copy, Debug, PartialEq, Eq)]
+pub enum DecimalError {
     Over,
     NotDigits,
 }
 
-// Bytes written, or not.
-#[derive(Clone, Copy)]
-pub enum Put {
-    Wrote(usize),
-    NoRoom,
-}
-
 // The sequence at a place.
-pub fn char_at(s: &[u8], at: usize) -> Sequence
+#[tactic(auto, using(crate::proofs::Encodes::lead_small), unfolding(crate::specs::Utf8::char_of))]
+pub fn char_at(s: &[u8], at: usize) -> Option<(u32, usize)>
     ensures { result ≡ char_of (drop at s.now) }
 {
     if s.len() <= at {
-        return Sequence::Broken;
+        return None;
     }
-    let lead = inner::utf8::lead_of(inner::utf8::wide(s[at]));
-    match lead {
-        Lead::Row(bits, more, low) => inner::utf8::judge(
-            low,
-            more + 1,
-            inner::utf8::gather(s, at + 1, more, bits),
-        ),
-        Lead::Stray => Sequence::Broken,
+    match inner::utf8::lead_of(s[at]) {
+        Some((bits, more, low)) => {
+            let v = inner::utf8::gather(&s[at + 1..], more, bits);
+            inner::utf8::judge(low, more + 1, v)
+        }
+        None => None,
     }
 }
 
 // The start of the first bad sequence.
-pub fn first_bad(s: &[u8]) -> Scan
+pub fn first_bad(s: &[u8]) -> Option<usize>
     ensures { result ≡ first_bad s.now }
 {
     if inner::utf8::is_ascii(s) {
-        return Scan::Through;
+        return None;
     }
     let mut i = 0;
     while i < s.len() {
@@ -112,30 +66,30 @@ pub fn first_bad(s: &[u8]) -> Scan
         } else {
             let sequence = char_at(s, i);
             match sequence {
-                Sequence::Is(_, n) => {
+                Some((_, n)) => {
                     i += n;
                 }
-                Sequence::Broken => {
-                    return Scan::StopsAt(i);
+                None => {
+                    return Some(i);
                 }
             }
         }
     }
-    Scan::Through
+    None
 }
 
 // Writes a character's bytes to the front of a buffer.
-pub fn encode(c: u32, out: &mut [u8]) -> Encoded
+pub fn encode(c: u32, out: &mut [u8]) -> Result<usize, EncodeError>
     ensures value { result ≡ encode_of c (length out.old) }
     ensures out_after { out.new ≡ encode_in c out.old result }
 {
     if !inner::utf8::is_scalar(c) {
-        return Encoded::NotScalar;
+        return Err(EncodeError::NotScalar);
     }
     if inner::utf8::spend_char(out.len() + 1, c) == 0 {
-        return Encoded::NoRoom;
+        return Err(EncodeError::NoRoom);
     }
-    Encoded::Wrote(inner::utf8::put_char(c, out, 0))
+    Ok(inner::utf8::put_char(c, out, 0))
 }
 
 // The class of a byte.
@@ -155,48 +109,36 @@ pub fn word_of(s: &[u8]) -> Word
 }
 
 // What decimal digits are worth, if it is at most a limit. Leading zeros are free.
-pub fn decimal_of(s: &[u8], limit: u32) -> Decimal
+#[tactic(auto, using(crate::proofs::Decimals::of_none, crate::proofs::Decimals::of_from))]
+pub fn decimal_of(s: &[u8], limit: u32) -> Result<u32, DecimalError>
     ensures { result ≡ decimal_of limit s.now }
 {
-    if s.len() == 0 {
-        return Decimal::NotDigits;
+    if s.is_empty() {
+        return Err(DecimalError::NotDigits);
     }
     inner::digits::decimal_from(s, limit)
 }
 
 // Writes a number in decimal to the front of a buffer.
-pub fn write_decimal(n: u32, out: &mut [u8]) -> Put
+pub fn write_decimal(n: u32, out: &mut [u8]) -> Option<usize>
     ensures value { result ≡ decimal_put n (length out.old) }
     ensures out_after { out.new ≡ decimal_in n out.old result }
 {
     if inner::digits::spend_decimal(out.len() + 1, n) == 0 {
-        return Put::NoRoom;
+        return None;
     }
-    Put::Wrote(inner::digits::put_decimal(n, out, 0))
+    Some(inner::digits::put_decimal(n, out, 0))
 }
 
 // The value of a hex digit, either case.
-pub fn hex_of(b: u8) -> Value
+#[tactic(auto, unfolding(crate::specs::Digits::hex_of))]
+pub fn hex_of(b: u8) -> Option<u32>
     ensures { result ≡ hex_of b }
 {
-    let x = inner::utf8::wide(b);
-    if x < 48 {
-        return Value::Nothing;
+    match b {
+        b'0'..=b'9' => Some(u32::from(b - b'0')),
+        b'A'..=b'F' => Some(u32::from(b - b'A') + 10),
+        b'a'..=b'f' => Some(u32::from(b - b'a') + 10),
+        _ => None,
     }
-    if x <= 57 {
-        return Value::Number(x - 48);
-    }
-    if x < 65 {
-        return Value::Nothing;
-    }
-    if x <= 70 {
-        return Value::Number(x - 55);
-    }
-    if x < 97 {
-        return Value::Nothing;
-    }
-    if x <= 102 {
-        return Value::Number(x - 87);
-    }
-    Value::Nothing
 }

@@ -1,18 +1,18 @@
 // Runs the entry points of `text` on the vectors of its standard input, and writes each with its answer.
 #![tactic(auto)]
 
-use text::{Decimal, Encoded, Put, Scan, Sequence, Value, Word};
+use text::{DecimalError, EncodeError, Word};
 
 // c BYTES PLACE
 fn run_char(bytes: &[u8], at: usize) {
     let sequence = text::char_at(bytes, at);
     match sequence {
-        Sequence::Is(c, n) => {
+        Some((c, n)) => {
             vectors::write(b" is");
-            vectors::write_number(c as usize);
+            vectors::write_small(c);
             vectors::write_number(n);
         }
-        Sequence::Broken => vectors::write(b" broken"),
+        None => vectors::write(b" broken"),
     }
 }
 
@@ -20,8 +20,8 @@ fn run_char(bytes: &[u8], at: usize) {
 fn run_bad(bytes: &[u8]) {
     let check = text::first_bad(bytes);
     match check {
-        Scan::Through => vectors::write(b" good"),
-        Scan::StopsAt(i) => {
+        None => vectors::write(b" good"),
+        Some(i) => {
             vectors::write(b" bad");
             vectors::write_number(i);
         }
@@ -30,17 +30,17 @@ fn run_bad(bytes: &[u8]) {
 
 // e ROOM NUMBER, into bytes that stand at 170: the ones behind the room stay
 fn run_encode(c: u32, room: usize, out: &mut [u8]) {
-    if out.len() < room {
+    let Some(lent) = out.get_mut(..room) else {
         return;
-    }
-    let encoded = text::encode(c, &mut out[..room]);
+    };
+    let encoded = text::encode(c, lent);
     match encoded {
-        Encoded::Wrote(n) => {
+        Ok(n) => {
             vectors::write(b" wrote");
             vectors::write_number(n);
         }
-        Encoded::NoRoom => vectors::write(b" no room"),
-        Encoded::NotScalar => vectors::write(b" not scalar"),
+        Err(EncodeError::NoRoom) => vectors::write(b" no room"),
+        Err(EncodeError::NotScalar) => vectors::write(b" not scalar"),
     }
     vectors::write_hex(out);
 }
@@ -49,7 +49,7 @@ fn run_encode(c: u32, room: usize, out: &mut [u8]) {
 fn run_classes() {
     vectors::write(b" ");
     for b in 0..=255u8 {
-        io::print_decimal(1, text::class_of(b) as u64);
+        io::print_decimal(1, u64::from(text::class_of(b)));
     }
 }
 
@@ -67,27 +67,27 @@ fn run_word(bytes: &[u8]) {
 fn run_decimal(bytes: &[u8], limit: u32) {
     let decimal = text::decimal_of(bytes, limit);
     match decimal {
-        Decimal::Is(n) => {
+        Ok(n) => {
             vectors::write(b" is");
-            vectors::write_number(n as usize);
+            vectors::write_small(n);
         }
-        Decimal::Over => vectors::write(b" over"),
-        Decimal::NotDigits => vectors::write(b" not digits"),
+        Err(DecimalError::Over) => vectors::write(b" over"),
+        Err(DecimalError::NotDigits) => vectors::write(b" not digits"),
     }
 }
 
 // n ROOM NUMBER, into bytes that stand at 170
 fn run_write(n: u32, room: usize, out: &mut [u8]) {
-    if out.len() < room {
+    let Some(lent) = out.get_mut(..room) else {
         return;
-    }
-    let put = text::write_decimal(n, &mut out[..room]);
+    };
+    let put = text::write_decimal(n, lent);
     match put {
-        Put::Wrote(k) => {
+        Some(k) => {
             vectors::write(b" wrote");
             vectors::write_number(k);
         }
-        Put::NoRoom => vectors::write(b" no room"),
+        None => vectors::write(b" no room"),
     }
     vectors::write_hex(out);
 }
@@ -96,8 +96,8 @@ fn run_write(n: u32, room: usize, out: &mut [u8]) {
 fn run_hex() {
     for b in 0..=255u8 {
         let value = text::hex_of(b);
-        if let Value::Number(v) = value {
-            vectors::write_number(b as usize);
+        if let Some(v) = value {
+            vectors::write_number(usize::from(b));
             vectors::write_number(v as usize);
         }
     }
@@ -105,12 +105,8 @@ fn run_hex() {
 
 // 9 LIMIT: sixty thousand nines
 fn run_nines(limit: u32) {
-    let nines = [57u8; 60000];
+    let nines = [b'9'; 60000];
     run_decimal(&nines, limit);
-}
-
-fn small(n: u64) -> u32 {
-    (n % 0x1_0000_0000) as u32
 }
 
 fn run_line(line: &[u8]) {
@@ -119,34 +115,28 @@ fn run_line(line: &[u8]) {
     let op = vectors::word(line, 0);
     let first = vectors::word(line, 1);
     let n = vectors::unhex(first, &mut bytes);
-    let size = vectors::number(first) as usize;
+    let bytes = &bytes[..n];
+    let size = vectors::number(first);
     let value = vectors::number(vectors::word(line, 2));
     vectors::write(line);
-    if op.len() == 0 {
+    let Some(letter) = op.first() else {
         return;
-    }
-    match op[0] {
-        b'c' => run_char(&bytes[..n], value as usize),
-        b'b' => run_bad(&bytes[..n]),
-        b'e' => run_encode(small(value), size, &mut out),
+    };
+    match letter {
+        b'c' => run_char(bytes, value as usize),
+        b'b' => run_bad(bytes),
+        b'e' => run_encode(vectors::small(value), size as usize, &mut out),
         b'k' => run_classes(),
-        b'w' => run_word(&bytes[..n]),
-        b'd' => run_decimal(&bytes[..n], small(value)),
-        b'n' => run_write(small(value), size, &mut out),
+        b'w' => run_word(bytes),
+        b'd' => run_decimal(bytes, vectors::small(value)),
+        b'n' => run_write(vectors::small(value), size as usize, &mut out),
         b'h' => run_hex(),
-        b'9' => run_nines(small(size as u64)),
+        b'9' => run_nines(vectors::small(size)),
         _ => {}
     }
     vectors::write(b"\n");
 }
 
 fn main() {
-    let mut input = io::large_buffer();
-    let n = io::read_full(0, &mut input);
-    let mut at = 0;
-    while at < n {
-        let end = vectors::line_end(&input[..n], at);
-        run_line(&input[at..end]);
-        at = end + 1;
-    }
+    vectors::run_lines(&mut io::large_buffer(), run_line);
 }

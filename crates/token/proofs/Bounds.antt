@@ -1,4 +1,5 @@
 -- What is found lies inside what is left of a text.
+use Rattle.std.specs.Prelude.{ℕ, Option, Some, None}
 use Prim.Native.Nat.{ℕ, zero, suc, ◌+◌, ◌≤◌, ◌<◌}
 use mathlib.Core.Path.{◌≡◌, refl, sym}
 use mathlib.Core.Bool.{true}
@@ -12,17 +13,9 @@ use Rattle.text.specs.Classes.{class_of, ones}
 use Rattle.text.specs.Words.{in_word, starts_word}
 use Rattle.text.specs.Scans.{later, sought_by, sought}
 use Rattle.text.specs.Utf8.{char_of}
-use Rattle.text.specs.declared.Scan.{Scan}
-use Rattle.text.specs.declared.Scan.TheVariants.{Through, StopsAt}
-use Rattle.text.specs.declared.Look.{Look}
-use Rattle.text.specs.declared.Look.TheVariants.{Past, Stop}
-use Rattle.text.specs.declared.Sequence.{Sequence}
-use Rattle.text.specs.declared.Sequence.TheVariants.{Is, Broken}
 use Rattle.text.proofs.Decodes.{decoded}
 use Rattle.text.proofs.Booleans.{choose_by}
 use Rattle.literal.specs.Escapes.{escape_of}
-use Rattle.literal.specs.declared.Escape.{Escape}
-use Rattle.literal.specs.declared.Escape.TheVariants.{Means, Plain}
 use Rattle.literal.proofs.Escaped.{meant}
 use Rattle.token.specs.Blanks.{first, in_digits, in_line, words, digit_run, zeros, line, blank_of}
 use Rattle.token.specs.Tokens.{moved, allowed, word_token, tag_token, number_token, minus_token, dots_token, inside_look, string_by, string_of, insens_token, quoted, escaped_by, raw_by, char_token, doc_token, opener_token, place_in, one_kind, token_by, first_token, past_blanks, token_of, token_at}
@@ -32,31 +25,31 @@ use Rattle.token.proofs.Runs.{run_in, run_some}
 
 -- ---- where a walk stops there is a byte
 
-abbrev Before : ℕ → Scan → Type 0
-Before m Through = Unit {0}
-Before m (StopsAt n) = n < m
+abbrev Before : ℕ → Option ℕ → Type 0
+Before m None = Unit {0}
+Before m (Some n) = n < m
 
-one_later : (m : ℕ) (r : Scan) → Before m r → Before (suc m) (later 1 r)
-one_later m Through h = tt
-one_later m (StopsAt n) h = omega arith
+one_later : (m : ℕ) (r : Option ℕ) → Before m r → Before (suc m) (later 1 r)
+one_later m None h = tt
+one_later m (Some n) h = omega arith
 
-by_look : (r : Look) (m : ℕ) (f : ℕ → Scan) → ((k : ℕ) → Before m (f k)) → Before (suc m) (sought_by r f)
-by_look Stop m f h = omega arith
-by_look (Past n) m f h = one_later m (f n) (h n)
+by_look : (r : Option ℕ) (m : ℕ) (f : ℕ → Option ℕ) → ((k : ℕ) → Before m (f k)) → Before (suc m) (sought_by r f)
+by_look None m f h = omega arith
+by_look (Some n) m f h = one_later m (f n) (h n)
 
-stops_in : (p : List ℕ → Look) (k : ℕ) (xs : List ℕ) → Before (length xs) (sought p k xs)
+stops_in : (p : List ℕ → Option ℕ) (k : ℕ) (xs : List ℕ) → Before (length xs) (sought p k xs)
 unfolding sought
 stops_in p k [] = tt
 stops_in p (suc k) (x ∷ xs) = one_later (length xs) (sought p k xs) (stops_in p k xs)
 stops_in p zero (x ∷ xs) = by_look (p (x ∷ xs)) (length xs) (λ n. sought p n xs) (λ n. stops_in p n xs)
 
-stop_by : (m : ℕ) (r : Scan) (at i : ℕ) → Before m r → later at r ≡ StopsAt i → (n : ℕ) × (r ≡ StopsAt n) × (i ≡ at + n) × (n < m)
-stop_by m Through at i h e = let z : ◌≡◌ {A = ℕ} 0 1 = cc in absurd (omega arith)
-stop_by m (StopsAt n) at i h e = (n, refl, cc, h)
+stop_by : (m : ℕ) (r : Option ℕ) (at i : ℕ) → Before m r → later at r ≡ Some i → (n : ℕ) × (r ≡ Some n) × (i ≡ at + n) × (n < m)
+stop_by m None at i h e = let z : ◌≡◌ {A = ℕ} 0 1 = cc in absurd (omega arith)
+stop_by m (Some n) at i h e = (n, refl, cc, h)
 
 -- a walk that began at a place and stopped at another
-pub stop_at : (p : List ℕ → Look) (s : List ℕ) (at i : ℕ) → later at (sought p 0 (drop at s)) ≡ StopsAt i
-    → (n : ℕ) × (sought p 0 (drop at s) ≡ StopsAt n) × (i ≡ at + n) × (n < length (drop at s))
+pub stop_at : (p : List ℕ → Option ℕ) (s : List ℕ) (at i : ℕ) → later at (sought p 0 (drop at s)) ≡ Some i
+    → (n : ℕ) × (sought p 0 (drop at s) ≡ Some n) × (i ≡ at + n) × (n < length (drop at s))
 stop_at p s at i e = stop_by (length (drop at s)) (sought p 0 (drop at s)) at i (stops_in p 0 (drop at s)) e
 
 -- ---- tokens
@@ -102,9 +95,9 @@ some_first b (x ∷ xs) e = omega arith
 pub some_next : (b n : ℕ) (xs : List ℕ) → next_is b (drop n xs) ≡ true → n < length xs
 some_next b n xs e = omega (arith, some_first b (drop n xs) e, length-drop n xs)
 
-string_by_lem : (kind k : ℕ) (xs : List ℕ) (r : Scan) → 1 ≤ kind → kind ≤ 27 → 0 < k → least kind ≤ k + 1 → Before (length xs) r → In (k + length xs) (string_by kind k xs r)
-string_by_lem kind k xs Through l h p f b = omega arith
-string_by_lem kind k xs (StopsAt n) l h p f b =
+string_by_lem : (kind k : ℕ) (xs : List ℕ) (r : Option ℕ) → 1 ≤ kind → kind ≤ 27 → 0 < k → least kind ≤ k + 1 → Before (length xs) r → In (k + length xs) (string_by kind k xs r)
+string_by_lem kind k xs None l h p f b = omega arith
+string_by_lem kind k xs (Some n) l h p f b =
     choose_by (In (k + length xs)) (next_is 34 (drop n xs)) _ _ (λ e. (l, h, omega arith, omega arith)) (λ e. omega arith)
 
 string_in : (kind k : ℕ) (xs : List ℕ) → 1 ≤ kind → kind ≤ 27 → 0 < k → least kind ≤ k + 1 → In (k + length xs) (string_of kind k xs)
@@ -120,13 +113,13 @@ module _ (xs : List ℕ) where
   unfolding quoted least
   quoted_in n l = choose_by One (next_is 39 (drop n xs)) _ _ (λ e. (omega arith, omega arith, omega arith, omega (arith, some_next 39 n xs e))) (λ e. omega arith)
 
-  escaped_in : (r : Escape) → next_is 92 xs ≡ true → escape_of xs ≡ r → One (escaped_by xs r)
-  escaped_in (Means c n) b e = quoted_in n (omega (arith, (meant xs c n e).two))
-  escaped_in Plain b e = omega (arith, some_first 92 xs b)
+  escaped_in : (r : Option (ℕ × ℕ)) → next_is 92 xs ≡ true → escape_of xs ≡ r → One (escaped_by xs r)
+  escaped_in (Some (c, n)) b e = quoted_in n (omega (arith, (meant xs c n e).two))
+  escaped_in None b e = omega (arith, some_first 92 xs b)
 
-  raw_in : (r : Sequence) → char_of xs ≡ r → One (raw_by xs r)
-  raw_in (Is c n) e = quoted_in n (decoded xs c n e).some
-  raw_in Broken e = omega arith
+  raw_in : (r : Option (ℕ × ℕ)) → char_of xs ≡ r → One (raw_by xs r)
+  raw_in (Some (c, n)) e = quoted_in n (decoded xs c n e).some
+  raw_in None e = omega arith
 
   char_in : One (char_token xs)
   unfolding char_token
@@ -214,9 +207,9 @@ first_in (x ∷ xs) =
     (λ e. choose_by (In (length (x ∷ xs))) (eqb (class_of x) 4) _ _ (λ e. (k.0, omega arith, omega (arith, least_low (one_kind x) k.1), omega arith))
     (λ e. choose_by (In (length (x ∷ xs))) (eqb (class_of x) 5) _ _ (λ e. wider (1 + length xs) (length (x ∷ xs)) (opener_token x xs) w (opener_in xs x)) (λ e. omega arith))))
 
-past_in : (xs : List ℕ) (r : Scan) → Before (length xs) r → In (length xs) (past_blanks xs r)
-past_in xs Through h = tt
-past_in xs (StopsAt n) h =
+past_in : (xs : List ℕ) (r : Option ℕ) → Before (length xs) r → In (length xs) (past_blanks xs r)
+past_in xs None h = tt
+past_in xs (Some n) h =
     wider (n + length (drop n xs)) (length xs) (moved n (first_token (drop n xs))) (omega (arith, length-drop n xs)) (in_moved n (length (drop n xs)) (first_token (drop n xs)) (first_in (drop n xs)))
 
 token_of_in : (xs : List ℕ) → In (length xs) (token_of xs)

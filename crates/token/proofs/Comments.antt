@@ -1,4 +1,5 @@
 -- Laws of nested comments.
+use Rattle.std.specs.Prelude.{ℕ, Option, Some, None}
 use Prim.Native.Nat.{ℕ, ◌+◌, ◌-◌, ◌≤◌, ◌<◌}
 use mathlib.Core.Path.{◌≡◌, refl, ap, ◌∙◌}
 use mathlib.Core.List.{List, ◌∷◌}
@@ -9,18 +10,16 @@ use borrow.Author.Tests.{le-leb, lt-leb}
 use Rattle.text.proofs.Tests.{at_byte, at_end}
 use Rattle.token.specs.Blanks.{mark_of, further, close_of, comment_blank, past_from}
 use Rattle.token.specs.declared.Mark.TheVariants.{Closes, Opens, Neither}
-use Rattle.token.specs.declared.Close.{Close}
-use Rattle.token.specs.declared.Close.TheVariants.{At, Never}
 
-further_further : (a b : ℕ) (r : Close) → further a (further b r) ≡ further (a + b) r
-further_further a b (At n) = simp add_assoc
-further_further a b Never = refl
+further_further : (a b : ℕ) (r : Option ℕ) → further a (further b r) ≡ further (a + b) r
+further_further a b (Some n) = simp add_assoc
+further_further a b None = refl
 
-pub close_over : (d : ℕ) (s : List ℕ) (i : ℕ) → length s ≤ i → further i (close_of d (drop i s)) ≡ Never
+pub close_over : (d : ℕ) (s : List ℕ) (i : ℕ) → length s ≤ i → further i (close_of d (drop i s)) ≡ None
 unfolding close_of
 close_over d s i h = rw (at_end s i h)
 
-pub close_last : (d : ℕ) (s : List ℕ) (i : ℕ) → i < length s → length s ≤ i + 1 → further i (close_of d (drop i s)) ≡ Never
+pub close_last : (d : ℕ) (s : List ℕ) (i : ℕ) → i < length s → length s ≤ i + 1 → further i (close_of d (drop i s)) ≡ None
 unfolding close_of
 close_last d s i h k = rw (at_byte s i h, at_end s (i + 1) k)
 
@@ -37,7 +36,7 @@ module _ (d x y : ℕ) (xs : List ℕ) where
   unfolding close_of
   clause_closes k m = rw (m, lt-leb d 1 k)
 
-  clause_done : d ≤ 1 → mark_of x y ≡ Closes → close_of d (x ∷ y ∷ xs) ≡ At 2
+  clause_done : d ≤ 1 → mark_of x y ≡ Closes → close_of d (x ∷ y ∷ xs) ≡ Some 2
   unfolding close_of
   clause_done k m = rw (m, le-leb d 1 k)
 
@@ -60,16 +59,16 @@ module _ (d : ℕ) (s : List ℕ) (i : ℕ) (h : i + 1 < length s) where
       → further i (close_of d (drop i s)) ≡ further (i + 2) (close_of (d - 1) (drop (i + 2) s))
   close_closes k m = rw (at_two, clause_closes d _ _ _ k m) (further_further i 2 (close_of (d - 1) (drop (i + 2) s)))
 
-  pub close_done : d ≤ 1 → mark_of (get_or s i 0) (get_or s (i + 1) 0) ≡ Closes → further i (close_of d (drop i s)) ≡ At (i + 2)
+  pub close_done : d ≤ 1 → mark_of (get_or s i 0) (get_or s (i + 1) 0) ≡ Closes → further i (close_of d (drop i s)) ≡ Some (i + 2)
   close_done k m = rw (at_two, clause_done d _ _ _ k m)
 
 -- the place past a comment that begins at a place: its inside stands two bytes further on
-pub comment_closed : (at end : ℕ) (r : Close) → further (at + 2) r ≡ At end → end ≡ past_from at (comment_blank r)
-comment_closed at end (At n) e =
+pub comment_closed : (at end : ℕ) (r : Option ℕ) → further (at + 2) r ≡ Some end → end ≡ past_from at (comment_blank r)
+comment_closed at end (Some n) e =
     let q : at + 2 + n ≡ end = cc in
     omega arith
-comment_closed at end Never e = let z : ◌≡◌ {A = ℕ} 0 1 = cc in absurd (omega arith)
+comment_closed at end None e = let z : ◌≡◌ {A = ℕ} 0 1 = cc in absurd (omega arith)
 
-pub comment_open : (at : ℕ) (r : Close) → further (at + 2) r ≡ Never → at ≡ past_from at (comment_blank r)
-comment_open at (At n) e = let z : ◌≡◌ {A = ℕ} 0 1 = cc in absurd (omega arith)
-comment_open at Never e = refl
+pub comment_open : (at : ℕ) (r : Option ℕ) → further (at + 2) r ≡ None → at ≡ past_from at (comment_blank r)
+comment_open at (Some n) e = let z : ◌≡◌ {A = ℕ} 0 1 = cc in absurd (omega arith)
+comment_open at None e = refl

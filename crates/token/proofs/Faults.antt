@@ -1,4 +1,5 @@
 -- Where a 3 stands. The walk over a string's inside stops at a backslash exactly if that backslash is met; every other way to no token is told where it begins.
+use Rattle.std.specs.Prelude.{ℕ, Option, Some, None}
 use Prim.Native.Nat.{ℕ, zero, suc, ◌+◌, ◌≤◌, ◌<◌}
 use mathlib.Core.Path.{◌≡◌, refl, sym, ap, ◌∙◌}
 use mathlib.Core.Bool.{Bool, true, false}
@@ -14,17 +15,11 @@ use Rattle.text.specs.Classes.{class_of}
 use Rattle.text.specs.Words.{starts_word}
 use Rattle.text.specs.Scans.{later, sought}
 use Rattle.text.specs.Utf8.{char_of, first_bad}
-use Rattle.text.specs.declared.Scan.{Scan}
-use Rattle.text.specs.declared.Scan.TheVariants.{Through, StopsAt}
-use Rattle.text.specs.declared.Sequence.{Sequence}
-use Rattle.text.specs.declared.Sequence.TheVariants.{Is, Broken}
 use Rattle.text.proofs.Tests.{lt_or_ge, at_byte}
 use Rattle.text.proofs.Walks.{sought_end}
 use Rattle.text.proofs.Booleans.{choose_by}
 use Rattle.text.specs.Limits.{max_text}
 use Rattle.literal.specs.Escapes.{escape_of}
-use Rattle.literal.specs.declared.Escape.{Escape}
-use Rattle.literal.specs.declared.Escape.TheVariants.{Means, Plain}
 use Rattle.literal.proofs.Escaped.{meant, means_opens}
 use Rattle.token.specs.Blanks.{first, words, digit_run, zeros, blank_of}
 use Rattle.token.specs.Tokens.{moved, allowed, word_token, tag_token, number_token, minus_token, dots_token, inside_look, string_by, string_of, insens_token, quoted, escaped_by, raw_by, char_token, doc_token, opener_token, token_by, first_token, token_at}
@@ -54,7 +49,7 @@ not_at s i b h e q =
 -- ---- the inside of a string
 
 -- where the walk over it stops, from a place on
-abbrev stop_from : List ℕ → ℕ → Scan
+abbrev stop_from : List ℕ → ℕ → Option ℕ
 stop_from s i = later i (sought inside_look 0 (drop i s))
 
 meets_in : (s : List ℕ) (i p : ℕ) → Meets s i p → (i ≤ p) × (p < length s)
@@ -63,7 +58,7 @@ meets_in s i p (past_byte q b m) = let r = meets_in s (i + 1) p m in (omega (ari
 meets_in s i p (past_escape {n = n} e m) = let r = meets_in s (i + n) p m in (omega (arith, r.0), r.1)
 
 -- a backslash that is met stops the walk
-meets_stop : (s : List ℕ) (i p : ℕ) → Meets s i p → stop_from s i ≡ StopsAt p
+meets_stop : (s : List ℕ) (i p : ℕ) → Meets s i p → stop_from s i ≡ Some p
 meets_stop s i p (here w) =
     let b : get_or s p 0 ≡ 92 = is_at s p 92 w.backslash in
     inside_bad s p (some_next 92 p s w.backslash) b (λ q. omega arith) w.plain
@@ -77,42 +72,42 @@ meets_stop s i p (past_escape {c = c} {n = n} e m) =
     inside_escape s i h c n (not_at s i 34 h (means_opens 34 (drop i s) c n (λ z. omega arith) e)) e ∙ meets_stop s (i + n) p m
 
 -- and what stops the walk is a `"` or is met. next: the same from every later place on
-module _ (s : List ℕ) (i p : ℕ) (h : i < length s) (next : (j : ℕ) → i < j → stop_from s j ≡ StopsAt p → Meets s j p)
-    (e : stop_from s i ≡ StopsAt p) (f : next_is 34 (drop p s) ≡ false) where
-  by_slash : (b : Bool) → next_is 34 (drop i s) ≡ false → escape_of (drop i s) ≡ Plain → next_is 92 (drop i s) ≡ b → Meets s i p
+module _ (s : List ℕ) (i p : ℕ) (h : i < length s) (next : (j : ℕ) → i < j → stop_from s j ≡ Some p → Meets s j p)
+    (e : stop_from s i ≡ Some p) (f : next_is 34 (drop p s) ≡ false) where
+  by_slash : (b : Bool) → next_is 34 (drop i s) ≡ false → escape_of (drop i s) ≡ None → next_is 92 (drop i s) ≡ b → Meets s i p
   by_slash true q w b =
       let x : get_or s i 0 ≡ 92 = is_at s i 92 b in
-      let y : stop_from s i ≡ StopsAt i = inside_bad s i h x (not_at s i 34 h q) w in
+      let y : stop_from s i ≡ Some i = inside_bad s i h x (not_at s i 34 h q) w in
       let z : p ≡ i = cc in
       rw z (here (record { backslash = b; plain = w }))
   by_slash false q w b = past_byte q b (next (i + 1) (omega arith) (sym (inside_byte s i h (not_at s i 34 h q) (not_at s i 92 h b)) ∙ e))
 
-  by_escape : (r : Escape) → next_is 34 (drop i s) ≡ false → escape_of (drop i s) ≡ r → Meets s i p
-  by_escape (Means c n) q w = past_escape w (next (i + n) (omega (arith, (meant (drop i s) c n w).two)) (sym (inside_escape s i h c n (not_at s i 34 h q) w) ∙ e))
-  by_escape Plain q w = by_slash (next_is 92 (drop i s)) q w refl
+  by_escape : (r : Option (ℕ × ℕ)) → next_is 34 (drop i s) ≡ false → escape_of (drop i s) ≡ r → Meets s i p
+  by_escape (Some (c, n)) q w = past_escape w (next (i + n) (omega (arith, (meant (drop i s) c n w).two)) (sym (inside_escape s i h c n (not_at s i 34 h q) w) ∙ e))
+  by_escape None q w = by_slash (next_is 92 (drop i s)) q w refl
 
   by_quote : (b : Bool) → next_is 34 (drop i s) ≡ b → Meets s i p
   by_quote true q =
-      let y : stop_from s i ≡ StopsAt i = inside_quote s i h (is_at s i 34 q) in
+      let y : stop_from s i ≡ Some i = inside_quote s i h (is_at s i 34 q) in
       let x : p ≡ i = cc in
       let w : next_is 34 (drop p s) ≡ true = rw x q in
       let z : ◌≡◌ {A = ℕ} 0 1 = cc in
       absurd (omega arith)
   by_quote false q = by_escape (escape_of (drop i s)) q refl
 
-not_ended : (s : List ℕ) (i p : ℕ) → length s ≤ i → stop_from s i ≡ StopsAt p → ⊥
+not_ended : (s : List ℕ) (i p : ℕ) → length s ≤ i → stop_from s i ≡ Some p → ⊥
 not_ended s i p h e =
-    let y : stop_from s i ≡ Through = sought_end inside_look s i h in
+    let y : stop_from s i ≡ None = sought_end inside_look s i h in
     let z : ◌≡◌ {A = ℕ} 0 1 = cc in
     absurd (omega arith)
 
-by_place : (s : List ℕ) (i p : ℕ) → (i < length s) ⊎ (length s ≤ i) → ((j : ℕ) → i < j → stop_from s j ≡ StopsAt p → Meets s j p)
-    → stop_from s i ≡ StopsAt p → next_is 34 (drop p s) ≡ false → Meets s i p
+by_place : (s : List ℕ) (i p : ℕ) → (i < length s) ⊎ (length s ≤ i) → ((j : ℕ) → i < j → stop_from s j ≡ Some p → Meets s j p)
+    → stop_from s i ≡ Some p → next_is 34 (drop p s) ≡ false → Meets s i p
 by_place s i p (inl h) next e f = by_quote s i p h next e f (next_is 34 (drop i s)) refl
 by_place s i p (inr h) next e f = absurd (not_ended s i p h e)
 
 -- k bounds the bytes left
-walk : (s : List ℕ) (k i p : ℕ) → length s ≤ i + k → stop_from s i ≡ StopsAt p → next_is 34 (drop p s) ≡ false → Meets s i p
+walk : (s : List ℕ) (k i p : ℕ) → length s ≤ i + k → stop_from s i ≡ Some p → next_is 34 (drop p s) ≡ false → Meets s i p
 walk s zero i p l e f = absurd (not_ended s i p (omega arith) e)
 walk s (suc k) i p l e f = by_place s i p (lt_or_ge i (length s)) (λ j m w. walk s k j p (omega arith) w f) e f
 
@@ -124,9 +119,9 @@ module _ (s : List ℕ) (f : ℕ) where
   Out Token.End = Unit {0}
   Out (Token.NoToken n) = (n ≡ 0) ⊎ BadEscape s f (f + n)
 
-  string_by_lem : (kind k : ℕ) → ((p : ℕ) → Meets s (f + k) p → BadEscape s f p) → (r : Scan) → sought inside_look 0 (drop (f + k) s) ≡ r → Out (string_by kind k (drop (f + k) s) r)
-  string_by_lem kind k make Through e = inl refl
-  string_by_lem kind k make (StopsAt n) e =
+  string_by_lem : (kind k : ℕ) → ((p : ℕ) → Meets s (f + k) p → BadEscape s f p) → (r : Option ℕ) → sought inside_look 0 (drop (f + k) s) ≡ r → Out (string_by kind k (drop (f + k) s) r)
+  string_by_lem kind k make None e = inl refl
+  string_by_lem kind k make (Some n) e =
       let d : drop n (drop (f + k) s) ≡ drop ((f + k) + n) s = drop-drop n (f + k) s in
       let z : (f + k) + n ≡ f + (k + n) = omega arith in
       choose_by Out (next_is 34 (drop n (drop (f + k) s))) _ _ (λ q. tt)
@@ -144,13 +139,13 @@ module _ (s : List ℕ) (f : ℕ) where
   unfolding quoted
   quoted_out n xs = choose_by Out (next_is 39 (drop n xs)) _ _ (λ q. tt) (λ q. inl refl)
 
-  escaped_out : next_is 39 (drop f s) ≡ true → next_is 92 (drop (f + 1) s) ≡ true → (r : Escape) → escape_of (drop (f + 1) s) ≡ r → Out (escaped_by (drop (f + 1) s) r)
-  escaped_out o b Plain e = inr (in_character o (record { backslash = b; plain = e }))
-  escaped_out o b (Means c n) e = quoted_out n (drop (f + 1) s)
+  escaped_out : next_is 39 (drop f s) ≡ true → next_is 92 (drop (f + 1) s) ≡ true → (r : Option (ℕ × ℕ)) → escape_of (drop (f + 1) s) ≡ r → Out (escaped_by (drop (f + 1) s) r)
+  escaped_out o b None e = inr (in_character o (record { backslash = b; plain = e }))
+  escaped_out o b (Some (c, n)) e = quoted_out n (drop (f + 1) s)
 
-  raw_out : (xs : List ℕ) (r : Sequence) → Out (raw_by xs r)
-  raw_out xs Broken = inl refl
-  raw_out xs (Is c n) = quoted_out n xs
+  raw_out : (xs : List ℕ) (r : Option (ℕ × ℕ)) → Out (raw_by xs r)
+  raw_out xs None = inl refl
+  raw_out xs (Some (c, n)) = quoted_out n xs
 
   char_out : next_is 39 (drop f s) ≡ true → Out (char_token (drop (f + 1) s))
   unfolding char_token
@@ -248,12 +243,12 @@ module _ (s : List ℕ) (f : ℕ) where
 
 module _ (s : List ℕ) (at : ℕ) where
   -- what begins at f past the blanks, and has a bad escape, is refused there
-  pub escape_told : (f p : ℕ) → later at (sought blank_of 0 (drop at s)) ≡ StopsAt f → BadEscape s f p → token_at s at ≡ Token.NoToken p
+  pub escape_told : (f p : ℕ) → later at (sought blank_of 0 (drop at s)) ≡ Some f → BadEscape s f p → token_at s at ≡ Token.NoToken p
   escape_told f p e w = landed_is s at ∙ ap (landed s) e ∙ told_first s f p w
 
-  place_by : (p : ℕ) (r : Scan) → later at (sought blank_of 0 (drop at s)) ≡ r → landed s r ≡ Token.NoToken p → FaultFrom s at p
-  place_by p Through e t = let z : ◌≡◌ {A = ℕ} 0 1 = cc in absurd (omega arith)
-  place_by p (StopsAt f) e t = (f, e, either (out_place s f (first_token (drop f s)) p (first_out s f h) t))
+  place_by : (p : ℕ) (r : Option ℕ) → later at (sought blank_of 0 (drop at s)) ≡ r → landed s r ≡ Token.NoToken p → FaultFrom s at p
+  place_by p None e t = let z : ◌≡◌ {A = ℕ} 0 1 = cc in absurd (omega arith)
+  place_by p (Some f) e t = (f, e, either (out_place s f (first_token (drop f s)) p (first_out s f h) t))
     where
       h : f < length s
       h = let (n, q, z, l) = stop_at blank_of s at f e in omega (arith, length-drop at s)
@@ -271,9 +266,9 @@ module _ (s : List ℕ) (at : ℕ) where
   none_listed n p Token.End e = let z : ◌≡◌ {A = ℕ} 0 1 = cc in absurd (omega arith)
   none_listed n p (Token.NoToken q) e = let z : q ≡ p = cc in rw z
 
-  none_checked : (p : ℕ) (r : Scan) → checked_by r (λ u. listed_by (length s) (token_at s at)) ≡ NoToken p → token_at s at ≡ Token.NoToken p
-  none_checked p Through e = none_listed (length s) p (token_at s at) e
-  none_checked p (StopsAt q) e = let z : ◌≡◌ {A = ℕ} 0 1 = cc in absurd (omega arith)
+  none_checked : (p : ℕ) (r : Option ℕ) → checked_by r (λ u. listed_by (length s) (token_at s at)) ≡ NoToken p → token_at s at ≡ Token.NoToken p
+  none_checked p None e = none_listed (length s) p (token_at s at) e
+  none_checked p (Some q) e = let z : ◌≡◌ {A = ℕ} 0 1 = cc in absurd (omega arith)
 
   -- the same of the lister's 3
   pub lister_place : (p : ℕ) → next_of s at ≡ NoToken p → FaultFrom s at p
@@ -285,5 +280,5 @@ module _ (s : List ℕ) (at : ℕ) where
       absurd (omega arith)) (λ l e. fault_place p (none_checked p (first_bad s) e))
 
 -- and of the first 3 of a text
-pub text_place : (s : List ℕ) (p : ℕ) → (tokens_of s).fault ≡ StopsAt p → FaultFrom s (past_last s) p
+pub text_place : (s : List ℕ) (p : ℕ) → (tokens_of s).fault ≡ Some p → FaultFrom s (past_last s) p
 text_place s p e = fault_place s (past_last s) p (ended s ∙ ap ended_by e)

@@ -1,4 +1,5 @@
 -- Laws of the lister.
+use Rattle.std.specs.Prelude.{ℕ, Option, Some, None}
 use Prim.Native.Nat.{ℕ, ◌≤◌, ◌<◌}
 use mathlib.Core.Path.{◌≡◌, ap}
 use mathlib.Core.List.{List}
@@ -7,8 +8,6 @@ use lib.Dec.{ltb}
 use lib.ListN.{length}
 use borrow.Author.Tests.{lt-ltb, le-ltb}
 use Rattle.text.specs.Utf8.{first_bad}
-use Rattle.text.specs.declared.Scan.{Scan}
-use Rattle.text.specs.declared.Scan.TheVariants.{Through, StopsAt}
 use Rattle.text.proofs.Booleans.{choose_by}
 use Rattle.text.specs.Limits.{max_text}
 use Rattle.token.specs.Tokens.{token_at}
@@ -24,11 +23,11 @@ module _ (s : List ℕ) (at : ℕ) where
   next_long h = rw (lt-ltb max_text (length s) h)
 
   module _ (h : length s ≤ max_text) where
-    pub next_bad : (p : ℕ) → first_bad s ≡ StopsAt p → NotUtf8 p ≡ next_of s at
+    pub next_bad : (p : ℕ) → first_bad s ≡ Some p → NotUtf8 p ≡ next_of s at
     unfolding next_of
     next_bad p e = rw (le-ltb max_text (length s) h, e)
 
-    pub next_good : first_bad s ≡ Through → (r : Token) → r ≡ token_at s at → listed_by (length s) r ≡ next_of s at
+    pub next_good : first_bad s ≡ None → (r : Token) → r ≡ token_at s at → listed_by (length s) r ≡ next_of s at
     unfolding next_of
     next_good e r t = rw (le-ltb max_text (length s) h, e, t)
 
@@ -48,9 +47,9 @@ listed_next n (Token.NoToken p) k a b e = let z : ◌≡◌ {A = ℕ} 0 1 = cc i
 
 -- a token that the lister gives lies inside the text, at or after the place
 module _ (s : List ℕ) (at k a b : ℕ) where
-  by_check : (r : Scan) → checked_by r (λ u. listed_by (length s) (token_at s at)) ≡ Next k a b → Inside s at k a b
-  by_check Through e = token_in s at k a b (listed_next (length s) (token_at s at) k a b e)
-  by_check (StopsAt p) e = let z : ◌≡◌ {A = ℕ} 0 1 = cc in absurd (omega arith)
+  by_check : (r : Option ℕ) → checked_by r (λ u. listed_by (length s) (token_at s at)) ≡ Next k a b → Inside s at k a b
+  by_check None e = token_in s at k a b (listed_next (length s) (token_at s at) k a b e)
+  by_check (Some p) e = let z : ◌≡◌ {A = ℕ} 0 1 = cc in absurd (omega arith)
 
   pub next_in : next_of s at ≡ Next k a b → Inside s at k a b
   unfolding next_of

@@ -1,11 +1,10 @@
 -- Laws of the list of tokens.
+use Rattle.std.specs.Prelude.{ℕ, Option, Some, None}
 use Prim.Native.Nat.{ℕ, zero, suc, ◌+◌, ◌-◌, ◌≤◌, ◌<◌}
 use mathlib.Core.Path.{◌≡◌, refl, sym, ap, ◌∙◌}
 use mathlib.Core.List.{List, [], ◌∷◌}
 use native.Mathlib.Omega.{arith}
 use lib.ListN.{length, get_or}
-use Rattle.text.specs.declared.Scan.{Scan}
-use Rattle.text.specs.declared.Scan.TheVariants.{Through, StopsAt}
 use Rattle.token.specs.Tokens.{token_at}
 use Rattle.token.specs.Lists.{Tok, tok, kind_of, start_of, end_of, Tokens, onto, tokens_by, tokens_in, tokens_from, tokens_of, place_from}
 use Rattle.token.specs.declared.Token.{Token}
@@ -103,9 +102,9 @@ pub inside_at : (s : List ℕ) (i : ℕ) (d : Tok) → i < length (tokens_of s).
     → Inside s (place_from 0 (tokens_of s).list i) (kind_of (get_or (tokens_of s).list i d)) (start_of (get_or (tokens_of s).list i d)) (end_of (get_or (tokens_of s).list i d))
 inside_at s i d l = inside_as s (place_from 0 (tokens_of s).list i) (get_or (tokens_of s).list i d) (at_index s i d l)
 
-abbrev pub ended_by : Scan → Token
-ended_by Through = End
-ended_by (StopsAt p) = NoToken p
+abbrev pub ended_by : Option ℕ → Token
+ended_by None = End
+ended_by (Some p) = NoToken p
 
 abbrev Ended : List ℕ → ℕ → Tokens → Type 0
 Ended s at r = token_at s (place_from at r.list (length r.list)) ≡ ended_by r.fault

@@ -1,4 +1,5 @@
 -- The token at a place, by what stands there: a turn of the loop over blanks, and each way out of it.
+use Rattle.std.specs.Prelude.{ℕ, Option, Some, None}
 use Prim.Native.Nat.{ℕ, ◌+◌, ◌≤◌, ◌<◌}
 use mathlib.Core.Path.{◌≡◌, refl, sym, ap, ◌∙◌}
 use mathlib.Core.List.{List}
@@ -9,10 +10,6 @@ use lib.Seq.{drop-drop}
 use borrow.Author.Tests.{ne_eqb}
 use Rattle.text.specs.Classes.{class_of}
 use Rattle.text.specs.Scans.{later, sought}
-use Rattle.text.specs.declared.Scan.{Scan}
-use Rattle.text.specs.declared.Scan.TheVariants.{Through, StopsAt}
-use Rattle.text.specs.declared.Look.{Look}
-use Rattle.text.specs.declared.Look.TheVariants.{Past, Stop}
 use Rattle.text.proofs.Tests.{at_byte}
 use Rattle.text.proofs.Walks.{sought_past, sought_stop, sought_end}
 use Rattle.token.specs.Blanks.{digit_run, opener_blank, blank_by, blank_of, past_from}
@@ -42,13 +39,13 @@ pub none_by : (at n place : ℕ) → place ≡ at + n → NoToken place ≡ move
 none_by at n place e = rw e
 
 -- where the blanks end, with places counted from the text's start
-abbrev pub landed : List ℕ → Scan → Token
-landed s Through = End
-landed s (StopsAt i) = moved i (first_token (drop i s))
+abbrev pub landed : List ℕ → Option ℕ → Token
+landed s None = End
+landed s (Some i) = moved i (first_token (drop i s))
 
-landed_later : (s : List ℕ) (at : ℕ) (r : Scan) → moved at (past_blanks (drop at s) r) ≡ landed s (later at r)
-landed_later s at Through = refl
-landed_later s at (StopsAt n) =
+landed_later : (s : List ℕ) (at : ℕ) (r : Option ℕ) → moved at (past_blanks (drop at s) r) ≡ landed s (later at r)
+landed_later s at None = refl
+landed_later s at (Some n) =
     moved_moved at n (first_token (drop n (drop at s))) ∙ ap (λ (l : List ℕ). moved (at + n) (first_token l)) (drop-drop n at s)
 
 pub landed_is : (s : List ℕ) (at : ℕ) → token_at s at ≡ landed s (later at (sought blank_of 0 (drop at s)))
@@ -59,19 +56,19 @@ pub at_over : (s : List ℕ) (i : ℕ) → length s ≤ i → End ≡ token_at s
 at_over s i h = sym (landed_is s i ∙ ap (landed s) (sought_end blank_of s i h))
 
 -- a place that did not stay the same is past a blank
-moved_on : (i j : ℕ) (r : Look) → j ≡ past_from i r → (j ≡ i → ⊥) → (n : ℕ) × (r ≡ Past n) × (j ≡ i + (n + 1))
-moved_on i j (Past n) e d = (n, refl, e)
-moved_on i j Stop e d = absurd (d e)
+moved_on : (i j : ℕ) (r : Option ℕ) → j ≡ past_from i r → (j ≡ i → ⊥) → (n : ℕ) × (r ≡ Some n) × (j ≡ i + (n + 1))
+moved_on i j (Some n) e d = (n, refl, e)
+moved_on i j None e d = absurd (d e)
 
-stayed : (i j : ℕ) (r : Look) → j ≡ past_from i r → j ≡ i → r ≡ Stop
-stayed i j (Past n) e d = absurd (omega arith)
-stayed i j Stop e d = refl
+stayed : (i j : ℕ) (r : Option ℕ) → j ≡ past_from i r → j ≡ i → r ≡ None
+stayed i j (Some n) e d = absurd (omega arith)
+stayed i j None e d = refl
 
 module _ (s : List ℕ) (i : ℕ) (h : i < length s) where
-  past_blank : (n : ℕ) → blank_of (drop i s) ≡ Past n → token_at s i ≡ token_at s (i + (n + 1))
+  past_blank : (n : ℕ) → blank_of (drop i s) ≡ Some n → token_at s i ≡ token_at s (i + (n + 1))
   past_blank n e = landed_is s i ∙ ap (landed s) (sought_past blank_of s i n h e) ∙ sym (landed_is s (i + (n + 1)))
 
-  at_first : blank_of (drop i s) ≡ Stop → token_at s i ≡ moved i (first_token (drop i s))
+  at_first : blank_of (drop i s) ≡ None → token_at s i ≡ moved i (first_token (drop i s))
   at_first e = landed_is s i ∙ ap (landed s) (sought_stop blank_of s i h e)
 
   -- by the class of the byte
@@ -82,7 +79,7 @@ module _ (s : List ℕ) (i : ℕ) (h : i < length s) where
     first_is : first_token (drop i s) ≡ token_by c (get_or s i 0) (drop (i + 1) s)
     first_is = ap first_token (at_byte s i h) ∙ ap (λ (k : ℕ). token_by k (get_or s i 0) (drop (i + 1) s)) (sym e)
 
-    here : blank_by c (get_or s i 0) (drop (i + 1) s) ≡ Stop → token_at s i ≡ moved i (token_by c (get_or s i 0) (drop (i + 1) s))
+    here : blank_by c (get_or s i 0) (drop (i + 1) s) ≡ None → token_at s i ≡ moved i (token_by c (get_or s i 0) (drop (i + 1) s))
     here q = at_first (blank_is ∙ q) ∙ ap (moved i) first_is
 
     pub at_blank : c ≡ 1 → token_at s i ≡ token_at s (i + 1)

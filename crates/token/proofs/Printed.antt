@@ -1,4 +1,5 @@
 -- Which token a printed piece is, whatever stands behind it; and the list of tokens, piece by piece.
+use Rattle.std.specs.Prelude.{ℕ, Option, Some, None}
 use Prim.Native.Nat.{ℕ, zero, suc, ◌+◌, ◌/◌, ◌%◌, ◌≤◌, ◌<◌}
 use mathlib.Core.Path.{◌≡◌, refl, sym, ap, ◌∙◌}
 use mathlib.Core.Bool.{Bool, true, false}
@@ -16,9 +17,6 @@ use Rattle.text.specs.Words.{starts_word, in_word, begins, push}
 use Rattle.text.specs.Scans.{sought}
 use Rattle.text.specs.Utf8.{scalar, char_of, encoded, first_bad}
 use Rattle.text.specs.Digits.{decimal}
-use Rattle.text.specs.declared.Scan.TheVariants.{Through, StopsAt}
-use Rattle.text.specs.declared.Look.TheVariants.{Stop}
-use Rattle.text.specs.declared.Sequence.TheVariants.{Is}
 use Rattle.text.proofs.Encodes.{encoded_read}
 use Rattle.text.proofs.Tests.{lt_or_ge, within_yes, within_is}
 use Rattle.text.proofs.Decimals.{decimal_one, decimal_more, decimal_nonempty}
@@ -27,8 +25,6 @@ use Rattle.text.proofs.Tables.{class_rule}
 use Rattle.text.proofs.Booleans.{and_true}
 use Rattle.literal.specs.Escapes.{escape_of, after_of, simple_of}
 use Rattle.literal.specs.Literals.{inside, literal}
-use Rattle.literal.specs.declared.Escape.{Escape}
-use Rattle.literal.specs.declared.Escape.TheVariants.{Means, Plain}
 use Rattle.literal.proofs.Escaped.{Each}
 use Rattle.literal.proofs.Pieces.{encoded_some, encoded_free}
 use Rattle.literal.proofs.Stands.{Stands, escape, itself}
@@ -61,7 +57,7 @@ module _ (x : ℕ) (xs : List ℕ) where
   number_first : class_of x ≡ 3 → token_of (x ∷ xs) ≡ Found 20 0 (digit_run (x ∷ xs))
   number_first e = sym (at_front (x ∷ xs)) ∙ sym (at_number (x ∷ xs) 0 (omega arith) 3 (sym e) refl (digit_run (x ∷ xs)) (sym (zero-add (digit_run (x ∷ xs)))))
 
-  opener_first : class_of x ≡ 5 → opener_blank x xs ≡ Stop → token_of (x ∷ xs) ≡ opener_token x xs
+  opener_first : class_of x ≡ 5 → opener_blank x xs ≡ None → token_of (x ∷ xs) ≡ opener_token x xs
   opener_first e b =
       sym (at_front (x ∷ xs)) ∙ sym (at_opener (x ∷ xs) 0 (omega arith) 5 (sym e) refl 0 (rw b) refl (opener_token x xs) (sym (moved_zero (opener_token x xs))))
 
@@ -221,12 +217,12 @@ dots_piece ys = opener_first 46 (46 ∷ ys) refl refl
 
 -- ---- literals
 
-escaped_by_lem : (b : Bool) (r : Escape) (c n : ℕ) → choose b (λ u. r) (λ u. Plain) ≡ Means c n → b ≡ true
+escaped_by_lem : (b : Bool) (r : Option (ℕ × ℕ)) (c n : ℕ) → choose b (λ u. r) (λ u. None) ≡ Some (c, n) → b ≡ true
 escaped_by_lem true r c n e = refl
 escaped_by_lem false r c n e = let z : ◌≡◌ {A = ℕ} 0 1 = cc in absurd (omega arith)
 
 -- an escape begins with a backslash
-escape_first : (xs : List ℕ) (c n : ℕ) → escape_of xs ≡ Means c n → next_is 92 xs ≡ true
+escape_first : (xs : List ℕ) (c n : ℕ) → escape_of xs ≡ Some (c, n) → next_is 92 xs ≡ true
 unfolding escape_of
 escape_first [] c n e = let z : ◌≡◌ {A = ℕ} 0 1 = cc in absurd (omega arith)
 escape_first (x ∷ xs) c n e = escaped_by_lem (eqb x 92) (after_of xs) c n e
@@ -243,10 +239,10 @@ past_bytes : PastBytes 34 inside_look
 unfolding inside_look
 past_bytes x ys m q = rw (ne_eqb x 34 q, plain_byte x ys m, ne_eqb x 92 m)
 
-module _ (s ys : List ℕ) (h : first_bad s ≡ Through) where
-  walk : sought inside_look 0 (inside 34 s ++ (34 ∷ ys)) ≡ StopsAt (length (inside 34 s))
+module _ (s ys : List ℕ) (h : first_bad s ≡ None) where
+  walk : sought inside_look 0 (inside 34 s ++ (34 ∷ ys)) ≡ Some (length (inside 34 s))
   unfolding simple_of sought inside_look
-  walk = bytes_over_inside 34 refl s h inside_look past_escapes past_bytes (34 ∷ ys) ∙ ap StopsAt (add-zero (length (inside 34 s)))
+  walk = bytes_over_inside 34 refl s h inside_look past_escapes past_bytes (34 ∷ ys) ∙ ap Some (add-zero (length (inside 34 s)))
 
   closed : (kind k : ℕ) → string_of kind k (inside 34 s ++ (34 ∷ ys)) ≡ Found kind 0 (k + (length (inside 34 s) + 1))
   unfolding string_of
@@ -289,11 +285,11 @@ module _ (x ys : List ℕ) (c : ℕ) where
   char_by_lem : scalar c ≡ true → Stands 39 x c → char_token (x ++ (39 ∷ ys)) ≡ Found 25 0 (length x + 2)
   unfolding char_token
   char_by_lem s (escape e) =
-      let m : escape_of (x ++ (39 ∷ ys)) ≡ Means c (length x) = e.means (39 ∷ ys) in
+      let m : escape_of (x ++ (39 ∷ ys)) ≡ Some (c, length x) = e.means (39 ∷ ys) in
       rw (escape_first (x ++ (39 ∷ ys)) c (length x) m, m) ends_quoted
   char_by_lem s (itself e m n) =
       let f : next_is 92 (x ++ (39 ∷ ys)) ≡ false = rw e (free_first 92 (encoded c) (39 ∷ ys) (encoded_some c s) (encoded_free 92 c (omega arith) m)) in
-      let r : char_of (x ++ (39 ∷ ys)) ≡ Is c (length x) = rw e (encoded_read c (39 ∷ ys) s) in
+      let r : char_of (x ++ (39 ∷ ys)) ≡ Some (c, length x) = rw e (encoded_read c (39 ∷ ys) s) in
       rw (f, r) ends_quoted
 
   pub char_piece_lem : scalar c ≡ true → Stands 39 x c → token_of (39 ∷ (x ++ (39 ∷ ys))) ≡ Found 25 0 (length x + 2)
@@ -307,7 +303,7 @@ module _ (s : List ℕ) (n : ℕ) where
   list_by r e = tokens_law s n ∙ ap (λ (t : Token). tokens_by t (tokens_from s)) e
 
   -- the text's end
-  pub end_next : length s ≤ n → tokens_from s n ≡ record { list = []; fault = Through }
+  pub end_next : length s ≤ n → tokens_from s n ≡ record { list = []; fault = None }
   end_next h = list_by End (sym (at_over s n h))
 
   -- a blank of one byte

@@ -1,5 +1,5 @@
 -- Laws of runs of bytes: what a loop's turn does to what is left of a text.
-use Prim.Native.Nat.{ℕ, zero, suc, ◌+◌, ◌≤◌, ◌<◌}
+use Prim.Native.Nat.{ℕ, zero, suc, ◌+◌, ◌-◌, ◌≤◌, ◌<◌, max}
 use mathlib.Core.Path.{◌≡◌, refl, ap, sym, ◌∙◌}
 use mathlib.Core.Bool.{Bool, true, false, true≢false}
 use mathlib.Core.Logic.{⊎_elim}
@@ -7,7 +7,8 @@ use mathlib.Core.List.{List, [], ◌∷◌}
 use native.Mathlib.Nat.{add-zero}
 use native.Mathlib.Omega.{arith}
 use lib.Dec.{eqb}
-use lib.ListN.{length, get_or, drop}
+use lib.ListN.{length, get_or, take, drop, length-take}
+use Rattle.std.proofs.lemmas.List.{get_or-take, get_or-drop}
 use lib.Seq.{drop-drop}
 use Rattle.text.proofs.Tests.{at_byte, at_end, lt_or_ge}
 use borrow.Author.Tests.{eq-eqb, ne_eqb}
@@ -40,13 +41,12 @@ module _ (p : List ℕ → Bool) (s : List ℕ) (i : ℕ) where
   unfolding run
   run_over h = rw (at_end s i h) (add-zero i)
 
--- the same where the test is one of a byte
-module _ (f : ℕ → Bool) (s : List ℕ) (i : ℕ) (h : i < length s) where
-  pub byte_step : f (get_or s i 0) ≡ true → i + run (first f) (drop i s) ≡ (i + 1) + run (first f) (drop (i + 1) s)
-  byte_step t = run_step (first f) s i h (ap (first f) (at_byte s i h) ∙ t)
-
-  pub byte_stop : f (get_or s i 0) ≡ false → i + run (first f) (drop i s) ≡ i
-  byte_stop t = run_stop (first f) s i h (ap (first f) (at_byte s i h) ∙ t)
+-- where a loop that went past each place from `at` on ends: behind the text, or where it began
+pub run_rest : (p : List ℕ → Bool) (s : List ℕ) (at i : ℕ) → (at ≤ length s → i ≤ length s) → length s ≤ i → i + run p (drop i s) ≡ at + run p (drop at s)
+    → max at (length s) ≡ at + run p (drop at s)
+run_rest p s at i below over e =
+    let o = run_over p s i over in
+    ⊎_elim (λ l. omega (arith, run_over p s at (omega arith))) (λ l. omega arith) (lt_or_ge (length s) at)
 
 -- a byte above CR is neither LF nor CR
 pub over : (b n : ℕ) → n ≤ 13 → 13 < b → eqb b n ≡ false
@@ -101,16 +101,32 @@ pub record Looked (s : List ℕ) (at k : ℕ) (b : Bool) : Type 0 where
 pub looked_none : (s : List ℕ) (at : ℕ) → Looked s at 0 true
 looked_none s at = record { inside = omega arith; yes = λ e. record { above = λ k l. absurd (omega arith) }; no = λ e p. true≢false e }
 
-pub looked_low : (s : List ℕ) (at k : ℕ) (b : Bool) → Looked s at k b → k < 16 → get_or s (at + k) 0 ≤ 13 → Looked s at (k + 1) false
-looked_low s at k b w l h =
-    record { inside = omega arith; yes = λ e. absurd (true≢false (sym e)); no = λ e p. omega (arith, p.above k l, h) }
+-- the window at a place, and a byte of it
+abbrev window : List ℕ → ℕ → List ℕ
+window s at = take (at + 16 - at) (drop at s)
 
-pub looked_high : (s : List ℕ) (at k : ℕ) (b : Bool) → Looked s at k b → k < 16 → 13 < get_or s (at + k) 0 → Looked s at (k + 1) b
+window_in : (s : List ℕ) (at k : ℕ) → k < length (window s at) → k < 16
+window_in s at k l = omega (arith, length-take (at + 16 - at) (drop at s))
+
+window_at : (s : List ℕ) (at k : ℕ) → k < length (window s at) → get_or (window s at) k 0 ≡ get_or s (at + k) 0
+window_at s at k l =
+    let h : k < 16 = window_in s at k l in
+    get_or-take (at + 16 - at) (drop at s) k 0 (omega arith) ∙ get_or-drop at s k 0
+
+pub looked_low : (s : List ℕ) (at k : ℕ) (b : Bool) → Looked s at k b → k < length (take (at + 16 - at) (drop at s)) → get_or (take (at + 16 - at) (drop at s)) k 0 ≤ 13 → Looked s at (k + 1) false
+looked_low s at k b w l h =
+    let i : k < 16 = window_in s at k l in
+    let e : get_or (window s at) k 0 ≡ get_or s (at + k) 0 = window_at s at k l in
+    record { inside = omega arith; yes = λ e. absurd (true≢false (sym e)); no = λ n p. omega (arith, p.above k i, h, e) }
+
+pub looked_high : (s : List ℕ) (at k : ℕ) (b : Bool) → Looked s at k b → k < length (take (at + 16 - at) (drop at s)) → 13 < get_or (take (at + 16 - at) (drop at s)) k 0 → Looked s at (k + 1) b
 looked_high s at k b w l h =
+    let i : k < 16 = window_in s at k l in
+    let h' : 13 < get_or s (at + k) 0 = rw (window_at s at k l) at h in
     record {
       inside = omega arith;
       yes = λ e. record {
-        above = λ j m. ⊎_elim (λ n. (w.yes e).above j n) (λ n. let z : j ≡ k = omega arith in rw z h) (lt_or_ge j k);
+        above = λ j m. ⊎_elim (λ n. (w.yes e).above j n) (λ n. let z : j ≡ k = omega arith in rw z h') (lt_or_ge j k);
       };
       no = w.no;
     }

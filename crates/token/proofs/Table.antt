@@ -3,13 +3,15 @@
 use Prim.Native.Nat.{ℕ, zero, suc, ◌+◌, ◌*◌, ◌-◌, ◌/◌, ◌≤◌, ◌<◌}
 use mathlib.Core.Path.{◌≡◌, refl, sym, ap, ◌∙◌}
 use mathlib.Core.List.{List, [], ◌∷◌, ◌++◌}
+use mathlib.Core.Logic.{⊎_elim}
 use native.Mathlib.Omega.{arith}
 use native.Mathlib.Decide.{dec_lt}
-use native.Mathlib.Nat.{add-zero, div-add-mod', div-mul-le_self}
+use native.Mathlib.Nat.{div-add-mod', div-mul-le_self}
 use lib.ListN.{length, get_or, take, drop, get_or-eq_default, get_or-append, length-take, length-drop}
 use lib.Seq.{sets, get_or-append-add}
 use Rattle.text.specs.Splice.{fronted}
 use Rattle.text.proofs.Splices.{sets_append, sets_front}
+use Rattle.text.proofs.Tests.{lt_or_ge}
 use Rattle.text.specs.Limits.{max_text}
 use Rattle.token.specs.Lists.{Tok, tok, kind_of, start_of, end_of}
 use Rattle.token.specs.Table.{token_size, row_of, flat, room_of, toks, Lent, tok_of, kind, start, end, between, word, label}
@@ -64,44 +66,16 @@ module _ (s ts : List ℕ) (v : Lent s ts) where
   pub count_is : length ts / token_size ≡ length (toks s)
   count_is = omega (arith, sizes.0, div-add-mod' (length ts) token_size)
 
-  -- a token's row
-  module _ (i : ℕ) (h : i < length ts / token_size) where
-    pub row_lies : i * token_size + token_size ≤ length ts
-    row_lies = row_fits ts i h
-
-    row_in : (k : ℕ) → k < token_size → get_or ts (i * token_size + k) 0 ≡ get_or (row_of (tok_of s i)) k 0
-    unfolding tok_of
-    row_in k g = ap (λ (l : List ℕ). get_or l (i * token_size + k) 0) v.table ∙ flat_at_lem (toks s) i k _ (omega (arith, count_is)) g
-
-    pub kind_in : get_or ts (i * token_size) 0 ≡ kind s i
-    unfolding kind
-    kind_in = ap (λ (n : ℕ). get_or ts n 0) (sym (add-zero (i * token_size))) ∙ row_in 0 (omega arith)
-
-    pub start_in : get_or ts (i * token_size + 1) 0 ≡ start s i
-    unfolding start
-    start_in = row_in 1 (omega arith)
-
-    pub end_in_lem : get_or ts (i * token_size + 2) 0 ≡ end s i
-    unfolding end
-    end_in_lem = row_in 2 (omega arith)
-
-  -- past the last one
-  module _ (i : ℕ) (h : length ts / token_size ≤ i) where
-    no_row : tok 0 (length s) (length s) ≡ tok_of s i
-    unfolding tok_of
-    no_row = sym (get_or-eq_default (toks s) (tok 0 (length s) (length s)) (omega (arith, count_is)))
-
-    pub kind_out : 0 ≡ kind s i
-    unfolding kind
-    kind_out = ap kind_of no_row
-
-    pub start_out : length s ≡ start s i
-    unfolding start
-    start_out = ap start_of no_row
-
-    pub end_out : length s ≡ end s i
-    unfolding end
-    end_out = ap end_of no_row
+  -- a number of a token's row: it stands in the table, or past the last token it is that of no token at the text's end
+  pub number_is : (f : Tok → ℕ) (i k n : ℕ) → k < token_size → ((t : Tok) → get_or (row_of t) k 0 ≡ f t)
+      → (i < length ts / token_size → n ≡ get_or ts (i * token_size + k) 0) → (length ts / token_size ≤ i → n ≡ f (tok 0 (length s) (length s))) → n ≡ f (tok_of s i)
+  unfolding tok_of
+  number_is f i k n g r a b =
+      let d = tok 0 (length s) (length s) in
+      ⊎_elim
+      (λ h. a h ∙ ap (λ (l : List ℕ). get_or l (i * token_size + k) 0) v.table ∙ flat_at_lem (toks s) i k d (omega (arith, count_is)) g ∙ r (get_or (toks s) i d))
+      (λ h. b h ∙ ap f (sym (get_or-eq_default (toks s) d (omega (arith, count_is)))))
+      (lt_or_ge i (length ts / token_size))
 
 -- a token has a byte at least, inside the text
 pub spans : (s : List ℕ) (i : ℕ) → i < length (toks s) → (start s i < end s i) × (end s i ≤ length s)

@@ -1,22 +1,20 @@
 -- Where a 3 stands: at the bad escape of a literal, if one is met, and otherwise where what is no token begins.
-use Rattle.std.specs.Prelude.{ℕ, ◌+◌, ◌≡◌, true, false, List, ◌⊎◌, drop}
+use Rattle.std.specs.Prelude.{ℕ, ◌+◌, ◌≡◌, true, false, List, ◌⊎◌, drop, Some, None}
 use Rattle.text.specs.Booleans.{next_is}
 use Rattle.text.specs.Scans.{later, sought}
-use Rattle.text.specs.declared.Scan.TheVariants.{StopsAt}
 use Rattle.literal.specs.Escapes.{escape_of}
-use Rattle.literal.specs.declared.Escape.TheVariants.{Means, Plain}
 use Rattle.token.specs.Blanks.{blank_of}
 
 -- a backslash stands at a place, and no escape does
 pub record Stray (s : List ℕ) (p : ℕ) : Type 0 where
   pub backslash : next_is 92 (drop p s) ≡ true
-  pub plain : escape_of (drop p s) ≡ Plain
+  pub plain : escape_of (drop p s) ≡ None
 
 -- inside a string, from a place on: past bytes and escapes, with no `"` among them, the first such backslash stands at p
 pub data Meets (s : List ℕ) : ℕ → ℕ → Type 0 where
   here : {p : ℕ} → Stray s p → Meets s p p
   past_byte : {i p : ℕ} → next_is 34 (drop i s) ≡ false → next_is 92 (drop i s) ≡ false → Meets s (i + 1) p → Meets s i p
-  past_escape : {i c n p : ℕ} → escape_of (drop i s) ≡ Means c n → Meets s (i + n) p → Meets s i p
+  past_escape : {i c n p : ℕ} → escape_of (drop i s) ≡ Some (c, n) → Meets s (i + n) p → Meets s i p
 
 -- the literal that begins at f has a bad escape at p: a string, one behind `^`, or a character literal, where it has to stand first
 pub data BadEscape (s : List ℕ) (f : ℕ) : ℕ → Type 0 where
@@ -30,4 +28,4 @@ FaultAt s f p = BadEscape s f p ⊎ ((p ≡ f) × ((q : ℕ) → BadEscape s f q
 
 -- the place of a 3, for what stands past the blanks from a place on
 abbrev pub FaultFrom : List ℕ → ℕ → ℕ → Type 0
-FaultFrom s at p = (f : ℕ) × (later at (sought blank_of 0 (drop at s)) ≡ StopsAt f) × FaultAt s f p
+FaultFrom s at p = (f : ℕ) × (later at (sought blank_of 0 (drop at s)) ≡ Some f) × FaultAt s f p

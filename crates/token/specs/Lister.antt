@@ -1,9 +1,7 @@
 -- What a call of the lister gives.
-use Rattle.std.specs.Prelude.{ℕ, List, ltb, length}
+use Rattle.std.specs.Prelude.{ℕ, List, ltb, length, Option, Some, None}
 use Rattle.text.specs.Booleans.{choose}
 use Rattle.text.specs.Utf8.{first_bad}
-use Rattle.text.specs.declared.Scan.{Scan}
-use Rattle.text.specs.declared.Scan.TheVariants.{Through, StopsAt}
 use Rattle.text.specs.Limits.{max_text}
 use Rattle.token.specs.Tokens.{token_at}
 use Rattle.token.specs.declared.Token.{Token}
@@ -17,9 +15,9 @@ listed_by n Token.End = End n
 listed_by n (Token.NoToken place) = NoToken place
 
 -- by the start of the first bad sequence, if there is one
-abbrev pub checked_by : Scan → (Unit {0} → Listed) → Listed
-checked_by (StopsAt place) f = NotUtf8 place
-checked_by Through f = f tt
+abbrev pub checked_by : Option ℕ → (Unit {0} → Listed) → Listed
+checked_by (Some place) f = NotUtf8 place
+checked_by None f = f tt
 
 -- over 65,536 bytes; not UTF-8; else the next token past blanks, or the text's end, or no token
 unfoldable pub next_of : List ℕ → ℕ → Listed

@@ -1,19 +1,11 @@
 -- The token that stands at the front of what is left of a text, rule by rule, and the token at a place.
-use Rattle.std.specs.Prelude.{ℕ, suc, ◌+◌, Bool, true, List, [], ◌∷◌, ltb, eqb, drop}
+use Rattle.std.specs.Prelude.{ℕ, suc, ◌+◌, Bool, true, List, [], ◌∷◌, ltb, eqb, drop, Option, Some, None}
 use Rattle.text.specs.Booleans.{choose, and, or, next_is}
 use Rattle.text.specs.Classes.{class_of, ones}
 use Rattle.text.specs.Words.{starts_word, begins, push}
 use Rattle.text.specs.Scans.{sought}
 use Rattle.text.specs.Utf8.{char_of}
-use Rattle.text.specs.declared.Look.{Look}
-use Rattle.text.specs.declared.Look.TheVariants.{Stop}
-use Rattle.text.specs.declared.Scan.{Scan}
-use Rattle.text.specs.declared.Scan.TheVariants.{Through, StopsAt}
-use Rattle.text.specs.declared.Sequence.{Sequence}
-use Rattle.text.specs.declared.Sequence.TheVariants.{Is, Broken}
 use Rattle.literal.specs.Escapes.{escape_of, stray_look}
-use Rattle.literal.specs.declared.Escape.{Escape}
-use Rattle.literal.specs.declared.Escape.TheVariants.{Means, Plain}
 use Rattle.token.specs.Blanks.{first, words, digit_run, zeros, line, blank_of}
 use Rattle.token.specs.declared.Token.{Token}
 use Rattle.token.specs.declared.Token.TheVariants.{Found, End, NoToken}
@@ -53,14 +45,14 @@ unfoldable pub dots_token : List ℕ → Token
 dots_token xs = choose (next_is 46 xs) (λ u. Found 22 0 2) (λ u. NoToken 0)
 
 -- inside a string: past characters and escapes, up to a `"` or a backslash that begins no escape
-unfoldable pub inside_look : List ℕ → Look
-inside_look xs = choose (next_is 34 xs) (λ u. Stop) (λ u. stray_look xs)
+unfoldable pub inside_look : List ℕ → Option ℕ
+inside_look xs = choose (next_is 34 xs) (λ u. None) (λ u. stray_look xs)
 
--- `Through`: the text ends first, and the string's first byte is told; `StopsAt n`: the inside ends n bytes on, at its `"`, or at that
+-- `None`: the text ends first, and the string's first byte is told; `Some n`: the inside ends n bytes on, at its `"`, or at that
 -- backslash, which is told
-abbrev pub string_by : ℕ → ℕ → List ℕ → Scan → Token
-string_by kind k xs Through = NoToken 0
-string_by kind k xs (StopsAt n) = choose (next_is 34 (drop n xs)) (λ u. Found kind 0 (k + (n + 1))) (λ u. NoToken (k + n))
+abbrev pub string_by : ℕ → ℕ → List ℕ → Option ℕ → Token
+string_by kind k xs None = NoToken 0
+string_by kind k xs (Some n) = choose (next_is 34 (drop n xs)) (λ u. Found kind 0 (k + (n + 1))) (λ u. NoToken (k + n))
 
 -- after the k bytes that open it: a string up to its `"`
 unfoldable pub string_of : ℕ → ℕ → List ℕ → Token
@@ -79,14 +71,14 @@ unfoldable pub quoted : ℕ → List ℕ → Token
 quoted n xs = choose (next_is 39 (drop n xs)) (λ u. Found 25 0 (n + 2)) (λ u. NoToken 0)
 
 -- by the escape that stands after the `'`: where none does, the backslash is told
-abbrev pub escaped_by : List ℕ → Escape → Token
-escaped_by xs Plain = NoToken 1
-escaped_by xs (Means c n) = quoted n xs
+abbrev pub escaped_by : List ℕ → Option (ℕ × ℕ) → Token
+escaped_by xs None = NoToken 1
+escaped_by xs (Some (c, n)) = quoted n xs
 
 -- by the character that stands there
-abbrev pub raw_by : List ℕ → Sequence → Token
-raw_by xs Broken = NoToken 0
-raw_by xs (Is c n) = quoted n xs
+abbrev pub raw_by : List ℕ → Option (ℕ × ℕ) → Token
+raw_by xs None = NoToken 0
+raw_by xs (Some (c, n)) = quoted n xs
 
 -- after `'`: one escape, or one character but `\`
 unfoldable pub char_token : List ℕ → Token
@@ -131,10 +123,10 @@ abbrev pub first_token : List ℕ → Token
 first_token [] = End
 first_token (x ∷ xs) = token_by (class_of x) x xs
 
--- `StopsAt n`: n bytes of blanks, then a byte that begins none; `Through`: blanks up to the text's end
-abbrev pub past_blanks : List ℕ → Scan → Token
-past_blanks xs Through = End
-past_blanks xs (StopsAt n) = moved n (first_token (drop n xs))
+-- `Some n`: n bytes of blanks, then a byte that begins none; `None`: blanks up to the text's end
+abbrev pub past_blanks : List ℕ → Option ℕ → Token
+past_blanks xs None = End
+past_blanks xs (Some n) = moved n (first_token (drop n xs))
 
 -- past all blanks: a token, no token, or the text's end
 unfoldable pub token_of : List ℕ → Token

@@ -12,7 +12,7 @@ ghost use Rattle.token.specs.Tokens.{token_at};
 ghost use Rattle.token.specs.Lists.{filled_of};
 ghost use Rattle.token.specs.Table.{flat, room_of, toks};
 
-use crate::{Filled, Token, kind};
+use crate::{FillError, Token, kind};
 
 // The token at a place: past blanks, by the class of its first byte. Most blanks are spaces, which
 // are told without a look at the table.
@@ -23,7 +23,7 @@ pub fn token_at(t: &[u8; 256], s: &[u8], at: usize) -> Token
     let mut i = at;
     while i < s.len() {
         let b = s[i];
-        if b == 32 {
+        if b == b' ' {
             i += 1;
         } else {
             let c = text::inner::classes::class(t, b);
@@ -65,19 +65,13 @@ pub fn token_at(t: &[u8; 256], s: &[u8], at: usize) -> Token
     Token::End
 }
 
-// Past spaces and LF.
+// Past spaces and LF. With a `for` over the places all of `fill` takes up to a tenth more time.
 #[tactic(auto, using(crate::proofs::Places::at_space, crate::proofs::Places::at_feed))]
 fn past_spaces(s: &[u8], at: usize) -> usize
     ensures { token_at s.now result ≡ token_at s.now at }
 {
     let mut i = at;
-    while i < s.len() {
-        let b = s[i];
-        if b != 32 {
-            if b != 10 {
-                return i;
-            }
-        }
+    while i < s.len() && (s[i] == b' ' || s[i] == b'\n') {
         i += 1;
     }
     i
@@ -107,7 +101,7 @@ fn near_token(t: &[u8; 256], s: &[u8], at: usize) -> Token
 }
 
 // Puts the tokens of a text into a lent table, as many as it has room for.
-pub fn fill(t: &[u8; 256], s: &[u8], tokens: &mut [u32]) -> Filled
+pub fn fill(t: &[u8; 256], s: &[u8], tokens: &mut [u32]) -> Result<usize, FillError>
     requires t_value { t.now ≡ classes }
     requires s_len_bound { length s.now ≤ max_text }
     ensures answer { result ≡ filled_of (room_of tokens.old) s.now }
@@ -120,16 +114,16 @@ pub fn fill(t: &[u8; 256], s: &[u8], tokens: &mut [u32]) -> Filled
         let token = near_token(t, s, at);
         match token {
             Token::End => {
-                return Filled::All(n);
+                return Ok(n);
             }
             Token::NoToken(place) => {
-                return Filled::NoToken(place);
+                return Err(FillError::NoToken(place));
             }
             Token::Found { kind, start, end } => {
                 if room <= n {
-                    return Filled::Full;
+                    return Err(FillError::Full);
                 }
-                listing::put_token(tokens, n, kind as u32, start as u32, end as u32);
+                listing::put_token(tokens, n, u32::from(kind), start as u32, end as u32);
                 n += 1;
                 at = end;
             }

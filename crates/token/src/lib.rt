@@ -10,7 +10,7 @@ pub mod kind;
 ghost use Rattle.std.specs.Prelude.{◌≡◌};
 ghost use Rattle.token.specs.Lister.{next_of, numbers_of, lister};
 
-use text::{Scan, limits};
+use text::limits;
 
 // A token, the text's end, or the place where there is no token.
 #[derive(Clone, Copy)]
@@ -28,18 +28,10 @@ pub enum Mark {
     Neither,
 }
 
-// Where a comment is closed.
-#[derive(Clone, Copy)]
-pub enum Close {
-    At(usize),
-    Never,
-}
-
-// How many tokens were put into the lent table, or the place where there is no token; or there are
-// more tokens before it than the table has room for.
-#[derive(Clone, Copy)]
-pub enum Filled {
-    All(usize),
+// Why the lent table does not hold all tokens: the place where there is no token, or more tokens
+// before it than the table has room for.
+#[derive(Clone, Copy, Debug, PartialEq, Eq)]
+pub enum FillError {
     NoToken(usize),
     Full,
 }
@@ -64,7 +56,7 @@ pub fn next_token(s: &[u8], at: usize) -> Listed
         return Listed::TooLong;
     }
     let utf8 = text::first_bad(s);
-    if let Scan::StopsAt(place) = utf8 {
+    if let Some(place) = utf8 {
         return Listed::NotUtf8(place);
     }
     let classes = text::inner::classes::classes();

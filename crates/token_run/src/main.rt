@@ -6,10 +6,10 @@
 #![tactic(auto)]
 
 use token::inner::listing::TOKEN_SIZE;
-use token::{Filled, Listed};
+use token::{FillError, Listed};
 
 fn write_token(kind: u8, start: usize, end: usize) {
-    vectors::write_number(kind as usize);
+    vectors::write_number(usize::from(kind));
     vectors::write_number(start);
     vectors::write_number(end);
 }
@@ -43,27 +43,10 @@ fn run_list(bytes: &[u8], from: usize) {
     loop {
         let listed = token::next_token(bytes, at);
         write_listed(listed);
-        match listed {
-            Listed::TooLong => {
-                return;
-            }
-            Listed::NotUtf8(_) => {
-                return;
-            }
-            Listed::Next {
-                kind: _,
-                start: _,
-                end,
-            } => {
-                at = end;
-            }
-            Listed::End(_) => {
-                return;
-            }
-            Listed::NoToken(_) => {
-                return;
-            }
-        }
+        let Listed::Next { end, .. } = listed else {
+            return;
+        };
+        at = end;
     }
 }
 
@@ -73,46 +56,30 @@ fn run_cursor(bytes: &[u8], from: usize) {
     let mut at = from;
     loop {
         let two = cursor::next_two(bytes, at);
-        let first = two.first;
         let second = two.second;
-        let place = two.place;
-        write_listed(first);
+        at = two.place;
+        write_listed(two.first);
         write_listed(second);
-        if let Listed::Next {
-            kind: _,
-            start: _,
-            end: _,
-        } = second
-        {
-            at = place;
-        } else {
+        let Listed::Next { .. } = second else {
             vectors::write(b" then");
-            vectors::write_number(place);
+            vectors::write_number(at);
             return;
-        }
+        };
     }
-}
-
-fn wide(n: u32) -> usize {
-    n as usize
 }
 
 // The tokens that the table holds: the numbers behind them stand at 170, as they did before.
 fn write_held(tokens: &[u32]) {
-    let mut i = 0;
-    while i < tokens.len() {
-        if tokens.len() - i < TOKEN_SIZE {
+    let (tokens, _) = tokens.as_chunks::<TOKEN_SIZE>();
+    for [kind, start, end] in tokens {
+        if *kind != 170 {
+            vectors::write_small(*kind);
+        }
+        vectors::write_small(*start);
+        vectors::write_small(*end);
+        if *kind == 170 {
             return;
         }
-        if tokens[i] != 170 {
-            vectors::write_number(wide(tokens[i]));
-        }
-        vectors::write_number(wide(tokens[i + 1]));
-        vectors::write_number(wide(tokens[i + 2]));
-        if tokens[i] == 170 {
-            return;
-        }
-        i += TOKEN_SIZE;
     }
 }
 
@@ -125,95 +92,50 @@ fn run_fill(bytes: &[u8]) {
     let mut tokens = [170u32; 1539];
     let filled = token::inner::fill(&classes, bytes, &mut tokens);
     match filled {
-        Filled::All(n) => {
+        Ok(n) => {
             vectors::write(b" all");
             vectors::write_number(n);
         }
-        Filled::NoToken(place) => write_refused(3, place),
-        Filled::Full => vectors::write(b" full"),
+        Err(FillError::NoToken(place)) => write_refused(3, place),
+        Err(FillError::Full) => vectors::write(b" full"),
     }
     write_held(&tokens);
-}
-
-// Puts bytes into a text again and again, so many times or up to its end. The place behind them.
-fn repeat(bytes: &[u8], count: usize, out: &mut [u8], from: usize) -> usize {
-    let mut at = from;
-    let mut k = 0;
-    while k < count {
-        let mut i = 0;
-        while i < bytes.len() {
-            if out.len() <= at {
-                return at;
-            }
-            out[at] = bytes[i];
-            at += 1;
-            i += 1;
-        }
-        k += 1;
-    }
-    at
 }
 
 // R COUNT BYTES: the next token of bytes that are repeated
 fn run_repeated(bytes: &[u8], count: usize) {
     let mut long = [0u8; 65537];
-    let n = repeat(bytes, count, &mut long, 0);
-    if n <= 65537 {
-        run_next(&long[..n], 0);
-    }
+    let n = vectors::repeat(bytes, count, &mut long, 0);
+    run_next(&long[..n], 0);
 }
 
 // N COUNT BYTES: the next token of so many nested comments with bytes behind them
 fn run_nested(bytes: &[u8], count: usize) {
     let mut long = [0u8; 65537];
-    let opened = repeat(b"/*", count, &mut long, 0);
-    let closed = repeat(b"*/", count, &mut long, opened);
-    let n = repeat(bytes, 1, &mut long, closed);
-    if n <= 65537 {
-        run_next(&long[..n], 0);
+    let opened = vectors::repeat(b"/*", count, &mut long, 0);
+    let closed = vectors::repeat(b"*/", count, &mut long, opened);
+    let n = vectors::repeat(bytes, 1, &mut long, closed);
+    run_next(&long[..n], 0);
+}
+
+fn run(letter: u8, number: usize, bytes: &[u8]) {
+    match letter {
+        b't' | b'T' => run_next(bytes, number),
+        b'l' | b'L' => run_list(bytes, number),
+        b'c' | b'C' => run_cursor(bytes, number),
+        b'f' | b'F' => run_fill(bytes),
+        b'R' => run_repeated(bytes, number),
+        b'N' => run_nested(bytes, number),
+        _ => {}
     }
 }
 
 fn run_line(line: &[u8]) {
-    let mut bytes = [0u8; 512];
-    let op = vectors::field(line, 0);
-    let first = vectors::field(line, op.end);
-    let second = vectors::field(line, first.end);
-    let a = first.start;
-    let b = first.end;
-    let c = second.start;
-    let d = second.end;
-    let number = vectors::number(&line[a..b]) as usize;
-    let n = vectors::unhex(&line[c..d], &mut bytes);
-    let at = op.start;
-    vectors::write(line);
-    vectors::write(b" =");
-    if line.len() <= at {
-        return;
+    if vectors::run_operation(line, run) {
+        vectors::write(b"\n");
     }
-    match line[at] {
-        b't' => run_next(&line[c..], number),
-        b'T' => run_next(&bytes[..n], number),
-        b'l' => run_list(&line[c..], number),
-        b'L' => run_list(&bytes[..n], number),
-        b'c' => run_cursor(&line[c..], number),
-        b'C' => run_cursor(&bytes[..n], number),
-        b'f' => run_fill(&line[c..]),
-        b'F' => run_fill(&bytes[..n]),
-        b'R' => run_repeated(&bytes[..n], number),
-        b'N' => run_nested(&bytes[..n], number),
-        _ => {}
-    }
-    vectors::write(b"\n");
 }
 
 fn main() {
-    let mut input = io::large_buffer();
-    let n = io::read_full(0, &mut input);
-    let mut at = 0;
-    while at < n {
-        let end = vectors::line_end(&input[..n], at);
-        run_line(&input[at..end]);
-        at = end + 1;
-    }
+    vectors::run_lines(&mut io::large_buffer(), run_line);
 }

@@ -1,7 +1,8 @@
 -- Uniqueness: two results that meet an entry point's contract are equal, and so is what they leave in the lent buffers.
 -- Each theorem is over what a caller learns of the contract's own clauses, so a contract that loses one loses its theorem.
+use Rattle.std.specs.Prelude.{Result, Ok, Err}
 use Prim.Native.Nat.{ℕ, ◌+◌}
-use mathlib.Core.Path.{◌≡◌, sym, ◌∙◌}
+use mathlib.Core.Path.{◌≡◌, sym, ap, ◌∙◌}
 use native.Mathlib.Omega.{arith}
 use seplogic.Ra.Ura.{Ura}
 use base.Logic.{SProp, ent, sep, via, id⊢, fst∗, snd∗}
@@ -48,12 +49,14 @@ use Rattle.stream.proofs.feed_end as FeedEnd
 use Rattle.stream.specs.contracts.feed_end as FeedEndContract
 use Rattle.table.proofs.check_tables as CheckTables
 use Rattle.table.specs.contracts.check_tables as CheckTablesContract
-use Rattle.table.specs.Tree.{Span, Tree, count}
+use Rattle.table.specs.Tree.{Span, Tree, count, size}
 use Rattle.table.specs.Record.{blank}
 use Rattle.structure.specs.declared.Level.TheVariants.{Tagged}
-use Rattle.structure.specs.declared.PostfixEnds.{PostfixEnds}
-use Rattle.structure.specs.declared.PostfixEnds.TheVariants.{All, Bad}
+use Rattle.structure.specs.declared.Refusal as StructureRefusal
+use Rattle.structure.specs.declared.Posts.{Posts}
+use Rattle.structure.specs.declared.Piece.{Piece}
 use Rattle.structure.specs.Answers.{tailed}
+use Rattle.structure.proofs.Wants.{piece, all_posts}
 use Rattle.structure.proofs.inner.checks.predicates_end as PredicatesEnd
 use Rattle.structure.specs.contracts.inner.checks.predicates_end as PredicatesEndContract
 use Rattle.structure.proofs.inner.checks.check_posts as CheckPosts
@@ -230,16 +233,17 @@ check_tables κs a x y v w h k = (cc, λ i. v)
 -- ---- structure: the two loops of a term
 
 -- tails around one tree that come to the same are the same
-same_tail : (t : Tree Span) (x y : PostfixEnds) → tailed t x ≡ tailed t y → x ≡ y
+same_tail : (t : Tree Span) (x y : Result Posts StructureRefusal.Refusal) → tailed t x ≡ tailed t y → x ≡ y
 unfolding tailed
-same_tail t (All n k) (All m j) e =
-    let p : n ≡ m = cc in
-    let q : count t + k ≡ count t + j = cc in
-    let r : k ≡ j = omega arith in
-    cc
-same_tail t (All n k) (Bad r) e = let z : ◌≡◌ {A = ℕ} 0 1 = cc in absurd (omega arith)
-same_tail t (Bad r) (All m j) e = let z : ◌≡◌ {A = ℕ} 0 1 = cc in absurd (omega arith)
-same_tail t (Bad r) (Bad q) e = cc
+same_tail t (Ok p) (Ok q) e =
+    let h : ◌≡◌ {A = Piece} (piece p.next (count t + p.nodes) (size t)) (piece q.next (count t + q.nodes) (size t)) = cc in
+    let a : p.next ≡ q.next = ap (λ (z : Piece). z.next) h in
+    let b : count t + p.nodes ≡ count t + q.nodes = ap (λ (z : Piece). z.nodes) h in
+    let d : p.nodes ≡ q.nodes = omega arith in
+    ap (λ (i : ℕ). Ok (all_posts i p.nodes)) a ∙ ap (λ (k : ℕ). Ok (all_posts q.next k)) d
+same_tail t (Ok p) (Err r) e = let z : ◌≡◌ {A = ℕ} 0 1 = cc in absurd (omega arith)
+same_tail t (Err r) (Ok q) e = let z : ◌≡◌ {A = ℕ} 0 1 = cc in absurd (omega arith)
+same_tail t (Err r) (Err q) e = cc
 
 pub predicates_end_lem : Decides PredicatesEndContract.ended PredicatesEnd.Reads.Learnt
 predicates_end_lem κs a x y v w h k = (cc, λ i. v)

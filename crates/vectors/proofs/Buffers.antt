@@ -1,13 +1,19 @@
 -- Laws of the buffers. Each loop's invariant says that the whole comes to what is left to do, done to the buffer as it stands.
-use Prim.Native.Nat.{ℕ, zero, suc, ◌+◌, ◌-◌, ◌*◌, ◌%◌, ◌≤◌, ◌<◌}
+use Prim.Native.Nat.{ℕ, zero, suc, min, ◌+◌, ◌-◌, ◌*◌, ◌/◌, ◌≤◌, ◌<◌}
 use mathlib.Core.Path.{◌≡◌, refl, sym, ap, ◌∙◌}
 use mathlib.Core.Bool.{Bool, true, false, not}
 use mathlib.Core.List.{List, [], ◌∷◌, ◌++◌, append-nil, append_assoc}
 use native.Mathlib.Numerals.{add-one}
+use native.Mathlib.Nat.{add-zero}
 use native.Mathlib.Omega.{arith}
 use lib.Dec.{leb, ltb, eqb}
-use lib.ListN.{length, take, drop, set, get_or, length-set, length-drop}
-use lib.Seq.{take-suc-set}
+use lib.ListN.{length, take, drop, set, get_or, length-set, length-take, length-drop}
+use mathlib.Core.Logic.{⊎_elim}
+use Rattle.std.proofs.lemmas.Bool.{cases_lt}
+use Rattle.std.proofs.lemmas.List.{take-take}
+use lib.Seq.{take-suc-set, sets, sets-eq}
+use Rattle.std.proofs.lemmas.Slice.{put_mid-paste}
+use borrow.Rule.Slice.PartMut.{put_mid}
 use borrow.Author.Tests.{lt-ltb, le-ltb, le-leb, lt-leb, leb-true, leb-false}
 use Rattle.text.proofs.Booleans.{choose_true, choose_false, choose_by}
 use Rattle.vectors.specs.Vectors.{find_of, word_of, hex_value, number_from, one_if}
@@ -27,8 +33,8 @@ put_on o k x xs h = rw (lt-leb (length o) k h)
 
 -- ---- unhex
 
-abbrev pub UnhexInv : List ℕ → List ℕ → List ℕ → ℕ → ℕ → Type 0
-UnhexInv s o₀ o k i = put o₀ 0 (unhexed s) ≡ put o k (unhexed (drop i s))
+abbrev pub UnhexInv : List ℕ → List ℕ → List ℕ → ℕ → Type 0
+UnhexInv s o₀ o k = put o₀ 0 (unhexed s) ≡ put o k (unhexed (drop (2 * k) s))
 
 unhexed_on : (s : List ℕ) (i : ℕ) → i + 1 < length s → unhexed (drop i s) ≡ (hex_value (get_or s i 0) * 16 + hex_value (get_or s (i + 1) 0)) ∷ unhexed (drop (i + 1 + 1) s)
 unfolding unhexed
@@ -40,43 +46,53 @@ unhexed_short [] h = refl
 unhexed_short (x ∷ []) h = refl
 unhexed_short (x ∷ y ∷ l) h = absurd (omega arith)
 
-module _ (s o₀ o : List ℕ) (k i : ℕ) (v : UnhexInv s o₀ o k i) where
-  pub unhex_more : (x y : ℕ) → i + 1 < length s → k < length o → x ≡ hex_value (get_or s i 0) → y ≡ hex_value (get_or s (i + 1) 0) → UnhexInv s o₀ (set o k (x * 16 + y)) (k + 1) (i + 1 + 1)
-  unhex_more x y h l e f = v ∙ ap (put o k) (unhexed_on s i h) ∙ put_on o k _ _ l ∙ rw (e, f)
+module _ (s o₀ o : List ℕ) (k : ℕ) (v : UnhexInv s o₀ o k) where
+  pub unhex_more : (x y : ℕ) → 2 * k + 1 < length s → k < length o → x ≡ hex_value (get_or s (2 * k) 0) → y ≡ hex_value (get_or s (2 * k + 1) 0) → UnhexInv s o₀ (set o k (x * 16 + y)) (k + 1)
+  unhex_more x y h l e f =
+      let i : 2 * k + 1 + 1 ≡ 2 * (k + 1) = omega arith in
+      v ∙ ap (put o k) (unhexed_on s (2 * k) h) ∙ put_on o k _ _ l ∙ rw (e, f, i)
 
-  pub unhex_full : length o ≤ k → filled k o ≡ put o₀ 0 (unhexed s)
-  unhex_full h = sym (v ∙ put_full o k _ h)
-
-  pub unhex_odd : length s ≤ i + 1 → filled k o ≡ put o₀ 0 (unhexed s)
+  pub unhex_done : (n : ℕ) → n ≡ k → n ≡ min (length o) (length s / 2) → filled n o ≡ put o₀ 0 (unhexed s)
   unfolding put
-  unhex_odd h = sym (v ∙ ap (put o k) (unhexed_short (drop i s) (simp length-drop (omega arith))))
-
-  pub unhex_end : length s ≤ i → filled k o ≡ put o₀ 0 (unhexed s)
-  unhex_end h = unhex_odd (omega arith)
+  unhex_done n e m =
+      rw e
+      (⊎_elim
+      (λ (h : k < length o). sym (v ∙ ap (put o k) (unhexed_short (drop (2 * k) s) (simp length-drop (omega arith)))))
+      (λ h. sym (v ∙ put_full o k _ h))
+      (cases_lt k (length o)))
 
 -- ---- append
 
-abbrev pub AppendInv : List ℕ → List ℕ → ℕ → List ℕ → ℕ → ℕ → Type 0
-AppendInv x o₀ from o k i = appended o₀ from x ≡ put o k (drop i x)
+-- that is n of its elements, one after another
+put_sets : (o : List ℕ) (k n : ℕ) (xs : List ℕ) → k ≤ length o → n ≡ min (length xs) (length o - k) → put o k xs ≡ filled (k + n) (sets o k (take n xs))
+unfolding put
+put_sets o k n [] h e = let z : n ≡ 0 = omega arith in rw (z, add-zero)
+put_sets o k n (x ∷ xs) h e =
+    choose_by (λ (f : Filled). f ≡ filled (k + n) (sets o k (take n (x ∷ xs)))) (leb (length o) k) _ _
+    (λ t. let l = leb-true (length o) k t in let z : n ≡ 0 = omega arith in rw (z, add-zero))
+    (λ t.
+    let l = leb-false (length o) k t in
+    let z : n ≡ suc (n - 1) = omega arith in
+    let m : n - 1 ≡ min (length xs) (length (set o k x) - (k + 1)) = simp length-set (omega arith) in
+    let j : k + 1 + (n - 1) ≡ k + n = omega arith in
+    let q : sets (set o k x) (k + 1) (take (n - 1) xs) ≡ sets o k (take n (x ∷ xs)) = rw add-one (ap (λ (i : ℕ). sets o k (take i (x ∷ xs))) (sym z)) in
+    put_sets (set o k x) (k + 1) (n - 1) xs (simp length-set (omega arith)) m ∙ ap (λ (i : ℕ). filled i (sets (set o k x) (k + 1) (take (n - 1) xs))) j ∙ ap (filled (k + n)) q)
 
-pub append_past : (x o : List ℕ) (from : ℕ) → length o < from → filled 0 o ≡ appended o from x
+pub appended_past : (o : List ℕ) (from : ℕ) (x : List ℕ) → length o < from → filled 0 o ≡ appended o from x
 unfolding appended
-append_past x o from h = rw (lt-ltb (length o) from h)
+appended_past o from x h = rw (lt-ltb (length o) from h)
 
-pub append_start : (x o : List ℕ) (from : ℕ) → from ≤ length o → AppendInv x o from o from 0
+pub appended_is : (o : List ℕ) (from n : ℕ) (x y : List ℕ) → from ≤ length o → n ≡ min (length x) (length o - from) → y ≡ take n x → filled (from + n) (put_mid from (from + n - from) o y) ≡ appended o from x
 unfolding appended
-append_start x o from h = rw (le-ltb (length o) from h)
-
-module _ (x o₀ : List ℕ) (from : ℕ) (o : List ℕ) (k i : ℕ) (v : AppendInv x o₀ from o k i) where
-  pub append_more : i < length x → k < length o → AppendInv x o₀ from (set o k (get_or x i 0)) (k + 1) (i + 1)
-  append_more h l = v ∙ ap (put o k) (step x i h) ∙ put_on o k _ _ l
-
-  pub append_full : length o ≤ k → filled k o ≡ appended o₀ from x
-  append_full h = sym (v ∙ put_full o k _ h)
-
-  pub append_end : length x ≤ i → filled k o ≡ appended o₀ from x
-  unfolding put
-  append_end h = sym (v ∙ ap (put o k) (end x i h))
+appended_is o from n x y h e f =
+    let k : n ≡ from + n - from = omega arith in
+    let l : n ≡ length (take n x) = simp length-take (omega arith) in
+    let e₂ = sets-eq (take n x) o from (omega arith) in
+    let t = take-take n n x (omega arith) in
+    rw (le-ltb (length o) from h)
+    (ap (filled (from + n)) (put_mid-paste from (from + n - from) o y (take n x) n f k l ∙ ap (λ (z : List ℕ). take from o ++ z ++ drop (from + n) o) t
+    ∙ ap (λ (j : ℕ). take from o ++ take n x ++ drop (from + j) o) l ∙ sym e₂)
+    ∙ sym (put_sets o from n x h e))
 
 -- ---- repeat
 
@@ -106,26 +122,14 @@ module _ (n : ℕ) (x o₀ : List ℕ) (from : ℕ) (o : List ℕ) (k i : ℕ) (
 
 -- ---- numbers
 
-pub more_low : (v b : ℕ) → b < 48 → v ≡ more_of v b
-unfolding more_of
-more_low v b h = rw (lt-ltb b 48 h)
-
-pub more_high : (v b : ℕ) → 57 < b → v ≡ more_of v b
-unfolding more_of
-more_high v b h = rw (le-ltb b 48 (omega arith), lt-ltb 57 b h)
-
-pub more_digit : (v b : ℕ) → 48 ≤ b → b ≤ 57 → (v * 10 + (b - 48)) % 0x1_0000_0000 ≡ more_of v b
-unfolding more_of
-more_digit v b h l = rw (le-ltb b 48 h, le-ltb 57 b l)
-
 abbrev pub NumbersInv : List ℕ → List ℕ → ℕ → List ℕ → ℕ → ℕ → Type 0
 NumbersInv s o₀ v o k i = numbers_from 0 o₀ 0 s ≡ numbers_from v o k (drop i s)
 
 module _ (s o₀ : List ℕ) (v : ℕ) (o : List ℕ) (k i : ℕ) (w : NumbersInv s o₀ v o k i) where
-  pub numbers_more : (m c u : ℕ) → i < length s → k < length o → m ≡ more_of v (get_or s i 0) → c ≡ one_if (eqb (get_or s i 0) 44) → u ≡ kept_if m (not (eqb (get_or s i 0) 44))
-      → NumbersInv s o₀ u (set o k m) (k + c) (i + 1)
+  pub numbers_more : (m k' u : ℕ) (comma : Bool) → i < length s → k < length o → m ≡ more_of v (get_or s i 0) → eqb (get_or s i 0) 44 ≡ comma → k' ≡ k + one_if comma
+      → u ≡ kept_if m (not comma) → NumbersInv s o₀ u (set o k m) k' (i + 1)
   unfolding numbers_from
-  numbers_more m c u h l e f g = w ∙ ap (numbers_from v o k) (step s i h) ∙ rw (lt-leb (length o) k l, g, f, e)
+  numbers_more m k' u comma h l e c f g = w ∙ ap (numbers_from v o k) (step s i h) ∙ rw (lt-leb (length o) k l, g, f, e, c)
 
   pub numbers_full : length o ≤ k → filled k o ≡ numbers_from 0 o₀ 0 s
   unfolding numbers_from

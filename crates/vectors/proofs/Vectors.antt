@@ -1,13 +1,18 @@
 -- Laws of the definitions: each goes through a list from its front, so what is left from an index on is its element there, and what is
 -- left behind it.
-use Prim.Native.Nat.{ℕ, zero, suc, ◌+◌, ◌-◌, ◌*◌, ◌≤◌, ◌<◌}
+use Prim.Native.Nat.{ℕ, zero, suc, ◌+◌, ◌*◌, ◌≤◌, ◌<◌}
 use mathlib.Core.Path.{◌≡◌, refl, sym, ap, ◌∙◌}
-use mathlib.Core.Bool.{Bool, true, false, beq}
+use mathlib.Core.Bool.{Bool, true, false, cond, beq}
 use mathlib.Core.List.{List, [], ◌∷◌}
 use native.Mathlib.Numerals.{add-one}
 use native.Mathlib.Omega.{arith}
 use lib.Dec.{eqb}
 use lib.ListN.{length, drop, get_or}
+use native.Mathlib.Nat.{zero-add}
+use Rattle.std.specs.List.{count_by, fold}
+use Rattle.std.proofs.lemmas.Bool.{cases_lt}
+use mathlib.Core.Logic.{⊎_elim}
+use Rattle.std.proofs.lemmas.List.Recursion.{is_count_by}
 use lib.Seq.{drop-cons}
 use borrow.Author.Tests.{lt-ltb, le-ltb, le-leb, lt-leb}
 use Rattle.text.proofs.Booleans.{choose_true, choose_false}
@@ -51,9 +56,16 @@ module _ (s : List ℕ) (at b : ℕ) (wanted : Bool) where
       let z : before b wanted (drop i s) ≡ suc (before b wanted (drop (i + 1) s)) = ap (before b wanted) (step s i h) ∙ choose_false (beq (eqb (get_or s i 0) b) wanted) _ _ e in
       omega arith
 
-  pub find_end : (i : ℕ) → length s ≤ i → FindInv s at b wanted i → i ≡ find_of s at b wanted
+  -- none was met up to the end
+  pub find_none : (i : ℕ) → (at ≤ length s → i ≤ length s) → (at ≤ length s → FindInv s at b wanted i) → length s ≤ i → length s ≡ find_of s at b wanted
   unfolding before
-  find_end i h v = let z : before b wanted (drop i s) ≡ 0 = ap (before b wanted) (end s i h) in omega arith
+  find_none i l v h =
+      ⊎_elim (λ k. sym (find_past k))
+      (λ k.
+      let e = v k in
+      let z : before b wanted (drop i s) ≡ 0 = ap (before b wanted) (end s i h) in
+      omega (arith, l k))
+      (cases_lt (length s) at)
 
 -- ---- fields
 
@@ -77,34 +89,10 @@ word_is s k at i p z e f = ap (part_of s) (e ∙ ap (field_of s) (f ∙ ap (past
 
 -- ---- numbers, counts and sums
 
-pub hex_low : (b : ℕ) → b < 48 → 0 ≡ hex_value b
-unfolding hex_value
-hex_low b h = rw (lt-ltb b 48 h)
-
-pub hex_digit_lem : (b : ℕ) → 48 ≤ b → b ≤ 57 → b - 48 ≡ hex_value b
-unfolding hex_value
-hex_digit_lem b h l = rw (le-ltb b 48 h, le-leb b 57 l)
-
-pub hex_middle : (b : ℕ) → 57 < b → b < 97 → 0 ≡ hex_value b
-unfolding hex_value
-hex_middle b h l = rw (le-ltb b 48 (omega arith), lt-leb b 57 h, lt-ltb b 97 l)
-
-pub hex_letter : (b : ℕ) → 97 ≤ b → b ≤ 102 → b - 87 ≡ hex_value b
-unfolding hex_value
-hex_letter b h l = rw (le-ltb b 48 (omega arith), lt-leb b 57 (omega arith), le-ltb b 97 h, le-leb b 102 l)
-
-pub hex_high : (b : ℕ) → 102 < b → 0 ≡ hex_value b
-unfolding hex_value
-hex_high b h = rw (le-ltb b 48 (omega arith), lt-leb b 57 (omega arith), le-ltb b 97 (omega arith), lt-leb b 102 h)
-
 pub number_full : (v : ℕ) (xs : List ℕ) → 1000000000000000000 ≤ v → number_from v xs ≡ v
 unfolding number_from
 number_full v [] h = refl
 number_full v (x ∷ xs) h = rw (le-leb 1000000000000000000 v h)
-
--- the count from an index on, with n before it, is the whole count
-abbrev pub AloneInv : ℕ → List ℕ → ℕ → ℕ → ℕ → Type 0
-AloneInv v s from n i = alone v (drop from s) ≡ n + alone v (drop i s)
 
 module _ (s : List ℕ) (i : ℕ) where
   pub number_more : (v d : ℕ) → i < length s → v < 1000000000000000000 → d ≡ hex_value (get_or s i 0) → number_from 0 s ≡ number_from v (drop i s)
@@ -116,18 +104,17 @@ module _ (s : List ℕ) (i : ℕ) where
   unfolding number_from
   number_end v h = ap (number_from v) (end s i h)
 
-  pub alone_more : (v from n m : ℕ) → i < length s → m ≡ one_if (eqb (get_or s i 0) v) → AloneInv v s from n i → AloneInv v s from (n + m) (i + 1)
-  unfolding alone
-  alone_more v from n m h e w = let z : alone v (drop i s) ≡ m + alone v (drop (i + 1) s) = ap (alone v) (step s i h) ∙ ap (λ (k : ℕ). k + alone v (drop (i + 1) s)) (sym e) in omega arith
+-- ---- counts and sums
 
-  pub alone_done : (v from n : ℕ) → length s ≤ i → AloneInv v s from n i → n ≡ alone v (drop from s)
-  unfolding alone
-  alone_done v from n h w = let z : alone v (drop i s) ≡ 0 = ap (alone v) (end s i h) in omega arith
+one_more : (b : Bool) (n : ℕ) → one_if b + n ≡ cond b (1 + n) n
+one_more true n = refl
+one_more false n = zero-add n
 
-  pub sum_more : (z r : ℕ) → i < length s → r ≡ mixed_of z (get_or s i 0) → sum_from 0 s ≡ sum_from z (drop i s) → sum_from 0 s ≡ sum_from r (drop (i + 1) s)
-  unfolding sum_from
-  sum_more z r h e w = w ∙ ap (sum_from z) (step s i h) ∙ ap (λ (k : ℕ). sum_from k (drop (i + 1) s)) (sym e)
+pub alone_counts : (v : ℕ) (xs : List ℕ) → count_by (λ x. eqb x v) xs ≡ alone v xs
+unfolding alone
+alone_counts v xs = sym (is_count_by (alone v) (λ x. eqb x v) refl (λ x ys. one_more (eqb x v) (alone v ys)) xs)
 
-  pub sum_end : (z : ℕ) → length s ≤ i → sum_from z (drop i s) ≡ z
-  unfolding sum_from
-  sum_end z h = ap (sum_from z) (end s i h)
+pub sum_folds : (z : ℕ) (xs : List ℕ) → fold mixed_of z xs ≡ sum_from z xs
+unfolding sum_from
+sum_folds z [] = refl
+sum_folds z (x ∷ xs) = sum_folds (mixed_of z x) xs

@@ -15,10 +15,6 @@ before b wanted (x ∷ xs) = choose (beq (eqb x b) wanted) (λ u. 0) (λ u. suc 
 unfoldable pub find_of : List ℕ → ℕ → ℕ → Bool → ℕ
 find_of s at b wanted = choose (ltb (length s) at) (λ u. length s) (λ u. at + before b wanted (drop at s))
 
--- the end of the line that starts at a place
-abbrev pub line_end : List ℕ → ℕ → ℕ
-line_end s at = find_of s at 10 true
-
 -- the next field from a place on: from the first byte that is no space to the next space
 unfoldable pub field_of : List ℕ → ℕ → Part
 field_of s at = let a = find_of s at 32 false in record { start = a; end = find_of s a 32 true }

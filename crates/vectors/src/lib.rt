@@ -2,10 +2,10 @@
 // a line's fields apart, and writes what came of each.
 #![tactic(auto)]
 
-ghost use Rattle.std.specs.Prelude.{◌≤◌, ◌≡◌, length, drop};
+ghost use Rattle.std.specs.Prelude.{◌≤◌, ◌≡◌, length, drop, count_by};
 ghost use Rattle.io.specs.Counts.{IsPrefixLen};
-ghost use Rattle.vectors.specs.Vectors.{find_of, line_end, field_of, word_of, hex_value, number_from, one_if, alone, mixed_of, sum_from};
-ghost use Rattle.vectors.specs.Buffers.{filled, put, unhexed, appended, repeated, more_of, kept_if, numbers_from, pieces_from, parts_from};
+ghost use Rattle.vectors.specs.Vectors.{find_of, field_of, word_of, hex_value, number_from, alone, mixed_of, sum_from};
+ghost use Rattle.vectors.specs.Buffers.{filled, put, unhexed, appended, repeated, more_of, numbers_from, pieces_from, parts_from};
 
 // Where a field lies in its line. It is empty where there is none.
 #[derive(Clone, Copy)]
@@ -18,25 +18,12 @@ pub struct Part {
 pub fn find(s: &[u8], at: usize, b: u8, wanted: bool) -> usize
     ensures { (result ≤ length s.now) × (at ≤ length s.now → at ≤ result) × (result ≡ find_of s.now at b wanted) }
 {
-    if s.len() < at {
-        return s.len();
-    }
-    let mut i = at;
-    while i < s.len() {
-        let met = s[i] == b;
-        if met == wanted {
+    for i in at..s.len() {
+        if (s[i] == b) == wanted {
             return i;
         }
-        i += 1;
     }
-    i
-}
-
-// The end of the line that starts at a place: its LF, or the end of all.
-pub fn line_end(s: &[u8], at: usize) -> usize
-    ensures { (result ≤ length s.now) × (at ≤ length s.now → at ≤ result) × (result ≡ line_end s.now at) }
-{
-    find(s, at, b'\n', true)
+    s.len()
 }
 
 // The next field of a line from a place on.
@@ -53,34 +40,22 @@ pub fn word(s: &[u8], k: usize) -> &[u8]
     ensures { result.now ≡ word_of s.now k }
 {
     let mut at = 0;
-    let mut i = 0;
-    while i < k {
-        let part = field(s, at);
-        at = part.end;
-        i += 1;
+    for _turn in 0..k {
+        at = field(s, at).end;
     }
-    let part = field(s, at);
-    let a = part.start;
-    let e = part.end;
-    &s[a..e]
+    let Part { start, end } = field(s, at);
+    &s[start..end]
 }
 
+#[tactic(auto, unfolding(crate::specs::Vectors::hex_value))]
 fn hex_value(b: u8) -> u8
     ensures { (result ≤ 15) × (result ≡ hex_value b) }
 {
-    if b < 48 {
-        return 0;
+    match b {
+        b'0'..=b'9' => b - b'0',
+        b'a'..=b'f' => b - b'a' + 10,
+        _ => 0,
     }
-    if b <= 57 {
-        return b - 48;
-    }
-    if b < 97 {
-        return 0;
-    }
-    if b <= 102 {
-        return b - 87;
-    }
-    0
 }
 
 // The bytes that pairs of hex digits spell, as many as there is room for.
@@ -88,21 +63,11 @@ pub fn unhex(s: &[u8], out: &mut [u8]) -> usize
     ensures counts { IsPrefixLen result out.new }
     ensures left { filled result out.new ≡ put out.old 0 (unhexed s.now) }
 {
-    let mut k = 0;
-    let mut i = 0;
-    while i < s.len() {
-        let j = i + 1;
-        if s.len() <= j {
-            return k;
-        }
-        if out.len() <= k {
-            return k;
-        }
-        out[k] = hex_value(s[i]) * 16 + hex_value(s[j]);
-        k += 1;
-        i = j + 1;
+    let n = out.len().min(s.len() / 2);
+    for k in 0..n {
+        out[k] = hex_value(s[2 * k]) * 16 + hex_value(s[2 * k + 1]);
     }
-    k
+    n
 }
 
 // A decimal number. One that a u64 doesn't hold is cut short.
@@ -110,40 +75,29 @@ pub fn number(s: &[u8]) -> u64
     ensures { result ≡ number_from 0 s.now }
 {
     let mut v: u64 = 0;
-    let mut i = 0;
-    while i < s.len() {
+    for b in s {
         if 1000000000000000000 <= v {
             return v;
         }
-        v = v * 10 + hex_value(s[i]) as u64;
-        i += 1;
+        v = v * 10 + u64::from(hex_value(*b));
     }
     v
 }
 
+// A number's last 32 bits.
+pub fn small(n: u64) -> u32 {
+    (n & 0xffff_ffff) as u32
+}
+
 // A number with one more digit, kept to 32 bits; other bytes mean nothing.
+#[tactic(auto, unfolding(crate::specs::Buffers::more_of))]
 fn more(v: u32, b: u8) -> u32
     ensures { result ≡ more_of v b }
 {
-    if b < 48 {
+    if !b.is_ascii_digit() {
         return v;
     }
-    if 57 < b {
-        return v;
-    }
-    ((v as u64 * 10 + (b - 48) as u64) % 0x1_0000_0000) as u32
-}
-
-fn one_if(met: bool) -> usize
-    ensures { (result ≤ 1) × (result ≡ one_if met) }
-{
-    if met { 1 } else { 0 }
-}
-
-fn kept(v: u32, met: bool) -> u32
-    ensures { result ≡ kept_if v met }
-{
-    if met { v } else { 0 }
+    v.wrapping_mul(10).wrapping_add(u32::from(b - b'0'))
 }
 
 // The numbers of a list in which a comma stands behind each.
@@ -153,16 +107,16 @@ pub fn numbers(s: &[u8], out: &mut [u32]) -> usize
 {
     let mut v: u32 = 0;
     let mut k = 0;
-    let mut i = 0;
-    while i < s.len() {
+    for b in s {
         if out.len() <= k {
             return k;
         }
-        v = more(v, s[i]);
+        v = more(v, *b);
         out[k] = v;
-        k += one_if(s[i] == b',');
-        v = kept(v, s[i] != b',');
-        i += 1;
+        if *b == b',' {
+            k += 1;
+            v = 0;
+        }
     }
     k
 }
@@ -175,21 +129,13 @@ fn append(piece: &[u8], out: &mut [u8], from: usize) -> usize
     if out.len() < from {
         return 0;
     }
-    let mut k = from;
-    let mut i = 0;
-    while i < piece.len() {
-        if out.len() <= k {
-            return k;
-        }
-        out[k] = piece[i];
-        k += 1;
-        i += 1;
-    }
-    k
+    let n = piece.len().min(out.len() - from);
+    out[from..from + n].copy_from_slice(&piece[..n]);
+    from + n
 }
 
 // A piece so many times, behind what a buffer has.
-fn repeat(piece: &[u8], times: usize, out: &mut [u8], from: usize) -> usize
+pub fn repeat(piece: &[u8], times: usize, out: &mut [u8], from: usize) -> usize
     ensures counts { IsPrefixLen result out.new }
     ensures left { filled result out.new ≡ repeated times piece.now out.old from }
 {
@@ -197,10 +143,8 @@ fn repeat(piece: &[u8], times: usize, out: &mut [u8], from: usize) -> usize
         return 0;
     }
     let mut k = from;
-    let mut i = 0;
-    while i < times {
+    for _turn in 0..times {
         k = append(piece, out, k);
-        i += 1;
     }
     k
 }
@@ -212,13 +156,11 @@ pub fn pieces(line: &[u8], fields: u8, out: &mut [u8]) -> usize
 {
     let mut piece = [0u8; 4096];
     let mut k = 0;
-    let mut turns: usize = 0;
-    while turns < 9 {
-        let at = fields as usize + 2 * turns;
+    for turn in 0..9 {
+        let at = usize::from(fields) + 2 * turn;
         let times = number(word(line, at)) as usize;
         let n = unhex(word(line, at + 1), &mut piece);
         k = repeat(&piece[..n], times, out, k);
-        turns += 1;
     }
     k
 }
@@ -245,66 +187,43 @@ pub fn parts(s: &[u8], out: &mut [u8]) -> usize
     k
 }
 
+// How many stand at a value from a place on.
+fn alone<T: PartialEq>(s: &[T], from: usize, v: &T) -> usize
+    ensures { result ≡ count_by (λ x. T.eq x v.now) (drop from s.now) }
+{
+    s.iter().skip(from).filter(|x| *x == v).count()
+}
+
 // How many numbers stand at 2,863,311,530 from a place on.
 pub fn numbers_alone(s: &[u32], from: usize) -> usize
     ensures { result ≡ alone 2863311530 (drop from s.now) }
 {
-    let mut n = 0;
-    let mut i = from;
-    while i < s.len() {
-        n += one_if(s[i] == 2863311530);
-        i += 1;
-    }
-    n
+    alone(s, from, &2863311530)
 }
 
 // How many bytes stand at 170 from a place on.
 pub fn bytes_alone(s: &[u8], from: usize) -> usize
     ensures { result ≡ alone 170 (drop from s.now) }
 {
-    let mut n = 0;
-    let mut i = from;
-    while i < s.len() {
-        n += one_if(s[i] == 170);
-        i += 1;
-    }
-    n
+    alone(s, from, &170)
 }
 
 fn mixed(sum: u32, v: u32) -> u32
     ensures { result ≡ mixed_of sum v }
 {
-    ((sum as u64 * 31 + v as u64) % 0x1_0000_0000) as u32
-}
-
-fn mixed_byte(sum: u32, b: u8) -> u32
-    ensures { result ≡ mixed_of sum b }
-{
-    mixed(sum, b as u32)
+    sum.wrapping_mul(31).wrapping_add(v)
 }
 
 pub fn numbers_sum(s: &[u32]) -> u32
     ensures { result ≡ sum_from 0 s.now }
 {
-    let mut sum: u32 = 0;
-    let mut i = 0;
-    while i < s.len() {
-        sum = mixed(sum, s[i]);
-        i += 1;
-    }
-    sum
+    s.iter().fold(0, |sum, v| mixed(sum, *v))
 }
 
 pub fn bytes_sum(s: &[u8]) -> u32
     ensures { result ≡ sum_from 0 s.now }
 {
-    let mut sum: u32 = 0;
-    let mut i = 0;
-    while i < s.len() {
-        sum = mixed_byte(sum, s[i]);
-        i += 1;
-    }
-    sum
+    s.iter().fold(0, |sum, b| mixed(sum, u32::from(*b)))
 }
 
 pub fn write(s: &[u8]) {
@@ -312,7 +231,7 @@ pub fn write(s: &[u8]) {
 }
 
 pub fn write_number(n: usize) {
-    io::write_all(1, b" ");
+    write(b" ");
     io::print_decimal(1, n as u64);
 }
 
@@ -320,31 +239,67 @@ pub fn write_small(v: u32) {
     write_number(v as usize);
 }
 
-fn write_listed(v: u32) {
-    io::print_decimal(1, v as u64);
-    write(b",");
+// Numbers, a space before each.
+pub fn write_numbers(s: &[u64]) {
+    for n in s {
+        write(b" ");
+        io::print_decimal(1, *n);
+    }
 }
 
 // Numbers with a comma behind each, a dash where there are none.
 pub fn write_list(s: &[u32]) {
-    if s.len() == 0 {
+    if s.is_empty() {
         write(b" -");
         return;
     }
     write(b" ");
-    let mut i = 0;
-    while i < s.len() {
-        write_listed(s[i]);
-        i += 1;
+    for v in s {
+        io::print_decimal(1, u64::from(*v));
+        write(b",");
     }
 }
 
 // Bytes in hex, behind a space.
 pub fn write_hex(s: &[u8]) {
-    io::write_all(1, b" ");
-    let mut i = 0;
-    while i < s.len() {
-        io::print_hex(1, s[i] as u64, 2);
-        i += 1;
+    write(b" ");
+    for b in s {
+        io::print_hex(1, u64::from(*b), 2);
     }
+}
+
+// Runs each line of standard input, which is read as far as the buffer has room.
+pub fn run_lines<F: Fn(&[u8])>(input: &mut [u8], run_line: F)
+    requires { F.IsAlwaysCallable run_line }
+{
+    let n = io::read_full(0, input);
+    for line in input[..n].split_inclusive(|b| *b == b'\n') {
+        run_line(line.strip_suffix(b"\n").unwrap_or(line));
+    }
+}
+
+// Runs a line that is an operation's letter, a number and bytes, and writes it before what came of it. Behind a
+// small letter the bytes are the rest of the line as it stands, behind a capital they are in hex. Whether there
+// was an operation.
+pub fn run_operation<F: Fn(u8, usize, &[u8])>(line: &[u8], run: F) -> bool
+    requires { F.IsAlwaysCallable run }
+{
+    let mut spelled = [0u8; 512];
+    let op = field(line, 0);
+    let digits = field(line, op.end);
+    let Part { start, end } = field(line, digits.end);
+    let number = number(&line[digits.start..digits.end]) as usize;
+    let n = unhex(&line[start..end], &mut spelled);
+    write(line);
+    write(b" =");
+    if line.len() <= op.start {
+        return false;
+    }
+    let letter = line[op.start];
+    if letter < b'a' {
+        run(letter, number, &spelled[..n]);
+    } else {
+        run(letter, number, &line[start..]);
+    }
+    true
 }

@@ -7,7 +7,7 @@ ghost use Rattle.build.specs.Build.{SignsRoom, SignsPut, PostsRoom, PostsPut, Ch
 ghost use Rattle.records.specs.Records.{written};
 
 use super::values::suffix_at;
-use crate::{FoundPostfix, PutPostfixes};
+use crate::PutPostfixes;
 use records::inner::nodes::{put_join, put_unary};
 use table::{Join, Unary};
 use token::inner::listing::{end_at, kind_at, start_at};
@@ -39,10 +39,8 @@ pub fn put_predicates(
     ensures answer { result ≡ used + (last - at) }
     ensures table { SignsPut text.now at last z used nodes.old nodes.new }
 {
-    let mut i = last;
     let mut u = used;
-    while at < i {
-        i -= 1;
+    for i in (at..last).rev() {
         let a = start_at(text, tokens, i);
         put_unary(nodes, u, a, z, predicate_at(text, tokens, i));
         u += 1;
@@ -70,13 +68,13 @@ pub fn put_postfixes(
     loop {
         let suffix = suffix_at(text, tokens, i);
         match suffix {
-            FoundPostfix::Post(op, n) => {
+            Some((op, n)) => {
                 z = end_at(text, tokens, n - 1);
                 put_unary(nodes, u, from, z, op);
                 u += 1;
                 i = n;
             }
-            FoundPostfix::Nothing => {
+            None => {
                 return PutPostfixes {
                     next: i,
                     used: u,

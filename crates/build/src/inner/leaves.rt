@@ -1,6 +1,5 @@
 // Nodes that hold no expression.
-ghost use Rattle.std.specs.Prelude.{◌≡◌, true, ◌+◌, ◌<◌, length};
-ghost use Rattle.text.specs.declared.Scan.TheVariants as Scan;
+ghost use Rattle.std.specs.Prelude.{◌≡◌, true, ◌+◌, ◌<◌, length, None};
 ghost use Rattle.literal.specs.Escapes.{bad_escape};
 ghost use Rattle.token.specs.Table.{toks, start, end, is, Lent};
 ghost use Rattle.structure.specs.Values.{opening, literal_bytes};
@@ -12,7 +11,7 @@ use super::values::{character_at, integer_at, is_integer, opening_of};
 use crate::Placed;
 use records::inner::nodes::put_text;
 use structure::inner::tokens::spelled;
-use table::{End, Sort};
+use table::Sort;
 use token::inner::listing::{end_at, kind_at, start_at};
 use token::kind;
 
@@ -57,7 +56,7 @@ fn put_literal(
 ) -> Placed
     requires lent { Lent text.now tokens.now }
     requires at_bound { start text.now at + opening text.now at < end text.now at }
-    requires at_value { bad_escape (literal_bytes text.now at) ≡ Scan.Through }
+    requires at_value { bad_escape (literal_bytes text.now at) ≡ None }
     requires tree_room { TreeRoom (string_leaf sort text.now at next) nodes.old store.old used free }
     ensures { Built (string_leaf sort text.now at next) nodes.old store.old used free result nodes.new store.new }
 {
@@ -124,7 +123,7 @@ fn put_slice_to(
     if is_integer(text, tokens, i) {
         let to = integer_at(text, tokens, i);
         let z = end_at(text, tokens, i + 1);
-        records::inner::nodes::put_slice(nodes, used, a, z, from, End::At(to));
+        records::inner::nodes::put_slice(nodes, used, a, z, from, Some(to));
         return Placed {
             next: i + 1 + 1,
             used: used + 1,
@@ -134,7 +133,7 @@ fn put_slice_to(
         };
     }
     let z = end_at(text, tokens, i);
-    records::inner::nodes::put_slice(nodes, used, a, z, from, End::Open);
+    records::inner::nodes::put_slice(nodes, used, a, z, from, None);
     Placed {
         next: i + 1,
         used: used + 1,

@@ -6,21 +6,19 @@ ghost use Rattle.structure.specs.Values.{value_of, negated, number, is_integer, 
 ghost use Rattle.structure.specs.Structure.{postfix_at, from_number, from_comma};
 ghost use Rattle.build.specs.Build.{Accepted, suffix_of};
 
-use crate::FoundPostfix;
-use literal::Escape;
 use structure::inner::values::{integer_of, number_of};
 use table::Unary;
-use text::{Decimal, Sequence};
+use text::DecimalError;
 use token::inner::listing::{end_at, kind_at, start_at};
 use token::kind;
 
-fn worth_of(d: Decimal) -> u32
+fn worth_of(d: Result<u32, DecimalError>) -> u32
     ensures { result ≡ value_of d }
 {
     match d {
-        Decimal::Is(n) => n,
-        Decimal::Over => 0,
-        Decimal::NotDigits => 0,
+        Ok(n) => n,
+        Err(DecimalError::Over) => 0,
+        Err(DecimalError::NotDigits) => 0,
     }
 }
 
@@ -28,10 +26,7 @@ fn worth_of(d: Decimal) -> u32
 fn negate(n: u32) -> u32
     ensures { result ≡ negated n }
 {
-    if n == 0 {
-        return 0;
-    }
-    4294967295 - (n - 1)
+    n.wrapping_neg()
 }
 
 // A repeat number.
@@ -43,15 +38,15 @@ fn number_at(text: &[u8], tokens: &[u32], at: usize) -> u32
     worth_of(number_of(text, tokens, at))
 }
 
+#[tactic(auto, using(crate::proofs::Worths::integer_here, crate::proofs::Worths::integer_gone))]
 pub fn is_integer(text: &[u8], tokens: &[u32], at: usize) -> bool
     requires { Lent text.now tokens.now }
     ensures { result ≡ is_integer text.now at }
 {
-    let kind = kind_at(text, tokens, at);
-    if kind == kind::NUMBER {
-        return true;
-    }
-    kind == kind::NEGATIVE_NUMBER
+    matches!(
+        kind_at(text, tokens, at),
+        kind::NUMBER | kind::NEGATIVE_NUMBER
+    )
 }
 
 // A number of a PEEK slice, in two's complement.
@@ -84,12 +79,12 @@ fn meant(s: &[u8]) -> u32
 {
     let escape = literal::escape_at(s, 0);
     match escape {
-        Escape::Means(c, _) => c,
-        Escape::Plain => {
+        Some((c, _)) => c,
+        None => {
             let sequence = text::char_at(s, 0);
             match sequence {
-                Sequence::Is(c, _) => c,
-                Sequence::Broken => 0,
+                Some((c, _)) => c,
+                None => 0,
             }
         }
     }
@@ -107,7 +102,7 @@ pub fn character_at(text: &[u8], tokens: &[u32], at: usize) -> u32
 }
 
 // `{n}`, `{n,}`, `{n, m}`, from past the `{` on.
-fn from_number(text: &[u8], tokens: &[u32], at: usize) -> FoundPostfix
+fn from_number(text: &[u8], tokens: &[u32], at: usize) -> Option<(Unary, usize)>
     requires lent { Lent text.now tokens.now }
     requires at_value { is text.now at 20 ≡ true }
     requires accepted { Accepted (from_number text.now at) }
@@ -115,49 +110,44 @@ fn from_number(text: &[u8], tokens: &[u32], at: usize) -> FoundPostfix
 {
     let n = number_at(text, tokens, at);
     if kind_at(text, tokens, at + 1) == kind::CLOSING_BRACE {
-        return FoundPostfix::Post(Unary::RepExact(n), at + 2);
+        return Some((Unary::RepExact(n), at + 2));
     }
     let j = at + 1 + 1;
     if kind_at(text, tokens, j) == kind::CLOSING_BRACE {
-        return FoundPostfix::Post(Unary::RepMin(n), j + 1);
+        return Some((Unary::RepMin(n), j + 1));
     }
     let m = number_at(text, tokens, j);
-    FoundPostfix::Post(Unary::RepMinMax(n, m), j + 1 + 1)
+    Some((Unary::RepMinMax(n, m), j + 1 + 1))
 }
 
 // `{,n}`, from the comma on.
-fn from_comma(text: &[u8], tokens: &[u32], at: usize) -> FoundPostfix
+fn from_comma(text: &[u8], tokens: &[u32], at: usize) -> Option<(Unary, usize)>
     requires lent { Lent text.now tokens.now }
     requires accepted { Accepted (from_comma text.now at) }
     ensures { result ≡ suffix_of (from_comma text.now at) }
 {
     let j = at + 1;
     let n = number_at(text, tokens, j);
-    FoundPostfix::Post(Unary::RepMax(n), j + 1 + 1)
+    Some((Unary::RepMax(n), j + 1 + 1))
 }
 
 // The postfix at a token.
-pub fn suffix_at(text: &[u8], tokens: &[u32], at: usize) -> FoundPostfix
+#[tactic(auto, using(crate::proofs::Worths::suffix_opt, crate::proofs::Worths::suffix_rep, crate::proofs::Worths::suffix_once, crate::proofs::Worths::suffix_none, crate::proofs::Worths::suffix_number, crate::proofs::Worths::suffix_comma, crate::proofs::Worths::sound_number, crate::proofs::Worths::sound_comma, structure::proofs::Steps::sees))]
+pub fn suffix_at(text: &[u8], tokens: &[u32], at: usize) -> Option<(Unary, usize)>
     requires lent { Lent text.now tokens.now }
     requires accepted { Accepted (postfix_at text.now at) }
     ensures { result ≡ suffix_of (postfix_at text.now at) }
 {
-    let kind = kind_at(text, tokens, at);
-    if kind == kind::QUESTION {
-        return FoundPostfix::Post(Unary::Opt, at + 1);
+    match kind_at(text, tokens, at) {
+        kind::QUESTION => Some((Unary::Opt, at + 1)),
+        kind::STAR => Some((Unary::Rep, at + 1)),
+        kind::PLUS => Some((Unary::RepOnce, at + 1)),
+        kind::OPENING_BRACE => {
+            if kind_at(text, tokens, at + 1) == kind::NUMBER {
+                return from_number(text, tokens, at + 1);
+            }
+            from_comma(text, tokens, at + 1)
+        }
+        _ => None,
     }
-    if kind == kind::STAR {
-        return FoundPostfix::Post(Unary::Rep, at + 1);
-    }
-    if kind == kind::PLUS {
-        return FoundPostfix::Post(Unary::RepOnce, at + 1);
-    }
-    if kind != kind::OPENING_BRACE {
-        return FoundPostfix::Nothing;
-    }
-    let i = at + 1;
-    if kind_at(text, tokens, i) == kind::NUMBER {
-        return from_number(text, tokens, i);
-    }
-    from_comma(text, tokens, i)
 }

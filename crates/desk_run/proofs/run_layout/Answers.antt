@@ -12,8 +12,8 @@ slice_bounds-nodes-end c =
     let h = layout_inside _ _ (replicate 700 0) (replicate 60 0) (replicate 400 0) c.read_layout-layout.ensures.answered c.in-Tables.is in
     omega (arith, h.0, length-replicate {A = ℕ} 700 0)
 
-pub slice_bounds-run_block-end : goal.slice_bounds-run_block-end
-slice_bounds-run_block-end c =
+pub slice_bounds-rule-end : goal.slice_bounds-rule-end
+slice_bounds-rule-end c =
     let h = layout_inside _ _ (replicate 700 0) (replicate 60 0) (replicate 400 0) c.read_layout-layout.ensures.answered c.in-Tables.is in
     sym (length-take-le _ _ (omega (arith, h.0, length-replicate {A = ℕ} 700 0)))
 
@@ -22,8 +22,8 @@ slice_bounds-rules-end c =
     let h = layout_inside _ _ (replicate 700 0) (replicate 60 0) (replicate 400 0) c.read_layout-layout.ensures.answered c.in-Tables.is in
     omega (arith, h.1.0, length-replicate {A = ℕ} 60 0)
 
-pub slice_bounds-run_block-end-in-Tables : goal.slice_bounds-run_block-end-in-Tables
-slice_bounds-run_block-end-in-Tables c =
+pub slice_bounds-rule-end-in-Tables : goal.slice_bounds-rule-end-in-Tables
+slice_bounds-rule-end-in-Tables c =
     let h = layout_inside _ _ (replicate 700 0) (replicate 60 0) (replicate 400 0) c.read_layout-layout.ensures.answered c.in-Tables.is in
     sym (length-take-le _ _ (omega (arith, h.1.0, length-replicate {A = ℕ} 60 0)))
 
@@ -32,7 +32,7 @@ slice_bounds-store-end c =
     let h = layout_inside _ _ (replicate 700 0) (replicate 60 0) (replicate 400 0) c.read_layout-layout.ensures.answered c.in-Tables.is in
     omega (arith, h.1.1, length-replicate {A = ℕ} 400 0)
 
-pub slice_bounds-run_block-end-in-Tables-2 : goal.slice_bounds-run_block-end-in-Tables-2
-slice_bounds-run_block-end-in-Tables-2 c =
+pub slice_bounds-rule-end-in-Tables-2 : goal.slice_bounds-rule-end-in-Tables-2
+slice_bounds-rule-end-in-Tables-2 c =
     let h = layout_inside _ _ (replicate 700 0) (replicate 60 0) (replicate 400 0) c.read_layout-layout.ensures.answered c.in-Tables.is in
     sym (length-take-le _ _ (omega (arith, h.1.1, length-replicate {A = ℕ} 400 0)))

@@ -1,4 +1,6 @@
 // The texts of leaves.
+#![tactic(auto, using(text::proofs::Splices::wrote_then), unfolding(text::specs::Splice::spent, crate::specs::Printing::character, crate::specs::Printing::signed, crate::specs::Printing::sort_text, crate::specs::Printing::range_text, crate::specs::Printing::slice_text))]
+
 ghost use Rattle.std.specs.Prelude.{◌≡◌, true, ◌<◌};
 ghost use Rattle.text.specs.Splice.{Room, Wrote, spent};
 ghost use Rattle.table.specs.declared.Sort.TheVariants.{Insens, PushLiteral};
@@ -7,7 +9,7 @@ ghost use Rattle.table.specs.Check.{good_leaf};
 ghost use Rattle.forms.specs.Printing.{character, signed, end_text, sort_text, range_text, slice_text, atom_text};
 
 use literal::inner::shows::{put_literal, put_shown, spend_literal, spend_shown};
-use table::{End, Leaf, Sort};
+use table::{Leaf, Sort};
 use text::inner::digits::{put_decimal, spend_decimal};
 use text::inner::splice::{put, put_byte, spend};
 
@@ -50,33 +52,33 @@ fn put_signed(n: u32, out: &mut [u8], at: usize) -> usize
     put_decimal(0xffff_ffff - n + 1, out, a)
 }
 
-fn spend_end(left: usize, end: End) -> usize
+fn spend_end(left: usize, end: Option<u32>) -> usize
     ensures { result ≡ spent left (end_text end) }
 {
     match end {
-        End::Open => left,
-        End::At(n) => spend_signed(left, n),
+        None => left,
+        Some(n) => spend_signed(left, n),
     }
 }
 
-fn put_end(end: End, out: &mut [u8], at: usize) -> usize
+fn put_end(end: Option<u32>, out: &mut [u8], at: usize) -> usize
     requires { Room out.old at (end_text end) }
     ensures { Wrote out.old at (end_text end) out.new result }
 {
     match end {
-        End::Open => at,
-        End::At(n) => put_signed(n, out, at),
+        None => at,
+        Some(n) => put_signed(n, out, at),
     }
 }
 
 // What is left after a slice: PEEK[ and .. and ] are eight bytes.
-fn spend_slice(left: usize, start: u32, end: End) -> usize
+fn spend_slice(left: usize, start: u32, end: Option<u32>) -> usize
     ensures { result ≡ spent left (slice_text start end) }
 {
     spend_end(spend_signed(spend(left, 8), start), end)
 }
 
-fn put_slice(start: u32, end: End, out: &mut [u8], at: usize) -> usize
+fn put_slice(start: u32, end: Option<u32>, out: &mut [u8], at: usize) -> usize
     requires { Room out.old at (slice_text start end) }
     ensures { Wrote out.old at (slice_text start end) out.new result }
 {

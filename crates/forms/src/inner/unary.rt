@@ -1,7 +1,10 @@
 // What stands before and after one child.
-ghost use Rattle.std.specs.Prelude.{◌≡◌, true, [], ◌++◌};
+#![tactic(auto, unfolding(text::specs::Splice::spent, crate::specs::Printing::tag_text))]
+
+ghost use Rattle.std.specs.Prelude.{◌≡◌, ◌≤◌, true, [], ◌++◌};
 ghost use Rattle.text.specs.Splice.{Room, Wrote, spent};
-ghost use Rattle.table.specs.declared.Unary.TheVariants.{RepExact, RepMin, RepMax, RepMinMax};
+ghost use Rattle.text.specs.Digits.{decimal};
+ghost use Rattle.table.specs.declared.Unary.TheVariants.{RepMinMax};
 ghost use Rattle.table.specs.declared.Op.TheVariants.{NodeTag};
 ghost use Rattle.table.specs.Record.{wrap_of};
 ghost use Rattle.table.specs.Check.{good_op};
@@ -16,16 +19,11 @@ fn spend_unary(unary: Unary, left: usize) -> usize
     ensures { result ≡ spent left (unary_before unary ++ unary_after unary) }
 {
     match unary {
-        Unary::PosPred => spend(left, 1),
-        Unary::NegPred => spend(left, 1),
-        Unary::Opt => spend(left, 1),
-        Unary::Rep => spend(left, 1),
-        Unary::RepOnce => spend(left, 1),
         Unary::RepExact(n) => spend_decimal(spend(left, 2), n),
-        Unary::RepMin(n) => spend_decimal(spend(left, 3), n),
-        Unary::RepMax(n) => spend_decimal(spend(left, 3), n),
+        Unary::RepMin(n) | Unary::RepMax(n) => spend_decimal(spend(left, 3), n),
         Unary::RepMinMax(n, m) => spend_decimal(spend_decimal(spend(left, 4), n), m),
         Unary::Push => spend(left, 6),
+        _ => spend(left, 1),
     }
 }
 
@@ -77,46 +75,32 @@ pub fn put_front(store: &[u8], op: Op, out: &mut [u8], at: usize) -> usize
     }
 }
 
-// Writes {n}, as the next three write {n,} and {,n} and {n, m}.
-fn put_exact(n: u32, out: &mut [u8], at: usize) -> usize
-    requires { Room out.old at (unary_after (RepExact n)) }
-    ensures { Wrote out.old at (unary_after (RepExact n)) out.new result }
+// Writes a count with what stands around it, whose sizes are known so that their bytes are stored without a loop.
+fn put_count<const B: usize, const A: usize>(
+    before: &[u8; B],
+    n: u32,
+    after: &[u8; A],
+    out: &mut [u8],
+    at: usize,
+) -> usize
+    requires short_before { B ≤ 2 }
+    requires short_after { A ≤ 2 }
+    requires room { Room out.old at (before.now ++ (decimal n ++ after.now)) }
+    ensures { Wrote out.old at (before.now ++ (decimal n ++ after.now)) out.new result }
 {
-    let a = put_byte(b'{', out, at);
+    let a = put(before, out, at);
     let b = put_decimal(n, out, a);
-    put_byte(b'}', out, b)
+    put(after, out, b)
 }
 
-fn put_min(n: u32, out: &mut [u8], at: usize) -> usize
-    requires { Room out.old at (unary_after (RepMin n)) }
-    ensures { Wrote out.old at (unary_after (RepMin n)) out.new result }
-{
-    let a = put_byte(b'{', out, at);
-    let b = put_decimal(n, out, a);
-    let c = put_byte(b',', out, b);
-    put_byte(b'}', out, c)
-}
-
-fn put_max(n: u32, out: &mut [u8], at: usize) -> usize
-    requires { Room out.old at (unary_after (RepMax n)) }
-    ensures { Wrote out.old at (unary_after (RepMax n)) out.new result }
-{
-    let a = put_byte(b'{', out, at);
-    let b = put_byte(b',', out, a);
-    let c = put_decimal(n, out, b);
-    put_byte(b'}', out, c)
-}
-
+// Writes {n, m}.
 fn put_counts(n: u32, m: u32, out: &mut [u8], at: usize) -> usize
     requires { Room out.old at (unary_after (RepMinMax n m)) }
     ensures { Wrote out.old at (unary_after (RepMinMax n m)) out.new result }
 {
     let a = put_byte(b'{', out, at);
     let b = put_decimal(n, out, a);
-    let c = put_byte(b',', out, b);
-    let d = put_byte(b' ', out, c);
-    let e = put_decimal(m, out, d);
-    put_byte(b'}', out, e)
+    put_count(b", ", m, b"}", out, b)
 }
 
 // Writes what stands after the child.
@@ -128,9 +112,9 @@ pub fn put_after(unary: Unary, out: &mut [u8], at: usize) -> usize
         Unary::Opt => put_byte(b'?', out, at),
         Unary::Rep => put_byte(b'*', out, at),
         Unary::RepOnce => put_byte(b'+', out, at),
-        Unary::RepExact(n) => put_exact(n, out, at),
-        Unary::RepMin(n) => put_min(n, out, at),
-        Unary::RepMax(n) => put_max(n, out, at),
+        Unary::RepExact(n) => put_count(b"{", n, b"}", out, at),
+        Unary::RepMin(n) => put_count(b"{", n, b",}", out, at),
+        Unary::RepMax(n) => put_count(b"{,", n, b"}", out, at),
         Unary::RepMinMax(n, m) => put_counts(n, m, out, at),
         Unary::Push => put_byte(b')', out, at),
         _ => at,

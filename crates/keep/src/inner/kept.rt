@@ -7,7 +7,6 @@ ghost use Rattle.keep.specs.Packs.{parts_by};
 
 use crate::Packed;
 use states::{Conf, Feed, Lit, Stand, State, Status, Tail, Utf};
-use text::Scan;
 
 fn lit_kind(l: Lit) -> usize
     ensures { result ≡ Keep.lit_kind l }
@@ -21,15 +20,7 @@ fn lit_kind(l: Lit) -> usize
 fn tail_code(t: Tail) -> usize
     ensures { result ≡ Keep.tail_code t }
 {
-    match t {
-        Tail::T1 => 0,
-        Tail::T2 => 1,
-        Tail::T3 => 2,
-        Tail::TE0 => 3,
-        Tail::TED => 4,
-        Tail::TF0 => 5,
-        Tail::TF4 => 6,
-    }
+    t as usize
 }
 
 fn pack(code: usize, kind: usize, backslash: usize, depth: usize) -> Packed
@@ -82,27 +73,22 @@ pub fn packed(q: State) -> Packed
 }
 
 // The tokens' machine refused.
-pub fn refused(c: Conf) -> Scan
+#[tactic(auto, unfolding(states::specs::Steps::refused_at))]
+pub fn refused(c: Conf) -> Option<usize>
     ensures { result ≡ refused_at c }
 {
-    let q = c.state;
-    let p = packed(q);
-    if p.code == 29 {
-        return Scan::StopsAt(c.start);
+    match c.state {
+        State::Refused => Some(c.start),
+        _ => None,
     }
-    Scan::Through
 }
 
 // Bytes that were seen and are not yet counted.
 pub fn waiting(q: State) -> usize
     ensures { result ≡ Keep.waiting q }
 {
-    let p = packed(q);
-    let code = p.code;
-    match code {
-        24 => 1,
-        27 => 1,
-        28 => 1,
+    match q {
+        State::DocCr(_) | State::Star(_) | State::Bar(_) => 1,
         _ => 0,
     }
 }
@@ -122,27 +108,23 @@ fn utf_start(u: Utf) -> usize
 {
     match u {
         Utf::Whole => 0,
-        Utf::Mid(_, start) => start,
-        Utf::Broke(place) => place,
+        Utf::Mid(_, place) | Utf::Broke(place) => place,
     }
 }
 
 pub fn standing(c: Stand) -> Feed
     ensures { result ≡ numbered (Status.Open c) }
 {
-    let conf = c.conf;
-    let q = conf.state;
-    let p = packed(q);
-    let u = c.utf;
+    let p = packed(c.conf.state);
     Feed {
         state: p.code,
-        start: conf.start,
+        start: c.conf.start,
         seen: c.seen,
         backslash: p.backslash,
         kind: p.kind,
         depth: p.depth,
-        utf: utf_code(u),
-        sequence: utf_start(u),
+        utf: utf_code(c.utf),
+        sequence: utf_start(c.utf),
         count: c.count,
         number: 0,
     }

@@ -8,19 +8,17 @@ ghost use Rattle.text.specs.Words.{in_word, word_of};
 ghost use Rattle.known.specs.Runs.{run_from, noted, Runs};
 
 use text::Word;
-use text::inner::words::{begins_at, in_word, starts_word};
+use text::inner::words::{in_word, starts_word};
 
 // Where the run from place i on stops, by where that from the next one stops.
+#[tactic(auto, using(crate::proofs::Runs::run_step, crate::proofs::Runs::run_stop))]
 fn run_at(t: &[u8; 256], store: &[u8], i: usize, next: usize) -> usize
     requires t_value { t.now ≡ classes }
     requires i_in_bounds { i < length store.now }
     requires next_value { next ≡ run_from store.now (i + 1) }
     ensures { result ≡ run_from store.now i }
 {
-    if in_word(t, store[i]) {
-        return next;
-    }
-    i
+    if in_word(t, store[i]) { next } else { i }
 }
 
 // Keeps a stop if its place is the first of its block.
@@ -42,18 +40,10 @@ pub fn fill_runs(t: &[u8; 256], store: &[u8], runs: &mut [u32; 1024])
     ensures { Runs store.now runs.new }
 {
     let mut stop = store.len();
-    let mut i = store.len();
-    while 0 < i {
-        i -= 1;
+    for i in (0..store.len()).rev() {
         stop = run_at(t, store, i, stop);
         note(runs, i, stop);
     }
-}
-
-fn wide(x: u32) -> usize
-    ensures { result ≡ x }
-{
-    x as usize
 }
 
 // Whether there is nothing but letters, `_` and digits from p to e: byte by byte up to a place that the table has.
@@ -65,20 +55,19 @@ fn all_in_word(t: &[u8; 256], runs: &[u32; 1024], store: &[u8], p: usize, e: usi
     requires e_in_bounds { e ≤ length store.now }
     ensures { result ≡ all in_word (drop p (take e store.now)) }
 {
-    let mut i = p;
-    while i < e {
+    for i in p..e {
         if i % 64 == 0 {
-            return e <= wide(runs[i / 64]);
+            return e <= runs[i / 64] as usize;
         }
         if !in_word(t, store[i]) {
             return false;
         }
-        i += 1;
     }
     true
 }
 
 // What kind of word the part from p to e is.
+#[tactic(auto, using(crate::proofs::Runs::word_none, crate::proofs::Runs::word_start, crate::proofs::Runs::word_rest))]
 pub fn word_part(t: &[u8; 256], runs: &[u32; 1024], store: &[u8], p: usize, e: usize) -> Word
     requires t_value { t.now ≡ classes }
     requires store_len_bound { length store.now ≤ max_store }
@@ -87,17 +76,12 @@ pub fn word_part(t: &[u8; 256], runs: &[u32; 1024], store: &[u8], p: usize, e: u
     requires e_in_bounds { e ≤ length store.now }
     ensures { result ≡ word_of (drop p (take e store.now)) }
 {
-    if p == e {
+    if p == e || !starts_word(t, store[p]) || !all_in_word(t, runs, store, p + 1, e) {
         return Word::Neither;
     }
-    if !starts_word(t, store[p]) {
-        return Word::Neither;
+    if store[p..e].starts_with(b"PUSH") {
+        Word::Push
+    } else {
+        Word::Name
     }
-    if !all_in_word(t, runs, store, p + 1, e) {
-        return Word::Neither;
-    }
-    if begins_at(b"PUSH", &store[p..e], 0) {
-        return Word::Push;
-    }
-    Word::Name
 }

@@ -4,8 +4,6 @@ ghost use Rattle.std.specs.Prelude.{◌≡◌, ◌+◌, ◌≤◌, ◌<◌, leng
 ghost use Rattle.text.specs.Limits.{max_store};
 ghost use Rattle.known.specs.Stops.{stop_from, noted, Stops, ends_at, is_part};
 
-use text::Sequence;
-
 // Where the characters from place i on stop, by where those from each of the next four stop.
 fn stop_at(store: &[u8], i: usize, s1: usize, s2: usize, s3: usize, s4: usize) -> usize
     requires i_in_bounds { i < length store.now }
@@ -20,13 +18,13 @@ fn stop_at(store: &[u8], i: usize, s1: usize, s2: usize, s3: usize, s4: usize) -
     }
     let sequence = text::char_at(store, i);
     match sequence {
-        Sequence::Is(_, n) => match n {
+        Some((_, n)) => match n {
             1 => s1,
             2 => s2,
             3 => s3,
             _ => s4,
         },
-        Sequence::Broken => i,
+        None => i,
     }
 }
 
@@ -51,9 +49,7 @@ pub fn fill_stops(store: &[u8], stops: &mut [u32; 4096])
     let mut s2 = store.len();
     let mut s3 = store.len();
     let mut s4 = store.len();
-    let mut i = store.len();
-    while 0 < i {
-        i -= 1;
+    for i in (0..store.len()).rev() {
         let stop = stop_at(store, i, s1, s2, s3, s4);
         note(stops, i, stop);
         s4 = s3;
@@ -63,27 +59,13 @@ pub fn fill_stops(store: &[u8], stops: &mut [u32; 4096])
     }
 }
 
-fn wide(x: u32) -> usize
-    ensures { result ≡ x }
-{
-    x as usize
-}
-
 // Whether characters that stop at `stop` can end at e.
+#[tactic(auto, unfolding(crate::specs::Stops::ends_at))]
 fn ends(store: &[u8], stop: usize, e: usize) -> bool
     requires { stop ≤ length store.now }
     ensures { result ≡ ends_at store.now stop e }
 {
-    if stop < e {
-        return false;
-    }
-    if stop == e {
-        return true;
-    }
-    if store[e] < 128 {
-        return true;
-    }
-    191 < store[e]
+    stop == e || e < stop && !matches!(store[e], 0x80..=0xbf)
 }
 
 // Whether the part from p to e is UTF-8: character by character up to a place that the table has.
@@ -97,17 +79,17 @@ pub fn is_part(stops: &[u32; 4096], store: &[u8], p: usize, e: usize) -> bool
     let mut i = p;
     while i < e {
         if i % 64 < 4 {
-            return ends(store, wide(stops[i / 64 * 4 + i % 64]), e);
+            return ends(store, stops[i / 64 * 4 + i % 64] as usize, e);
         }
         let sequence = text::char_at(store, i);
         match sequence {
-            Sequence::Is(_, n) => {
+            Some((_, n)) => {
                 if e - i < n {
                     return false;
                 }
                 i += n;
             }
-            Sequence::Broken => {
+            None => {
                 return false;
             }
         }

@@ -1,20 +1,23 @@
 // What a node asks of a line.
+#![tactic(auto, unfolding(crate::specs::Program::act_of, crate::specs::Program::mention_of, crate::specs::Program::linked_at))]
+
 ghost use Rattle.std.specs.Prelude.{◌≡◌, ◌<◌};
 ghost use Rattle.table.specs.declared.Node.TheVariants.{Tip};
 ghost use Rattle.table.specs.Characters.{max_nodes};
 ghost use Rattle.table.specs.Record.{nodes_in};
 ghost use Rattle.links.specs.Program.{linked, unary_act, act_of, linked_at, mention_of, is_fit};
 
-use crate::{Act, Mention, Most};
+use crate::Act;
+use table::inner::layout::node_at;
 use table::{Join, Leaf, Node, Op, Sort, Unary, limits};
 
 fn linked(link: u16) -> Act
     ensures { result ≡ linked link }
 {
-    if link == 0 {
-        return Act::Any;
+    match link {
+        0 => Act::Any,
+        _ => Act::Call(usize::from(link - 1)),
     }
-    Act::Call((link - 1) as usize)
 }
 
 fn unary_act(unary: Unary, c: usize) -> Act
@@ -23,19 +26,14 @@ fn unary_act(unary: Unary, c: usize) -> Act
     match unary {
         Unary::PosPred => Act::PosPred(c),
         Unary::NegPred => Act::NegPred(c),
-        Unary::Opt => Act::Repeat(c, 0, Most::UpTo(1)),
-        Unary::Rep => Act::Repeat(c, 0, Most::NoEnd),
-        Unary::RepOnce => Act::Repeat(c, 1, Most::NoEnd),
-        Unary::RepExact(n) => Act::Repeat(c, n, Most::UpTo(n)),
-        Unary::RepMin(n) => Act::Repeat(c, n, Most::NoEnd),
-        Unary::RepMax(n) => Act::Repeat(c, 0, Most::UpTo(n)),
-        Unary::RepMinMax(n, m) => {
-            if n <= m {
-                return Act::Repeat(c, n, Most::UpTo(m));
-            }
-            Act::Unfit
-        }
-        Unary::Push => Act::Unfit,
+        Unary::Opt => Act::Repeat(c, 0, Some(1)),
+        Unary::Rep => Act::Repeat(c, 0, None),
+        Unary::RepOnce => Act::Repeat(c, 1, None),
+        Unary::RepExact(n) => Act::Repeat(c, n, Some(n)),
+        Unary::RepMin(n) => Act::Repeat(c, n, None),
+        Unary::RepMax(n) => Act::Repeat(c, 0, Some(n)),
+        Unary::RepMinMax(n, m) if n <= m => Act::Repeat(c, n, Some(m)),
+        Unary::RepMinMax(_, _) | Unary::Push => Act::Unfit,
     }
 }
 
@@ -43,14 +41,11 @@ fn leaf_act(leaf: Leaf, link: u16) -> Act
     ensures { result ≡ act_of (Tip leaf) link }
 {
     match leaf {
-        Leaf::Text(sort, p, n) => match sort {
-            Sort::Str => Act::Text(false, p, n),
-            Sort::Insens => Act::Text(true, p, n),
-            Sort::Ident => linked(link),
-            Sort::PushLiteral => Act::Unfit,
-        },
+        Leaf::Text(Sort::Str, p, n) => Act::Text(false, p, n),
+        Leaf::Text(Sort::Insens, p, n) => Act::Text(true, p, n),
+        Leaf::Text(Sort::Ident, _, _) => linked(link),
         Leaf::Range(a, b) => Act::Range(a, b),
-        Leaf::PeekSlice(_, _) => Act::Unfit,
+        Leaf::Text(Sort::PushLiteral, _, _) | Leaf::PeekSlice(_, _) => Act::Unfit,
     }
 }
 
@@ -59,15 +54,10 @@ pub fn act_of(node: Node, link: u16) -> Act
 {
     match node {
         Node::Tip(leaf) => leaf_act(leaf, link),
-        Node::One(op, c) => match op {
-            Op::Plain(unary) => unary_act(unary, c),
-            Op::NodeTag(_, _) => Act::Unfit,
-        },
-        Node::Two(join, a, b) => match join {
-            Join::Seq => Act::Seq(a, b),
-            Join::Choice => Act::Choice(a, b),
-        },
-        Node::Unknown => Act::Unfit,
+        Node::One(Op::Plain(unary), c) => unary_act(unary, c),
+        Node::Two(Join::Seq, a, b) => Act::Seq(a, b),
+        Node::Two(Join::Choice, a, b) => Act::Choice(a, b),
+        Node::One(Op::NodeTag(_, _), _) | Node::Unknown => Act::Unfit,
     }
 }
 
@@ -77,26 +67,15 @@ pub fn linked_at(nodes: &[u32], links: &[u16; limits::NODES], i: usize) -> Act
     requires i_lt_max_nodes { i < max_nodes }
     ensures { result ≡ linked_at nodes.now links.now i }
 {
-    act_of(table::inner::layout::node_at(nodes, i), links[i])
+    act_of(node_at(nodes, i), links[i])
 }
 
-pub fn mention_of(node: Node) -> Mention
+pub fn mention_of(node: Node) -> Option<(usize, usize)>
     ensures { result ≡ mention_of node }
 {
     match node {
-        Node::Tip(leaf) => match leaf {
-            Leaf::Text(sort, p, n) => match sort {
-                Sort::Str => Mention::NoName,
-                Sort::Insens => Mention::NoName,
-                Sort::Ident => Mention::Name(p, n),
-                Sort::PushLiteral => Mention::NoName,
-            },
-            Leaf::Range(_, _) => Mention::NoName,
-            Leaf::PeekSlice(_, _) => Mention::NoName,
-        },
-        Node::One(_, _) => Mention::NoName,
-        Node::Two(_, _, _) => Mention::NoName,
-        Node::Unknown => Mention::NoName,
+        Node::Tip(Leaf::Text(Sort::Ident, p, n)) => Some((p, n)),
+        _ => None,
     }
 }
 
@@ -104,32 +83,19 @@ fn fit_unary(unary: Unary) -> bool
     ensures { result ≡ is_fit (unary_act unary 0) }
 {
     match unary {
-        Unary::PosPred => true,
-        Unary::NegPred => true,
-        Unary::Opt => true,
-        Unary::Rep => true,
-        Unary::RepOnce => true,
-        Unary::RepExact(_) => true,
-        Unary::RepMin(_) => true,
-        Unary::RepMax(_) => true,
         Unary::RepMinMax(n, m) => n <= m,
         Unary::Push => false,
+        _ => true,
     }
 }
 
 fn fit_leaf(leaf: Leaf) -> bool
     ensures { result ≡ is_fit (act_of (Tip leaf) 0) }
 {
-    match leaf {
-        Leaf::Text(sort, _, _) => match sort {
-            Sort::Str => true,
-            Sort::Insens => true,
-            Sort::Ident => true,
-            Sort::PushLiteral => false,
-        },
-        Leaf::Range(_, _) => true,
-        Leaf::PeekSlice(_, _) => false,
-    }
+    !matches!(
+        leaf,
+        Leaf::Text(Sort::PushLiteral, _, _) | Leaf::PeekSlice(_, _)
+    )
 }
 
 // Whether a node can be run. It doesn't ask `act_of`: that has one caller, so that the compiler puts it into
@@ -139,11 +105,8 @@ pub fn is_fit(node: Node) -> bool
 {
     match node {
         Node::Tip(leaf) => fit_leaf(leaf),
-        Node::One(op, _) => match op {
-            Op::Plain(unary) => fit_unary(unary),
-            Op::NodeTag(_, _) => false,
-        },
+        Node::One(Op::Plain(unary), _) => fit_unary(unary),
         Node::Two(_, _, _) => true,
-        Node::Unknown => false,
+        Node::One(Op::NodeTag(_, _), _) | Node::Unknown => false,
     }
 }

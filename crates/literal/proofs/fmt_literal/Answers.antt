@@ -7,8 +7,8 @@ use Rattle.literal.proofs.fmt_literal.Goals as goal
 clauses_value_out_after : {A B : Type 0} → A × B → record { value : A; out_after : B }
 clauses_value_out_after h = record { value = h.0; out_after = h.1 }
 
-pub returns-in-StopsAt : goal.returns-in-StopsAt
-returns-in-StopsAt c = clauses_value_out_after (format_not_utf8 _ _ _ _ (sym c.first_bad-utf8.ensures ∙ c.in-StopsAt.is))
+pub returns-in-Some : goal.returns-in-Some
+returns-in-Some c = clauses_value_out_after (format_not_utf8 _ _ _ _ (sym c.first_bad-utf8.ensures ∙ c.in-Some.is))
 
 pub returns-then-spend_literal-eq0 : goal.returns-then-spend_literal-eq0
 returns-then-spend_literal-eq0 c = clauses_value_out_after (format_no_room _ _ _ (sym c.first_bad-utf8.ensures ∙ c.in_default.is) _ c.quote_byte-q.ensures _ c.spend_literal.ensures c.if-spend_literal-eq0.true)

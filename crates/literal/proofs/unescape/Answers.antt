@@ -7,17 +7,17 @@ use Rattle.literal.proofs.unescape.Goals as goal
 clauses_value_out_after : {A B : Type 0} → A × B → record { value : A; out_after : B }
 clauses_value_out_after h = record { value = h.0; out_after = h.1 }
 
-pub returns-in-StopsAt : goal.returns-in-StopsAt
-returns-in-StopsAt c = clauses_value_out_after (unescape_not_utf8 _ _ _ (sym c.first_bad-utf8.ensures ∙ c.in-StopsAt.is))
+pub returns-in-Some : goal.returns-in-Some
+returns-in-Some c = clauses_value_out_after (unescape_not_utf8 _ _ _ (sym c.first_bad-utf8.ensures ∙ c.in-Some.is))
 
-pub returns-in-StopsAt-stray : goal.returns-in-StopsAt-stray
-returns-in-StopsAt-stray c = clauses_value_out_after (unescape_no_escape _ _ _ (sym c.first_bad-utf8.ensures ∙ c.in_default.is) (sym c.no_escape-stray.ensures ∙ c.in-StopsAt-stray.is))
+pub returns-in-Some-stray : goal.returns-in-Some-stray
+returns-in-Some-stray c = clauses_value_out_after (unescape_no_escape _ _ _ (sym c.first_bad-utf8.ensures ∙ c.in_default.is) (sym c.no_escape-stray.ensures ∙ c.in-Some-stray.is))
 
-pub returns-in-StopsAt-bad : goal.returns-in-StopsAt-bad
-returns-in-StopsAt-bad c =
+pub returns-in-Some-bad : goal.returns-in-Some-bad
+returns-in-Some-bad c =
     let u = sym c.first_bad-utf8.ensures ∙ c.in_default.is in
     let e = sym c.no_escape-stray.ensures ∙ c.in_default-stray.is in
-    clauses_value_out_after (unescape_not_scalar _ _ _ u e (sym c.bad_escape-bad.ensures ∙ c.in-StopsAt-bad.is))
+    clauses_value_out_after (unescape_not_scalar _ _ _ u e (sym c.bad_escape-bad.ensures ∙ c.in-Some-bad.is))
 
 pub returns-then-spend_unescaped-eq0 : goal.returns-then-spend_unescaped-eq0
 returns-then-spend_unescaped-eq0 c =

@@ -4,14 +4,13 @@ ghost use Rattle.text.specs.Splice.{Room, Wrote, spent};
 ghost use Rattle.literal.specs.Literals.{hex_count, bare, bare_byte, show_of, shown, inside, literal, quote_byte};
 
 use crate::{Quote, Show};
-use text::Sequence;
 
 pub fn quote_byte(q: Quote) -> u8
     ensures { result ≡ quote_byte q }
 {
     match q {
-        Quote::Double => 34,
-        Quote::Single => 39,
+        Quote::Double => b'"',
+        Quote::Single => b'\'',
     }
 }
 
@@ -20,70 +19,41 @@ fn hex_count(c: u32) -> usize
     requires { c < 0x1000000 }
     ensures { result ≡ hex_count c }
 {
-    let bits = 32 - u32::leading_zeros(c);
-    let n = (bits + 3) / 4;
-    if n < 2 {
-        return 2;
-    }
-    n as usize
+    let bits = 32 - c.leading_zeros();
+    bits.div_ceil(4).max(2) as usize
 }
 
 // Whether a character prints bare. ASCII is told first, by as many tests as ASCII alone would take.
-#[tactic(auto, using(crate::proofs::Printed::bare_high))]
 fn prints_bare(c: u32) -> bool
     ensures { result ≡ bare c }
 {
-    if c < 0x20 {
-        return false;
-    }
-    if c < 0x7f {
-        return true;
-    }
-    if c < 0xa1 {
-        return false;
-    }
-    if 0x24f < c {
-        return false;
-    }
-    c != 0xad
+    matches!(c, 0x20..=0x7e | 0xa1..=0x24f) && c != 0xad
 }
 
+#[tactic(auto, unfolding(crate::specs::Literals::show_of))]
 fn show_of(q: u8, c: u32) -> Show
     ensures { result ≡ show_of q c }
 {
-    if c == text::inner::utf8::wide(q) {
+    if c == u32::from(q) {
         return Show::Pair(q);
     }
     match c {
-        92 => Show::Pair(92),
-        0 => Show::Pair(48),
-        9 => Show::Pair(116),
-        10 => Show::Pair(110),
-        13 => Show::Pair(114),
-        _ => {
-            if prints_bare(c) {
-                return Show::Bare;
-            }
-            Show::Hex
-        }
+        92 => Show::Pair(b'\\'),
+        0 => Show::Pair(b'0'),
+        9 => Show::Pair(b't'),
+        10 => Show::Pair(b'n'),
+        13 => Show::Pair(b'r'),
+        _ if prints_bare(c) => Show::Bare,
+        _ => Show::Hex,
     }
 }
 
 // Whether a byte is the whole of a character that prints bare: then it is not decoded.
-#[tactic(auto, using(crate::proofs::Printed::byte_high))]
+#[tactic(auto, using(crate::proofs::Printed::byte_is))]
 fn is_bare(q: u8, b: u8) -> bool
     ensures { result ≡ bare_byte q b }
 {
-    if b < 0x20 {
-        return false;
-    }
-    if 0x7e < b {
-        return false;
-    }
-    if b == q {
-        return false;
-    }
-    b != 92
+    matches!(b, 0x20..=0x7e) && b != q && b != b'\\'
 }
 
 // What is left after a character in a literal.
@@ -99,7 +69,7 @@ pub fn spend_shown(room: usize, q: u8, c: u32) -> usize
     }
 }
 
-// Writes a character in a literal.
+// Writes a character in a literal. Bytes are stored by themselves: to copy them out of an array is slower.
 pub fn put_shown(q: u8, c: u32, out: &mut [u8], at: usize) -> usize
     requires c_bound { c < 0x110000 }
     requires room { Room out.old at (shown q c) }
@@ -108,17 +78,17 @@ pub fn put_shown(q: u8, c: u32, out: &mut [u8], at: usize) -> usize
     let show = show_of(q, c);
     match show {
         Show::Pair(b) => {
-            out[at] = 92;
+            out[at] = b'\\';
             out[at + 1] = b;
             at + 2
         }
         Show::Bare => text::inner::utf8::put_char(c, out, at),
         Show::Hex => {
-            out[at] = 92;
-            out[at + 1] = 117;
-            out[at + 2] = 123;
+            out[at] = b'\\';
+            out[at + 1] = b'u';
+            out[at + 2] = b'{';
             let a = text::inner::digits::put_hex(hex_count(c), c, out, at + 3);
-            text::inner::splice::put_byte(125, out, a)
+            text::inner::splice::put_byte(b'}', out, a)
         }
     }
 }
@@ -136,11 +106,11 @@ fn spend_inside(s: &[u8], q: u8, room: usize) -> usize
         } else {
             let sequence = text::char_at(s, i);
             match sequence {
-                Sequence::Is(c, n) => {
+                Some((c, n)) => {
                     left = spend_shown(left, q, c);
                     i += n;
                 }
-                Sequence::Broken => {
+                None => {
                     i += 1;
                 }
             }
@@ -164,11 +134,11 @@ fn put_inside(s: &[u8], q: u8, out: &mut [u8], at: usize) -> usize
         } else {
             let sequence = text::char_at(s, i);
             match sequence {
-                Sequence::Is(c, n) => {
+                Some((c, n)) => {
                     a = put_shown(q, c, out, a);
                     i += n;
                 }
-                Sequence::Broken => {
+                None => {
                     i += 1;
                 }
             }

@@ -1,30 +1,19 @@
 // What is done at a leaf.
+#![tactic(auto, unfolding(crate::specs::Match::full, crate::specs::Match::one, crate::specs::Match::took))]
+
 ghost use Rattle.std.specs.Prelude.{◌≡◌, ◌+◌, ◌≤◌, length, drop};
-ghost use Rattle.table.specs.Characters.{within, char_of, character};
+ghost use Rattle.table.specs.Characters.{within, char_of};
 ghost use Rattle.table.specs.Record.{part};
-ghost use Rattle.matcher.specs.Match.{took, lower, alike, starts, one, any_character, full};
+ghost use Rattle.matcher.specs.Match.{took, alike, starts, one, any_character, full};
 
 use crate::Outcome;
-use links::Most;
-use table::Character;
-
-fn lower(b: u8) -> u8
-    ensures { result ≡ lower b }
-{
-    if b < 65 {
-        return b;
-    }
-    if 90 < b {
-        return b;
-    }
-    b + 32
-}
+use table::inner::characters::char_at;
 
 fn alike(fold: bool, x: u8, y: u8) -> bool
     ensures { result ≡ alike fold x y }
 {
     if fold {
-        return lower(x) == lower(y);
+        return x.eq_ignore_ascii_case(&y);
     }
     x == y
 }
@@ -40,12 +29,10 @@ fn starts_at(fold: bool, store: &[u8], p: usize, n: usize, line: &[u8], at: usiz
     if line.len() - at < n {
         return false;
     }
-    let mut j = 0;
-    while j < n {
+    for j in 0..n {
         if !alike(fold, store[p + j], line[at + j]) {
             return false;
         }
-        j += 1;
     }
     true
 }
@@ -68,41 +55,28 @@ pub(crate) fn text_at(
     Outcome::Missed(left)
 }
 
-// A character between two.
+// A between two.
 pub(crate) fn range_at(first: u32, last: u32, line: &[u8], at: usize, left: u64) -> Outcome
-    ensures { result ≡ one (within first last) (character (char_of (drop at line.now))) at left }
+    ensures { result ≡ one (within first last) (char_of (drop at line.now)) at left }
 {
-    let x = table::inner::characters::char_at(line, at);
-    match x {
-        Character::Is(c, n) => {
-            if c < first {
-                return Outcome::Missed(left);
-            }
-            if last < c {
-                return Outcome::Missed(left);
-            }
-            Outcome::Matched(at + n, left)
-        }
-        Character::Broken => Outcome::Missed(left),
+    match char_at(line, at) {
+        Some((c, n)) if first <= c && c <= last => Outcome::Matched(at + n, left),
+        _ => Outcome::Missed(left),
     }
 }
 
 // Any character.
 pub(crate) fn any_at(line: &[u8], at: usize, left: u64) -> Outcome
-    ensures { result ≡ one any_character (character (char_of (drop at line.now))) at left }
+    ensures { result ≡ one any_character (char_of (drop at line.now)) at left }
 {
-    let x = table::inner::characters::char_at(line, at);
-    match x {
-        Character::Is(_, n) => Outcome::Matched(at + n, left),
-        Character::Broken => Outcome::Missed(left),
+    match char_at(line, at) {
+        Some((_, n)) => Outcome::Matched(at + n, left),
+        None => Outcome::Missed(left),
     }
 }
 
-pub(crate) fn is_full(most: Most, n: u64) -> bool
+pub(crate) fn is_full(most: Option<u32>, n: u64) -> bool
     ensures { result ≡ full most n }
 {
-    match most {
-        Most::UpTo(m) => m as u64 <= n,
-        Most::NoEnd => false,
-    }
+    matches!(most, Some(m) if u64::from(m) <= n)
 }

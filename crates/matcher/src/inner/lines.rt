@@ -31,25 +31,19 @@ fn line_at(text: &[u8], at: usize) -> Line
     ensures { (result.end ≡ at + body_size (drop at text.now)) × (result.next ≡ at + line_size (drop at text.now)) }
 {
     let n = text.len();
-    let mut i = at;
-    while i < n {
+    for i in at..n {
         let e = i + 1;
-        if text[i] == 10 {
+        if text[i] == b'\n' {
             return Line { end: i, next: e };
         }
-        if text[i] == 13 {
-            if e < n {
-                if text[e] == 10 {
-                    return Line {
-                        end: i,
-                        next: e + 1,
-                    };
-                }
-            }
+        if text[i] == b'\r' && e < n && text[e] == b'\n' {
+            return Line {
+                end: i,
+                next: e + 1,
+            };
         }
-        i = e;
     }
-    Line { end: i, next: i }
+    Line { end: n, next: n }
 }
 
 // Runs each line from a root, as far as there is room for records.
@@ -69,9 +63,8 @@ pub(crate) fn run_lines(
 {
     let m = records.len() / ROW_SIZE;
     let n = text.len();
-    let mut k = 0;
     let mut at = 0;
-    while k < m {
+    for k in 0..m {
         if n <= at {
             return Lines::Ran(k, at);
         }
@@ -79,8 +72,7 @@ pub(crate) fn run_lines(
         let end = line.end;
         let answer = run_line(nodes, links, store, root, allowance, &text[at..end]);
         put_row(row_of(answer), records, k * ROW_SIZE);
-        k += 1;
         at = line.next;
     }
-    Lines::Ran(k, at)
+    Lines::Ran(m, at)
 }

@@ -7,10 +7,10 @@ ghost use Rattle.matcher.specs.Answers.{line_of};
 
 use super::leaves::{any_at, is_full, range_at, text_at};
 use crate::Outcome;
+use links::Act;
 use links::inner::nodes::linked_at;
-use links::{Act, Most};
 use replies::Answer;
-use table::{Fault, limits};
+use table::limits;
 
 // The nested visits that are allowed.
 const VISITS: usize = 1024;
@@ -141,7 +141,7 @@ fn repeat(
     line: &[u8],
     c: usize,
     least: u32,
-    most: Most,
+    most: Option<u32>,
     start: usize,
     depth: usize,
     allowed: u64,
@@ -165,7 +165,7 @@ fn repeat(
                 n += 1;
             }
             Outcome::Missed(m) => {
-                if least as u64 <= n {
+                if u64::from(least) <= n {
                     return Outcome::Matched(at, m);
                 }
                 return Outcome::Missed(m);
@@ -191,7 +191,7 @@ pub(crate) fn run_line(
     ensures { result ≡ line_of (linked_at nodes.now links.now) store.now root allowance line.now }
 {
     let bad = table::inner::characters::first_bad(line);
-    if let Fault::At(i) = bad {
+    if let Some(i) = bad {
         return Answer::NotUtf8(i);
     }
     let x = visit(nodes, links, store, line, root, 0, VISITS, allowance);

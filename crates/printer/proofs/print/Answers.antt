@@ -7,11 +7,11 @@ use Rattle.printer.proofs.Answers.{answer_is}
 use Rattle.printer.proofs.print.Goals as goal
 
 pub print_valid-requires : goal.print_valid-requires
-print_valid-requires c = tables_valid _ _ _ (sym c.check_tables-check.ensures ∙ c.in-Good.is)
+print_valid-requires c = tables_valid _ _ _ (sym c.check_tables.ensures ∙ c.in-Good.is)
 
 pub returns-in-Good : goal.returns-in-Good
 returns-in-Good c =
-    let a = answer_is _ _ _ _ _ (sym c.check_tables-check.ensures ∙ c.in-Good.is) c.print_valid.ensures.value in
+    let a = answer_is _ _ _ _ _ (sym c.check_tables.ensures ∙ c.in-Good.is) c.print_valid.ensures.value in
     record {
       value = a.0;
       result_value = a.1;
@@ -21,7 +21,7 @@ returns-in-Good c =
 pub returns-in-Shape : goal.returns-in-Shape
 unfolding print_in
 returns-in-Shape c =
-    let a = answer_is _ _ _ _ _ (sym c.check_tables-check.ensures ∙ c.in-Shape.is) refl in
+    let a = answer_is _ _ _ _ _ (sym c.check_tables.ensures ∙ c.in-Shape.is) refl in
     record {
       value = a.0;
       result_value = a.1;
@@ -31,7 +31,7 @@ returns-in-Shape c =
 pub returns-in-Node : goal.returns-in-Node
 unfolding print_in
 returns-in-Node c =
-    let a = answer_is _ _ _ _ _ (sym c.check_tables-check.ensures ∙ c.in-Node.is) refl in
+    let a = answer_is _ _ _ _ _ (sym c.check_tables.ensures ∙ c.in-Node.is) refl in
     record {
       value = a.0;
       result_value = a.1;
@@ -41,7 +41,7 @@ returns-in-Node c =
 pub returns-in-Rule : goal.returns-in-Rule
 unfolding print_in
 returns-in-Rule c =
-    let a = answer_is _ _ _ _ _ (sym c.check_tables-check.ensures ∙ c.in-Rule.is) refl in
+    let a = answer_is _ _ _ _ _ (sym c.check_tables.ensures ∙ c.in-Rule.is) refl in
     record {
       value = a.0;
       result_value = a.1;

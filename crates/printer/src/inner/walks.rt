@@ -125,18 +125,17 @@ pub fn write(
     write_kind(nodes, store, kind, i, out, at, place, style)
 }
 
+#[tactic(auto, unfolding(text::specs::Splice::spent, forms::specs::Printing::mark_text))]
 fn spend_mark(mark: u32, left: usize) -> usize
     ensures { result ≡ spent left (mark_text mark) }
 {
     match mark {
-        1 => spend(left, 1),
-        2 => spend(left, 1),
-        3 => spend(left, 1),
-        4 => spend(left, 1),
+        1..=4 => spend(left, 1),
         _ => left,
     }
 }
 
+#[tactic(auto, unfolding(forms::specs::Printing::mark_text))]
 fn put_mark(mark: u32, out: &mut [u8], at: usize) -> usize
     requires { Room out.old at (mark_text mark) }
     ensures { Wrote out.old at (mark_text mark) out.new result }
@@ -199,15 +198,12 @@ pub fn measure_rules(style: Style, nodes: &[u32], rules: &[u32], store: &[u8], r
     requires { Valid nodes.now rules.now store.now }
     ensures { result ≡ spent room (table_text style nodes.now rules.now store.now) }
 {
-    let m = rules.len() / RULE_SIZE;
     let mut left = room;
-    let mut k = 0;
-    while k < m {
+    for k in 0..rules.len() / RULE_SIZE {
         if left == 0 {
             return 0;
         }
         left = measure_rule(style, nodes, rules, store, k, left);
-        k += 1;
     }
     left
 }
@@ -225,12 +221,9 @@ pub fn print_rules(
     requires room { Room out.old at (table_text style nodes.now rules.now store.now) }
     ensures { Wrote out.old at (table_text style nodes.now rules.now store.now) out.new result }
 {
-    let m = rules.len() / RULE_SIZE;
     let mut a = at;
-    let mut k = 0;
-    while k < m {
+    for k in 0..rules.len() / RULE_SIZE {
         a = print_rule(style, nodes, rules, store, k, out, a);
-        k += 1;
     }
     a
 }
@@ -284,44 +277,21 @@ fn print_by(
     Printed::Used(put(&stash[..n], out, 0))
 }
 
-// Stashes of four sizes, since a local array is cleared at each call.
-fn print_small(style: Style, nodes: &[u32], rules: &[u32], store: &[u8], out: &mut [u8]) -> Printed
+// A stash of N bytes: of four sizes, since a local array is cleared at each call.
+fn print_stashed<const N: usize>(
+    style: Style,
+    nodes: &[u32],
+    rules: &[u32],
+    store: &[u8],
+    out: &mut [u8],
+) -> Printed
     requires valid { Valid nodes.now rules.now store.now }
-    requires store_len_bound { length (table_text style nodes.now rules.now store.now) ≤ 1024 }
+    requires stash_size { N ≤ 65536 }
+    requires store_len_bound { length (table_text style nodes.now rules.now store.now) ≤ N }
     ensures value { result ≡ room_of (table_text style nodes.now rules.now store.now) (length out.old) }
     ensures out_after { out.new ≡ print_in style nodes.now rules.now store.now out.old result }
 {
-    let mut stash = [0u8; 1024];
-    print_by(style, nodes, rules, store, &mut stash, out)
-}
-
-fn print_middle(style: Style, nodes: &[u32], rules: &[u32], store: &[u8], out: &mut [u8]) -> Printed
-    requires valid { Valid nodes.now rules.now store.now }
-    requires store_len_bound { length (table_text style nodes.now rules.now store.now) ≤ 8192 }
-    ensures value { result ≡ room_of (table_text style nodes.now rules.now store.now) (length out.old) }
-    ensures out_after { out.new ≡ print_in style nodes.now rules.now store.now out.old result }
-{
-    let mut stash = [0u8; 8192];
-    print_by(style, nodes, rules, store, &mut stash, out)
-}
-
-fn print_wide(style: Style, nodes: &[u32], rules: &[u32], store: &[u8], out: &mut [u8]) -> Printed
-    requires valid { Valid nodes.now rules.now store.now }
-    requires store_len_bound { length (table_text style nodes.now rules.now store.now) ≤ 32768 }
-    ensures value { result ≡ room_of (table_text style nodes.now rules.now store.now) (length out.old) }
-    ensures out_after { out.new ≡ print_in style nodes.now rules.now store.now out.old result }
-{
-    let mut stash = [0u8; 32768];
-    print_by(style, nodes, rules, store, &mut stash, out)
-}
-
-fn print_large(style: Style, nodes: &[u32], rules: &[u32], store: &[u8], out: &mut [u8]) -> Printed
-    requires valid { Valid nodes.now rules.now store.now }
-    requires store_len_bound { length (table_text style nodes.now rules.now store.now) ≤ 65536 }
-    ensures value { result ≡ room_of (table_text style nodes.now rules.now store.now) (length out.old) }
-    ensures out_after { out.new ≡ print_in style nodes.now rules.now store.now out.old result }
-{
-    let mut stash = [0u8; 65536];
+    let mut stash = [0u8; N];
     print_by(style, nodes, rules, store, &mut stash, out)
 }
 
@@ -340,16 +310,16 @@ fn print_tight(
     ensures out_after { out.new ≡ print_in style nodes.now rules.now store.now out.old result }
 {
     if most <= 1024 {
-        return print_small(style, nodes, rules, store, out);
+        return print_stashed::<1024>(style, nodes, rules, store, out);
     }
     if most <= 8192 {
-        return print_middle(style, nodes, rules, store, out);
+        return print_stashed::<8192>(style, nodes, rules, store, out);
     }
     if most <= 32768 {
-        return print_wide(style, nodes, rules, store, out);
+        return print_stashed::<32768>(style, nodes, rules, store, out);
     }
     if most <= 65536 {
-        return print_large(style, nodes, rules, store, out);
+        return print_stashed::<65536>(style, nodes, rules, store, out);
     }
     print_measured(style, nodes, rules, store, out)
 }

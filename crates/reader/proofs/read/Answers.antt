@@ -14,9 +14,9 @@ returns-then-text-gt-TEXT c =
       store = m.left.store;
     }
 
-pub returns-in-StopsAt : goal.returns-in-StopsAt
-returns-in-StopsAt c =
-    let m = read_bad _ _ _ _ _ _ c.if-text-gt-TEXT.false _ c.first_bad-utf8.ensures _ c.in-StopsAt.is _ c.refused-in-StopsAt.ensures in
+pub returns-in-Some : goal.returns-in-Some
+returns-in-Some c =
+    let m = read_bad _ _ _ _ _ _ c.if-text-gt-TEXT.false _ c.first_bad-utf8.ensures _ c.in-Some.is _ c.refused-in-Some.ensures in
     record {
       answer = m.answer;
       report = m.report;

@@ -6,16 +6,24 @@ ghost use Rattle.token.specs.Table.{room_of, Lent};
 ghost use Rattle.reader.specs.Read.{refused_by, room_for_nodes, room_for_rules, room_by, judged_of, attempt_of, Leaves, AttemptLeaves};
 
 use super::lines::number_lines;
-use crate::{Attempt, Reading};
+use crate::Reading;
 use build::inner::rules::consume_rules_with_spans;
 use structure::inner::rules::check_grammar;
 use structure::inner::values::faults;
-use structure::{Counted, Edition, Fault, Level, Refusal, Why};
+use structure::{Edition, Level, Refusal, Why};
 use table::inner::layout::{NODE_SIZE, RULE_SIZE};
 use text::limits;
-use token::Filled;
+use token::FillError;
 use token::inner::fill;
 use token::inner::listing::TOKEN_SIZE;
+
+// Counts of nodes, rules and store bytes: those that a text takes, or those that there is room for.
+#[derive(Clone, Copy)]
+struct Sizes {
+    nodes: usize,
+    rules: usize,
+    bytes: usize,
+}
 
 // A refusal as what is read.
 pub fn refused(why: Why, place: usize) -> Reading
@@ -29,51 +37,45 @@ fn room_of(numbers: usize, size: usize, limit: usize) -> usize
     requires { 0 < size }
     ensures { result ≡ min (numbers / size) limit }
 {
-    let lent = numbers / size;
-    if lent < limit { lent } else { limit }
+    (numbers / size).min(limit)
 }
 
 // The counts of what was read, if there is room for it.
-fn room_for(rules: usize, nodes: usize, bytes: usize, n: usize, r: usize, b: usize) -> Reading
-    ensures { result ≡ room_by rules nodes bytes n r b }
+fn room_for(taken: Sizes, room: Sizes) -> Reading
+    ensures { result ≡ room_by taken.rules taken.nodes taken.bytes room.nodes room.rules room.bytes }
 {
-    if r < rules {
+    if room.rules < taken.rules {
         return refused(Why::RulesRoom, 0);
     }
-    if n < nodes {
+    if room.nodes < taken.nodes {
         return refused(Why::NodesRoom, 0);
     }
-    if b < bytes {
+    if room.bytes < taken.bytes {
         return refused(Why::StoreRoom, 0);
     }
-    Reading::Read(nodes, rules, bytes)
+    Reading::Read(taken.nodes, taken.rules, taken.bytes)
 }
 
 // What a text of tokens gets: structure, then values, then room.
-fn judge(
-    text: &[u8],
-    tokens: &[u32],
-    edition: Edition,
-    level: Level,
-    n: usize,
-    r: usize,
-    b: usize,
-) -> Reading
+fn judge(text: &[u8], tokens: &[u32], edition: Edition, level: Level, room: Sizes) -> Reading
     requires { Lent text.now tokens.now }
-    ensures { result ≡ judged_of edition level text.now n r b }
+    ensures { result ≡ judged_of edition level text.now room.nodes room.rules room.bytes }
 {
     let counted = check_grammar(text, tokens, level);
     match counted {
-        Counted::Refused(refusal) => Reading::Refused(refusal),
-        Counted::Rules {
-            rules,
-            nodes,
-            bytes,
-        } => {
+        Err(refusal) => Reading::Refused(refusal),
+        Ok(counts) => {
             let fault = faults(text, tokens, edition, level);
             match fault {
-                Fault::Sound => room_for(rules, nodes, bytes, n, r, b),
-                Fault::At(refusal) => Reading::Refused(refusal),
+                None => {
+                    let taken = Sizes {
+                        nodes: counts.nodes,
+                        rules: counts.rules,
+                        bytes: counts.bytes,
+                    };
+                    room_for(taken, room)
+                }
+                Some(refusal) => Reading::Refused(refusal),
             }
         }
     }
@@ -93,9 +95,12 @@ fn judge_and_build(
     ensures answer { result ≡ judged_of edition level text.now (room_for_nodes nodes.old) (room_for_rules rules.old) (length store.old) }
     ensures left { Leaves level text.now result nodes.old rules.old store.old nodes.new rules.new store.new }
 {
-    let n = room_of(nodes.len(), NODE_SIZE, limits::NODES);
-    let r = room_of(rules.len(), RULE_SIZE, limits::RULES);
-    let answer = judge(text, tokens, edition, level, n, r, store.len());
+    let room = Sizes {
+        nodes: room_of(nodes.len(), NODE_SIZE, limits::NODES),
+        rules: room_of(rules.len(), RULE_SIZE, limits::RULES),
+        bytes: store.len(),
+    };
+    let answer = judge(text, tokens, edition, level, room);
     if let Reading::Read(used, _, _) = answer {
         consume_rules_with_spans(text, tokens, nodes, rules, store, level);
         number_lines(text, nodes, used);
@@ -113,7 +118,7 @@ pub fn list_and_read(
     nodes: &mut [u32],
     rules: &mut [u32],
     store: &mut [u8],
-) -> Attempt
+) -> Option<Reading>
     requires t_value { t.now ≡ classes }
     requires text_len_bound { length text.now ≤ max_text }
     ensures answer { result ≡ attempt_of (room_of tokens.old) edition level text.now (room_for_nodes nodes.old) (room_for_rules rules.old) (length store.old) }
@@ -121,11 +126,11 @@ pub fn list_and_read(
 {
     let filled = fill(t, text, tokens);
     match filled {
-        Filled::Full => Attempt::Full,
-        Filled::NoToken(place) => Attempt::Done(refused(Why::NoToken, place)),
-        Filled::All(n) => {
+        Err(FillError::Full) => None,
+        Err(FillError::NoToken(place)) => Some(refused(Why::NoToken, place)),
+        Ok(n) => {
             let m = n * TOKEN_SIZE;
-            Attempt::Done(judge_and_build(text, &tokens[..m], edition, level, nodes, rules, store))
+            Some(judge_and_build(text, &tokens[..m], edition, level, nodes, rules, store))
         }
     }
 }

@@ -18,6 +18,7 @@ pub fn put_rule(
     requires { RuleFits rules.old index offset length mark root a z }
     ensures { rules.new ≡ rule_written rules.old index (offset ∷ length ∷ mark ∷ root ∷ a ∷ z ∷ []) }
 {
+    // Stores one by one, as for nodes.
     let i = RULE_SIZE * index;
     rules[i] = offset as u32;
     rules[i + 1] = length as u32;

@@ -1,5 +1,5 @@
 -- The invariant: there are no more answers than `at`, and `at` is at most 1 behind the block's end, which bounds the result.
--- `line_end` gives no place before `at` and none behind the block: so each line lies in it, and what is left of it falls.
+-- `find` gives no place before `at` and none behind the block: so each line lies in it, and what is left of it falls.
 use lib.ListN.{length}
 use Prim.Native.Nat.{◌≤◌, ◌-◌, ◌+◌}
 use Rattle.replay.proofs.run_block.Given as goal

@@ -1,21 +1,20 @@
 // The token that stands when the text ends.
-ghost use Rattle.std.specs.Prelude.{◌≡◌, true, ◌+◌, ◌≤◌, ltb, eqb};
-ghost use Rattle.text.specs.Booleans.{or};
+ghost use Rattle.std.specs.Prelude.{◌≡◌, true, ◌+◌, ◌≤◌};
 ghost use Rattle.text.specs.Limits.{max_text};
 ghost use Rattle.states.specs.Keep.{state_fits};
 ghost use Rattle.states.specs.Machine as Machine;
 ghost use Rattle.steps.specs.Shapes.{finish_by};
 
-use crate::{Finish, Given};
+use super::transitions::moves::{self, Piece};
+use crate::Finish;
 use states::{Conf, State};
-use text::Scan;
 
 fn none() -> Finish
     ensures { finish_by result ≡ Machine.no_more }
 {
     Finish {
-        token: Given::No,
-        fault: Scan::Through,
+        token: None,
+        fault: None,
     }
 }
 
@@ -23,83 +22,58 @@ fn fault(place: usize) -> Finish
     ensures { finish_by result ≡ Machine.fault_at place }
 {
     Finish {
-        token: Given::No,
-        fault: Scan::StopsAt(place),
+        token: None,
+        fault: Some(place),
     }
 }
 
-// A token of n bytes.
-fn whole(kind: usize, a: usize, n: usize) -> Finish
-    requires kind_bound { kind ≤ 255 }
-    requires n_bound { a + n ≤ max_text + 1 }
-    ensures { finish_by result ≡ Machine.last kind a (a + n) }
+// The token in hand.
+fn whole(kind: usize, p: Piece) -> Finish
+    requires { kind ≤ 255 }
+    ensures { finish_by result ≡ Machine.last kind p.start (p.start + p.size) }
 {
-    let token = crate::inner::transitions::moves::token(kind, a, a + n);
     Finish {
-        token,
-        fault: Scan::Through,
+        token: moves::token(kind, p.start, p.start + p.size),
+        fault: None,
     }
 }
 
 // P to PUSH, or PUSH_LITERAL.
-fn push_ends(n: usize) -> bool
-    ensures { result ≡ or (ltb n 5) (eqb n 12) }
+fn push(p: Piece) -> Finish
+    ensures { finish_by result ≡ Machine.end_row State.Push p.start p.size }
 {
-    if n < 5 {
-        return true;
+    if p.size < 5 || p.size == 12 {
+        return whole(18, p);
     }
-    n == 12
-}
-
-fn push(a: usize, n: usize) -> Finish
-    requires { a + n ≤ max_text }
-    ensures { finish_by result ≡ Machine.end_row State.Push a n }
-{
-    if push_ends(n) {
-        return whole(18, a, n);
-    }
-    fault(a)
+    fault(p.start)
 }
 
 // By the state.
+#[tactic(auto, using(states::proofs::Small::esc_small, states::proofs::Small::un_small, states::proofs::Small::doc_small))]
 pub fn finish(c: Conf) -> Finish
     requires size_bound { c.start + c.size ≤ max_text }
     requires size_value { state_fits c.state c.size ≡ true }
     ensures { finish_by result ≡ Machine.finish c }
 {
-    let q = c.state;
     let a = c.start;
-    let n = c.size;
-    match q {
-        State::Start => none(),
-        State::Word => whole(18, a, n),
-        State::Push => push(a, n),
-        State::Num => whole(20, a, n),
-        State::Hash => fault(a),
-        State::Tag => whole(19, a, n),
-        State::Dot => fault(a),
-        State::Caret => fault(a),
-        State::Minus => fault(a),
-        State::Zeros => fault(a),
-        State::Negative => whole(21, a, n),
-        State::Str(_) => fault(a),
-        State::Esc(_, b) => fault(a + b),
-        State::X0(_, b) => fault(a + b),
-        State::X1(_, b) => fault(a + b),
-        State::U(_, b) => fault(a + b),
-        State::Un(_, b, _) => fault(a + b),
-        State::Chr => fault(a),
-        State::More(_) => fault(a),
-        State::Quote => fault(a),
-        State::Slash => fault(a),
-        State::Slash2 => none(),
-        State::Line => none(),
-        State::Doc(kind) => whole(kind, a, n),
-        State::DocCr(kind) => whole(kind, a, n + 1),
-        State::Cr => fault(a),
-        State::Com(_) => fault(a),
-        State::Star(_) => fault(a),
-        State::Bar(_) => fault(a),
-        State::Refused => fault(a),
+    let p = Piece {
+        start: a,
+        size: c.size,
+    };
+    match c.state {
+        State::Start | State::Slash2 | State::Line => none(),
+        State::Word => whole(18, p),
+        State::Push => push(p),
+        State::Num => whole(20, p),
+        State::Tag => whole(19, p),
+        State::Negative => whole(21, p),
+        State::Doc(kind) => whole(kind, p),
+        State::DocCr(kind) => whole(kind, p.longer()),
+        State::Esc(_, b)
+        | State::X0(_, b)
+        | State::X1(_, b)
+        | State::U(_, b)
+        | State::Un(_, b, _) => fault(a + b),
+        _ => fault(a),
     }
 }

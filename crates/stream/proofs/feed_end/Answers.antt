@@ -19,23 +19,23 @@ pub put_two-requires : goal.put_two-requires
 put_two-requires c =
     let e = sym c.status-status.ensures ∙ c.in-Open.is in
     let p = opened_sound c.args.state c.in-Open.c e in
-    let g = rw c.in-Moves.is at c.last-last.ensures in
+    let g = rw c.in-Ok.is at c.last-last.ensures in
     record {
       n_bound = omega (arith, p.count, p.sum, p.short);
-      here_value = last_room (room_of c.args.list.now) c.in-Open.c (list_of c.in-Moves.before ++ list_of c.in-Moves.here) c.in-Moves.next g;
+      here_value = last_room (room_of c.args.list.now) c.in-Open.c (list_of c.in-Ok.moved.before ++ list_of c.in-Ok.moved.here) c.in-Ok.moved.stand g;
     }
 
 pub overflow_add-records : goal.overflow_add-records
 overflow_add-records c =
     let e = sym c.status-status.ensures ∙ c.in-Open.is in
     let p = opened_sound c.args.state c.in-Open.c e in
-    omega (arith, c.many.ensures, many_small c.in-Moves.before, p.count, p.sum, p.short)
+    omega (arith, c.many.ensures, many_small c.in-Ok.moved.before, p.count, p.sum, p.short)
 
-pub overflow_add-records-in-Moves : goal.overflow_add-records-in-Moves
-overflow_add-records-in-Moves c =
+pub overflow_add-records-in-Ok : goal.overflow_add-records-in-Ok
+overflow_add-records-in-Ok c =
     let e = sym c.status-status.ensures ∙ c.in-Open.is in
     let p = opened_sound c.args.state c.in-Open.c e in
-    omega (arith, c.many.ensures, c.many-in-Moves.ensures, many_small c.in-Moves.before, many_small c.in-Moves.here, p.count, p.sum, p.short)
+    omega (arith, c.many.ensures, c.many-in-Ok.ensures, many_small c.in-Ok.moved.before, many_small c.in-Ok.moved.here, p.count, p.sum, p.short)
 
 pub returns-in-Held : goal.returns-in-Held
 returns-in-Held c =
@@ -45,21 +45,21 @@ returns-in-Held c =
       held = end_held_in c.args.state [] c.args.list.now c.in-Held.number c.in-Held.place c.in-Held.records e;
     }
 
-pub returns-in-Stops : goal.returns-in-Stops
-returns-in-Stops c =
+pub returns-in-Err : goal.returns-in-Err
+returns-in-Err c =
     let e = sym c.status-status.ensures ∙ c.in-Open.is in
-    let g = rw c.in-Stops.is at c.last-last.ensures in
+    let g = rw c.in-Err.is at c.last-last.ensures in
     record {
-      answer = c.refused-in-Stops.ensures ∙ end_refused c.args.state [] c.args.list.now c.in-Open.c e c.in-Stops.number c.in-Stops.place g;
-      held = end_refused_in c.args.state [] c.args.list.now c.in-Open.c e c.in-Stops.number c.in-Stops.place g;
+      answer = c.refused-in-Err.ensures ∙ end_refused c.args.state [] c.args.list.now c.in-Open.c e c.in-Err.stop.number c.in-Err.stop.place g;
+      held = end_refused_in c.args.state [] c.args.list.now c.in-Open.c e c.in-Err.stop.number c.in-Err.stop.place g;
     }
 
-pub returns-in-Moves : goal.returns-in-Moves
-returns-in-Moves c =
+pub returns-in-Ok : goal.returns-in-Ok
+returns-in-Ok c =
     let e = sym c.status-status.ensures ∙ c.in-Open.is in
-    let g = rw c.in-Moves.is at c.last-last.ensures in
-    let m = many_two c.in-Open.c.count c.many.result c.many-in-Moves.result c.in-Moves.before c.in-Moves.here c.many.ensures c.many-in-Moves.ensures in
+    let g = rw c.in-Ok.is at c.last-last.ensures in
+    let m = many_two c.in-Open.c.count c.many.result c.many-in-Ok.result c.in-Ok.moved.before c.in-Ok.moved.here c.many.ensures c.many-in-Ok.ensures in
     record {
-      answer = c.good.ensures ∙ ap (standing c.in-Moves.next) m ∙ end_good c.args.state [] c.args.list.now c.in-Open.c e (list_of c.in-Moves.before ++ list_of c.in-Moves.here) c.in-Moves.next g;
-      held = c.put_two.ensures ∙ end_good_in c.args.state [] c.args.list.now c.in-Open.c e (list_of c.in-Moves.before ++ list_of c.in-Moves.here) c.in-Moves.next g;
+      answer = c.good.ensures ∙ ap (standing c.in-Ok.moved.stand) m ∙ end_good c.args.state [] c.args.list.now c.in-Open.c e (list_of c.in-Ok.moved.before ++ list_of c.in-Ok.moved.here) c.in-Ok.moved.stand g;
+      held = c.put_two.ensures ∙ end_good_in c.args.state [] c.args.list.now c.in-Open.c e (list_of c.in-Ok.moved.before ++ list_of c.in-Ok.moved.here) c.in-Ok.moved.stand g;
     }

@@ -24,20 +24,20 @@ returns-in-Held c =
       held = feed_held_in c.args.state c.args.packet.now c.args.list.now c.in-Held.number c.in-Held.place c.in-Held.records e;
     }
 
-pub returns-in-Refuses : goal.returns-in-Refuses
-returns-in-Refuses c =
+pub returns-in-Err : goal.returns-in-Err
+returns-in-Err c =
     let e = sym c.status-status.ensures ∙ c.in-Open.is in
-    let g = ran_refuses (ran_of (room_of c.args.list.now) c.in-Open.c c.args.packet.now) c.in-Refuses.number c.in-Refuses.place (sym c.in-Refuses.is ∙ c.feed-ran.ensures.answer) in
+    let g = ran_refuses (ran_of (room_of c.args.list.now) c.in-Open.c c.args.packet.now) c.in-Err.stop (sym c.in-Err.is ∙ c.feed-ran.ensures.answer) in
     record {
-      answer = c.refused-in-Refuses.ensures ∙ feed_refused c.args.state c.args.packet.now c.args.list.now c.in-Open.c e c.in-Refuses.number c.in-Refuses.place g;
-      held = c.feed-ran.ensures.held ∙ ap (λ (z : Step). sets c.args.list.now (c.in-Open.c.count * 3) (flat (gives_of z))) g ∙ feed_refused_in c.args.state c.args.packet.now c.args.list.now c.in-Open.c e c.in-Refuses.number c.in-Refuses.place g;
+      answer = c.refused-in-Err.ensures ∙ feed_refused c.args.state c.args.packet.now c.args.list.now c.in-Open.c e c.in-Err.stop.number c.in-Err.stop.place g;
+      held = c.feed-ran.ensures.held ∙ ap (λ (z : Step). sets c.args.list.now (c.in-Open.c.count * 3) (flat (gives_of z))) g ∙ feed_refused_in c.args.state c.args.packet.now c.args.list.now c.in-Open.c e c.in-Err.stop.number c.in-Err.stop.place g;
     }
 
-pub returns-in-Stands : goal.returns-in-Stands
-returns-in-Stands c =
+pub returns-in-Ok : goal.returns-in-Ok
+returns-in-Ok c =
     let e = sym c.status-status.ensures ∙ c.in-Open.is in
-    let w = ran_stands (ran_of (room_of c.args.list.now) c.in-Open.c c.args.packet.now) c.in-Stands.next (sym c.in-Stands.is ∙ c.feed-ran.ensures.answer) in
+    let w = ran_stands (ran_of (room_of c.args.list.now) c.in-Open.c c.args.packet.now) c.in-Ok.next (sym c.in-Ok.is ∙ c.feed-ran.ensures.answer) in
     record {
-      answer = c.good.ensures ∙ feed_good c.args.state c.args.packet.now c.args.list.now c.in-Open.c e w.tokens c.in-Stands.next w.stands;
-      held = c.feed-ran.ensures.held ∙ feed_good_in c.args.state c.args.packet.now c.args.list.now c.in-Open.c e w.tokens c.in-Stands.next w.stands;
+      answer = c.good.ensures ∙ feed_good c.args.state c.args.packet.now c.args.list.now c.in-Open.c e w.tokens c.in-Ok.next w.stands;
+      held = c.feed-ran.ensures.held ∙ feed_good_in c.args.state c.args.packet.now c.args.list.now c.in-Open.c e w.tokens c.in-Ok.next w.stands;
     }

@@ -9,23 +9,18 @@ ghost use Rattle.stream.specs.Shapes.{ran_by, gives_of, Coherent};
 ghost use Rattle.stream.specs.Quick.{start_at, is_between, Free, HoldsIf, Leapt};
 
 use super::rooms;
-use crate::{Ahead, Part, Ran, Stepped};
+use crate::{Part, Stop};
 use states::{Conf, Stand, State, Utf};
-use text::{Scan, limits};
+use steps::inner::transitions::moves;
+use text::limits;
 use token::Token;
 
 // The stream stands between tokens and between characters.
+#[tactic(auto, unfolding(crate::specs::Quick::is_between))]
 fn between(c: Stand) -> bool
     ensures { result ≡ is_between c }
 {
-    let conf = c.conf;
-    let q = conf.state;
-    let p = keep::inner::kept::packed(q);
-    let u = c.utf;
-    if p.code == 0 {
-        return keep::inner::kept::utf_code(u) == 0;
-    }
-    false
+    matches!(c.conf.state, State::Start) && matches!(c.utf, Utf::Whole)
 }
 
 fn start_at(place: usize, count: usize) -> Stand
@@ -43,22 +38,6 @@ fn start_at(place: usize, count: usize) -> Stand
     }
 }
 
-// There is a byte for the table, and room for the two tokens that it may end.
-fn is_slow(c: Stand, i: usize, len: usize, n: usize, space: usize) -> bool
-    ensures { result ≡ true → (i < len) × (n + 2 ≤ space) }
-{
-    if len <= i {
-        return false;
-    }
-    if space < 2 {
-        return false;
-    }
-    if space - 2 < n {
-        return false;
-    }
-    !between(c)
-}
-
 // A packet may begin inside a token: by the table, up to the first place between tokens.
 fn settle(t: &[u8; 256], room: usize, from: Stand, packet: &[u8], stash: &mut [u32]) -> Part
     requires t_value { t.now ≡ classes }
@@ -67,47 +46,37 @@ fn settle(t: &[u8; 256], room: usize, from: Stand, packet: &[u8], stash: &mut [u
 {
     let space = stash.len() / 3;
     let mut c = from;
-    let mut i = 0;
     let mut n = 0;
-    loop {
-        if !is_slow(c, i, packet.len(), n, space) {
+    for (i, x) in packet.iter().enumerate() {
+        // A byte may end two tokens.
+        if between(c) || space < n + 2 {
             return Part { stand: c, at: i };
         }
-        let stepped = super::step(t, room, c, packet[i]);
-        match stepped {
-            Stepped::Stops(_, _) => {
-                return Part { stand: c, at: i };
-            }
-            Stepped::Moves(before, here, next) => {
-                rooms::put_two(stash, n, before, here);
-                n = n + rooms::many(before) + rooms::many(here);
-                c = next;
-                i += 1;
-            }
-        }
+        let Ok(moved) = super::step(t, room, c, *x) else {
+            return Part { stand: c, at: i };
+        };
+        rooms::put_two(stash, n, moved.before, moved.here);
+        n += rooms::many(moved.before) + rooms::many(moved.here);
+        c = moved.stand;
+    }
+    Part {
+        stand: c,
+        at: packet.len(),
     }
 }
 
 // The end of a token is known: a doc's where its line's end is there too.
-fn ahead(t: &[u8; 256], packet: &[u8], at: usize) -> Ahead
+fn ahead(t: &[u8; 256], packet: &[u8], at: usize) -> Option<(usize, usize, usize)>
     requires { t.now ≡ classes }
     ensures { HoldsIf packet.now at result }
 {
-    let token = token::inner::token_at(t, packet, at);
-    match token {
-        Token::End => Ahead::Nothing,
-        Token::NoToken(_) => Ahead::Nothing,
+    match token::inner::token_at(t, packet, at) {
+        Token::End | Token::NoToken(_) => None,
         Token::Found { kind, start, end } => {
-            if packet.len() <= end {
-                return Ahead::Nothing;
+            if packet.len() <= end || packet.len() - end < 2 || 128 <= packet[end] {
+                return None;
             }
-            if packet.len() - end < 2 {
-                return Ahead::Nothing;
-            }
-            if 128 <= packet[end] {
-                return Ahead::Nothing;
-            }
-            Ahead::Token(kind as usize, start, end)
+            Some((usize::from(kind), start, end))
         }
     }
 }
@@ -117,14 +86,10 @@ fn may_leap(c: Stand, rest: &[u8]) -> bool
     requires { Coherent c }
     ensures { result ≡ true → Free c rest.now }
 {
-    if limits::TEXT - c.seen < rest.len() {
+    if limits::TEXT - c.seen < rest.len() || !between(c) {
         return false;
     }
-    let bad = text::first_bad(rest);
-    match bad {
-        Scan::Through => between(c),
-        Scan::StopsAt(_) => false,
-    }
+    matches!(text::first_bad(rest), None)
 }
 
 // From token to token, as long as the packet holds their ends and there is room for them. In the stash
@@ -151,35 +116,18 @@ fn leap(
     let mut seen = from.seen;
     let mut count = from.count;
     let mut at = i;
-    let mut n = m;
-    while n < space {
+    for n in m..space {
         if room <= count {
-            return Part {
-                stand: start_at(seen, count),
-                at,
-            };
+            break;
         }
-        let next = ahead(t, packet, at);
-        match next {
-            Ahead::Nothing => {
-                return Part {
-                    stand: start_at(seen, count),
-                    at,
-                };
-            }
-            Ahead::Token(kind, start, end) => {
-                let token = steps::inner::transitions::moves::token(
-                    kind,
-                    seen + (start - at),
-                    seen + (end - at),
-                );
-                rooms::put(stash, n, token);
-                seen = seen + (end - at);
-                count += 1;
-                n += 1;
-                at = end;
-            }
-        }
+        let Some((kind, start, end)) = ahead(t, packet, at) else {
+            break;
+        };
+        let token = moves::token(kind, seen + (start - at), seen + (end - at));
+        rooms::put(stash, n, token);
+        seen += end - at;
+        count += 1;
+        at = end;
     }
     Part {
         stand: start_at(seen, count),
@@ -193,10 +141,8 @@ fn copy(list: &mut [u32], at: usize, stash: &[u32], n: usize)
     requires n_in_bounds_2 { 0 < n → at + n ≤ length list.old }
     ensures { list.new ≡ sets list.old at (take n stash.now) }
 {
-    let mut i = 0;
-    while i < n {
-        list[at + i] = stash[i];
-        i += 1;
+    if 0 < n {
+        list[at..at + n].copy_from_slice(&stash[..n]);
     }
 }
 
@@ -204,18 +150,19 @@ fn copy(list: &mut [u32], at: usize, stash: &[u32], n: usize)
 fn cut(packet: &[u8]) -> usize
     ensures { result ≤ length packet.now }
 {
-    let mut end = packet.len();
-    while 0 < end {
-        if packet[end - 1] < 128 {
-            return end;
-        }
-        end -= 1;
-    }
-    0
+    packet
+        .iter()
+        .rposition(|b| *b < 128)
+        .map_or(0, |last| last + 1)
 }
 
 // A packet.
-pub(crate) fn fast(t: &[u8; 256], from: Stand, packet: &[u8], list: &mut [u32]) -> Ran
+pub(crate) fn fast(
+    t: &[u8; 256],
+    from: Stand,
+    packet: &[u8],
+    list: &mut [u32],
+) -> Result<Stand, Stop>
     requires t_value { t.now ≡ classes }
     requires coherent { Coherent from }
     ensures answer { result ≡ ran_by (ran_of (room_of list.old) from packet.now) }
@@ -237,13 +184,8 @@ pub(crate) fn fast(t: &[u8; 256], from: Stand, packet: &[u8], list: &mut [u32]) 
     );
     let c = middle.stand;
     let at = middle.at;
-    let ran = super::run(t, room, c, &packet[at..]);
-    match ran {
-        Ran::Refuses(number, place) => Ran::Refuses(number, place),
-        Ran::Stands(next) => {
-            copy(list, from.count * 3, &stash, (c.count - from.count) * 3);
-            super::write(t, c, &packet[at..], list);
-            Ran::Stands(next)
-        }
-    }
+    let next = super::run(t, room, c, &packet[at..])?;
+    copy(list, from.count * 3, &stash, (c.count - from.count) * 3);
+    super::write(t, c, &packet[at..], list);
+    Ok(next)
 }

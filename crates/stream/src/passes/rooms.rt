@@ -1,69 +1,78 @@
 // Room in the list, and records into it.
-ghost use Rattle.std.specs.Prelude.{◌≡◌, ◌++◌, ◌*◌, ◌≤◌, length};
+ghost use Rattle.std.specs.Prelude.{◌≡◌, ◌++◌, ◌*◌, ◌≤◌, length, None};
 ghost use Rattle.std.proofs.lemmas.List.Edits.{sets};
 ghost use Rattle.token.specs.Table.{flat, room_of};
 ghost use Rattle.states.specs.Steps.{over_at};
 ghost use Rattle.steps.specs.Shapes.{list_of};
 
-use steps::Given;
-use text::Scan;
-
-pub(crate) fn many(g: Given) -> usize
+pub(crate) fn many(g: Option<(u32, u32, u32)>) -> usize
     ensures { result ≡ length (list_of g) }
 {
     match g {
-        Given::No => 0,
-        Given::Yes(_, _, _) => 1,
+        None => 0,
+        Some((_, _, _)) => 1,
     }
 }
 
 // A token for which there is no room behind n records.
-pub(crate) fn over(room: usize, n: usize, g: Given) -> Scan
+#[tactic(auto, unfolding(states::specs::Steps::over_at))]
+pub(crate) fn over(room: usize, n: usize, g: Option<(u32, u32, u32)>) -> Option<usize>
     ensures { result ≡ over_at room n (list_of g) }
 {
     match g {
-        Given::No => Scan::Through,
-        Given::Yes(_, start, _) => {
+        None => None,
+        Some((_, start, _)) => {
             if n < room {
-                return Scan::Through;
+                return None;
             }
-            Scan::StopsAt(start as usize)
+            Some(start as usize)
         }
     }
 }
 
-// The first of two.
-pub(crate) fn over_two(room: usize, n: usize, before: Given, here: Given) -> Scan
+// The first of two. Asking `over` of each in turn takes a tenth more instructions for a byte.
+#[tactic(auto, unfolding(states::specs::Steps::over_at))]
+pub(crate) fn over_two(
+    room: usize,
+    n: usize,
+    before: Option<(u32, u32, u32)>,
+    here: Option<(u32, u32, u32)>,
+) -> Option<usize>
     requires { n ≤ 70000 }
     ensures { result ≡ over_at room n (list_of before ++ list_of here) }
 {
     match before {
-        Given::No => over(room, n, here),
-        Given::Yes(_, start, _) => {
+        None => over(room, n, here),
+        Some((_, start, _)) => {
             if n < room {
                 return over(room, n + 1, here);
             }
-            Scan::StopsAt(start as usize)
+            Some(start as usize)
         }
     }
 }
 
 // A record behind n others.
-pub(crate) fn put(list: &mut [u32], n: usize, g: Given)
-    requires { over_at (room_of list.old) n (list_of g) ≡ Scan.Through }
+pub(crate) fn put(list: &mut [u32], n: usize, g: Option<(u32, u32, u32)>)
+    requires { over_at (room_of list.old) n (list_of g) ≡ None }
     ensures { list.new ≡ sets list.old (n * 3) (flat (list_of g)) }
 {
     match g {
-        Given::No => {}
-        Given::Yes(kind, start, end) => {
+        None => {}
+        Some((kind, start, end)) => {
             token::inner::listing::put_token(list, n, kind, start, end);
         }
     }
 }
 
-pub(crate) fn put_two(list: &mut [u32], n: usize, before: Given, here: Given)
+pub(crate) fn put_two(
+    list: &mut [u32],
+    n: usize,
+    before: Option<(u32, u32, u32)>,
+    here: Option<(u32, u32, u32)>,
+)
     requires n_bound { n ≤ 70000 }
-    requires here_value { over_at (room_of list.old) n (list_of before ++ list_of here) ≡ Scan.Through }
+    requires here_value { over_at (room_of list.old) n (list_of before ++ list_of here) ≡ None }
     ensures { list.new ≡ sets list.old (n * 3) (flat (list_of before ++ list_of here)) }
 {
     put(list, n, before);

@@ -6,74 +6,74 @@ ghost use Rattle.structure.specs.Structure.{postfix_at, to_most, from_number, fr
 ghost use Rattle.structure.specs.Answers.{summary, past_integer, tail_of};
 
 use super::tokens::{not_allowed, refused_at};
-use crate::{Checked, PostfixEnd, Wanted, Why};
+use crate::{Piece, Refusal, Why};
 use text::limits;
 use token::inner::listing::kind_at;
 use token::kind;
 
 // A maximum and `}`, from the maximum on.
-fn most_end(text: &[u8], tokens: &[u32], at: usize) -> PostfixEnd
+fn most_end(text: &[u8], tokens: &[u32], at: usize) -> Result<Option<usize>, Refusal>
     requires { Lent text.now tokens.now }
     ensures { (v : ℕ → Unary) → result ≡ tail_of (to_most text.now at v) }
 {
     let most = super::tokens::expect(text, tokens, at, kind::NUMBER);
-    let Wanted::Here(k) = most else {
-        return PostfixEnd::Bad(not_allowed(text, tokens, at));
+    let Some(k) = most else {
+        return Err(not_allowed(text, tokens, at));
     };
     let close = super::tokens::expect(text, tokens, k, kind::CLOSING_BRACE);
-    let Wanted::Here(n) = close else {
-        return PostfixEnd::Bad(not_allowed(text, tokens, k));
+    let Some(n) = close else {
+        return Err(not_allowed(text, tokens, k));
     };
-    PostfixEnd::Past(n)
+    Ok(Some(n))
 }
 
 // `{n}`, `{n,}`, `{n, m}`, from the n on.
-fn number_end(text: &[u8], tokens: &[u32], at: usize) -> PostfixEnd
+fn number_end(text: &[u8], tokens: &[u32], at: usize) -> Result<Option<usize>, Refusal>
     requires lent { Lent text.now tokens.now }
     requires at_in_bounds { at < length (toks text.now) }
     ensures { result ≡ tail_of (from_number text.now at) }
 {
     let i = at + 1;
     if kind_at(text, tokens, i) == kind::CLOSING_BRACE {
-        return PostfixEnd::Past(i + 1);
+        return Ok(Some(i + 1));
     }
     let comma = super::tokens::expect(text, tokens, i, kind::COMMA);
-    let Wanted::Here(j) = comma else {
-        return PostfixEnd::Bad(not_allowed(text, tokens, i));
+    let Some(j) = comma else {
+        return Err(not_allowed(text, tokens, i));
     };
     if kind_at(text, tokens, j) == kind::CLOSING_BRACE {
-        return PostfixEnd::Past(j + 1);
+        return Ok(Some(j + 1));
     }
     most_end(text, tokens, j)
 }
 
 // `{,n}`, from the comma on.
-fn comma_end(text: &[u8], tokens: &[u32], at: usize) -> PostfixEnd
+fn comma_end(text: &[u8], tokens: &[u32], at: usize) -> Result<Option<usize>, Refusal>
     requires { Lent text.now tokens.now }
     ensures { result ≡ tail_of (from_comma text.now at) }
 {
     let comma = super::tokens::expect(text, tokens, at, kind::COMMA);
-    let Wanted::Here(j) = comma else {
-        return PostfixEnd::Bad(not_allowed(text, tokens, at));
+    let Some(j) = comma else {
+        return Err(not_allowed(text, tokens, at));
     };
     most_end(text, tokens, j)
 }
 
-// Where the postfix ends that stands at an index.
-pub fn postfix_end(text: &[u8], tokens: &[u32], at: usize) -> PostfixEnd
+// Past the postfix at an index, if one stands there.
+pub fn postfix_end(text: &[u8], tokens: &[u32], at: usize) -> Result<Option<usize>, Refusal>
     requires { Lent text.now tokens.now }
     ensures { result ≡ tail_of (postfix_at text.now at) }
 {
     let k = kind_at(text, tokens, at);
     match k {
-        kind::QUESTION | kind::STAR | kind::PLUS => PostfixEnd::Past(at + 1),
+        kind::QUESTION | kind::STAR | kind::PLUS => Ok(Some(at + 1)),
         kind::OPENING_BRACE => {
             if kind_at(text, tokens, at + 1) == kind::NUMBER {
                 return number_end(text, tokens, at + 1);
             }
             comma_end(text, tokens, at + 1)
         }
-        _ => PostfixEnd::Ended,
+        _ => Ok(None),
     }
 }
 
@@ -90,79 +90,79 @@ fn past_integer(text: &[u8], tokens: &[u32], at: usize) -> usize
 }
 
 // `PEEK[` from `..` to `]`, from past the `[` on.
-fn check_slice(text: &[u8], tokens: &[u32], at: usize, i: usize) -> Checked
+fn check_slice(text: &[u8], tokens: &[u32], at: usize, i: usize) -> Result<Piece, Refusal>
     requires { Lent text.now tokens.now }
     ensures { result ≡ summary (slice text.now at i) }
 {
     let from = past_integer(text, tokens, i);
     let dots = super::tokens::expect(text, tokens, from, kind::DOTS);
-    let Wanted::Here(j) = dots else {
-        return Checked::Refused(not_allowed(text, tokens, from));
+    let Some(j) = dots else {
+        return Err(not_allowed(text, tokens, from));
     };
     let to = past_integer(text, tokens, j);
     let close = super::tokens::expect(text, tokens, to, kind::CLOSING_BRACK);
-    let Wanted::Here(n) = close else {
-        return Checked::Refused(not_allowed(text, tokens, to));
+    let Some(n) = close else {
+        return Err(not_allowed(text, tokens, to));
     };
-    Checked::Good {
+    Ok(Piece {
         next: n,
         nodes: 1,
         bytes: 0,
-    }
+    })
 }
 
 // `PUSH_LITERAL(` string `)`.
-fn check_push_literal(text: &[u8], tokens: &[u32], at: usize, deep: usize) -> Checked
+fn check_push_literal(text: &[u8], tokens: &[u32], at: usize, deep: usize) -> Result<Piece, Refusal>
     requires lent { Lent text.now tokens.now }
     requires at_in_bounds { at < length (toks text.now) }
     ensures { result ≡ summary (pushed deep text.now at) }
 {
     let bracket = super::tokens::expect(text, tokens, at + 1, kind::OPENING_PAREN);
-    let Wanted::Here(i) = bracket else {
-        return Checked::Refused(not_allowed(text, tokens, at + 1));
+    let Some(i) = bracket else {
+        return Err(not_allowed(text, tokens, at + 1));
     };
     if limits::OPEN <= deep {
-        return Checked::Refused(refused_at(Why::TooDeep, text, tokens, at + 1));
+        return Err(refused_at(Why::TooDeep, text, tokens, at + 1));
     }
     let string = super::tokens::expect(text, tokens, i, kind::STRING);
-    let Wanted::Here(j) = string else {
-        return Checked::Refused(not_allowed(text, tokens, i));
+    let Some(j) = string else {
+        return Err(not_allowed(text, tokens, i));
     };
     let close = super::tokens::expect(text, tokens, j, kind::CLOSING_PAREN);
-    let Wanted::Here(n) = close else {
-        return Checked::Refused(not_allowed(text, tokens, j));
+    let Some(n) = close else {
+        return Err(not_allowed(text, tokens, j));
     };
     let bytes = super::tokens::string_bytes(text, tokens, i);
-    Checked::Good {
+    Ok(Piece {
         next: n,
         nodes: 1,
         bytes,
-    }
+    })
 }
 
 // Character `..` character.
-fn check_range(text: &[u8], tokens: &[u32], at: usize) -> Checked
+fn check_range(text: &[u8], tokens: &[u32], at: usize) -> Result<Piece, Refusal>
     requires lent { Lent text.now tokens.now }
     requires at_in_bounds { at < length (toks text.now) }
     ensures { result ≡ summary (ranged text.now at) }
 {
     let dots = super::tokens::expect(text, tokens, at + 1, kind::DOTS);
-    let Wanted::Here(i) = dots else {
-        return Checked::Refused(not_allowed(text, tokens, at + 1));
+    let Some(i) = dots else {
+        return Err(not_allowed(text, tokens, at + 1));
     };
     let last = super::tokens::expect(text, tokens, i, kind::CHARACTER);
-    let Wanted::Here(n) = last else {
-        return Checked::Refused(not_allowed(text, tokens, i));
+    let Some(n) = last else {
+        return Err(not_allowed(text, tokens, i));
     };
-    Checked::Good {
+    Ok(Piece {
         next: n,
         nodes: 1,
         bytes: 0,
-    }
+    })
 }
 
 // A word that opens nothing: PUSH_LITERAL, a slice, or a name.
-fn check_word(text: &[u8], tokens: &[u32], at: usize, deep: usize) -> Checked
+fn check_word(text: &[u8], tokens: &[u32], at: usize, deep: usize) -> Result<Piece, Refusal>
     requires lent { Lent text.now tokens.now }
     requires at_value { kind text.now at ≡ 18 }
     ensures { result ≡ summary (leaf_at deep text.now at) }
@@ -170,21 +170,21 @@ fn check_word(text: &[u8], tokens: &[u32], at: usize, deep: usize) -> Checked
     if super::tokens::spelled(b"PUSH_LITERAL", text, tokens, at) {
         return check_push_literal(text, tokens, at, deep);
     }
-    if super::tokens::spelled(b"PEEK", text, tokens, at) {
-        if kind_at(text, tokens, at + 1) == kind::OPENING_BRACK {
-            return check_slice(text, tokens, at, at + 2);
-        }
+    if super::tokens::spelled(b"PEEK", text, tokens, at)
+        && kind_at(text, tokens, at + 1) == kind::OPENING_BRACK
+    {
+        return check_slice(text, tokens, at, at + 2);
     }
     let bytes = super::tokens::word_bytes(text, tokens, at);
-    Checked::Good {
+    Ok(Piece {
         next: at + 1,
         nodes: 1,
         bytes,
-    }
+    })
 }
 
 // A node that holds no expression.
-pub fn check_leaf(text: &[u8], tokens: &[u32], at: usize, deep: usize) -> Checked
+pub fn check_leaf(text: &[u8], tokens: &[u32], at: usize, deep: usize) -> Result<Piece, Refusal>
     requires { Lent text.now tokens.now }
     ensures { result ≡ summary (leaf_at deep text.now at) }
 {
@@ -193,13 +193,13 @@ pub fn check_leaf(text: &[u8], tokens: &[u32], at: usize, deep: usize) -> Checke
         kind::WORD => check_word(text, tokens, at, deep),
         kind::STRING | kind::INSENSITIVE_STRING => {
             let bytes = super::tokens::string_bytes(text, tokens, at);
-            Checked::Good {
+            Ok(Piece {
                 next: at + 1,
                 nodes: 1,
                 bytes,
-            }
+            })
         }
         kind::CHARACTER => check_range(text, tokens, at),
-        _ => Checked::Refused(not_allowed(text, tokens, at)),
+        _ => Err(not_allowed(text, tokens, at)),
     }
 }

@@ -5,7 +5,7 @@ ghost use Rattle.structure.specs.Structure.{is_name, mark_at, past_mark, past_ba
 ghost use Rattle.structure.specs.Answers.{rule_summary, summaries};
 
 use super::tokens::not_allowed;
-use crate::{Checked, Counted, Level, Refusal, Wanted, Why};
+use crate::{Counts, Level, Piece, Refusal, Why};
 use token::inner::listing::{end_at, kind_at, start_at, token_count};
 use token::kind;
 
@@ -65,39 +65,34 @@ pub fn past_bar(text: &[u8], tokens: &[u32], at: usize) -> usize
 }
 
 // Word, `=`, at most one mark, `{`, at most one `|`, expression, `}`.
-fn check_rule(text: &[u8], tokens: &[u32], level: Level, at: usize) -> Checked
+fn check_rule(text: &[u8], tokens: &[u32], level: Level, at: usize) -> Result<Piece, Refusal>
     requires { Lent text.now tokens.now }
     ensures { result ≡ rule_summary (rule_from level text.now at) }
 {
     if !is_name(text, tokens, at) {
-        return Checked::Refused(not_allowed(text, tokens, at));
+        return Err(not_allowed(text, tokens, at));
     }
     let tie = super::tokens::expect(text, tokens, at + 1, kind::EQUALS);
-    let Wanted::Here(i) = tie else {
-        return Checked::Refused(not_allowed(text, tokens, at + 1));
+    let Some(i) = tie else {
+        return Err(not_allowed(text, tokens, at + 1));
     };
     let open = past_mark(text, tokens, i);
     let brace = super::tokens::expect(text, tokens, open, kind::OPENING_BRACE);
-    let Wanted::Here(j) = brace else {
-        return Checked::Refused(not_allowed(text, tokens, open));
+    let Some(j) = brace else {
+        return Err(not_allowed(text, tokens, open));
     };
     let body = past_bar(text, tokens, j);
-    let inside = super::checks::check_expr(text, tokens, level, body, 0);
-    match inside {
-        Checked::Refused(refusal) => Checked::Refused(refusal),
-        Checked::Good { next, nodes, bytes } => {
-            let close = super::tokens::expect(text, tokens, next, kind::CLOSING_BRACE);
-            let Wanted::Here(n) = close else {
-                return Checked::Refused(not_allowed(text, tokens, next));
-            };
-            let named = super::tokens::word_bytes(text, tokens, at);
-            Checked::Good {
-                next: n,
-                nodes,
-                bytes: named + bytes,
-            }
-        }
-    }
+    let inside = super::checks::check_expr(text, tokens, level, body, 0)?;
+    let close = super::tokens::expect(text, tokens, inside.next, kind::CLOSING_BRACE);
+    let Some(n) = close else {
+        return Err(not_allowed(text, tokens, inside.next));
+    };
+    let named = super::tokens::word_bytes(text, tokens, at);
+    Ok(Piece {
+        next: n,
+        nodes: inside.nodes,
+        bytes: named + inside.bytes,
+    })
 }
 
 // Past the `//!` docs at the front.
@@ -113,14 +108,14 @@ pub fn docs_end(text: &[u8], tokens: &[u32]) -> usize
 }
 
 // Any `//!` docs, then one or more of rule or `///` doc.
-pub fn check_grammar(text: &[u8], tokens: &[u32], level: Level) -> Counted
+pub fn check_grammar(text: &[u8], tokens: &[u32], level: Level) -> Result<Counts, Refusal>
     requires { Lent text.now tokens.now }
     ensures { result ≡ summaries (grammar level text.now) }
 {
     let n = token_count(text, tokens);
     let mut i = docs_end(text, tokens);
     if n <= i {
-        return Counted::Refused(Refusal {
+        return Err(Refusal {
             why: Why::NotAllowed,
             place: text.len(),
         });
@@ -132,23 +127,16 @@ pub fn check_grammar(text: &[u8], tokens: &[u32], level: Level) -> Counted
         if kind_at(text, tokens, i) == kind::LINE_DOC {
             i += 1;
         } else {
-            let rule = check_rule(text, tokens, level, i);
-            match rule {
-                Checked::Refused(refusal) => {
-                    return Counted::Refused(refusal);
-                }
-                Checked::Good { next, nodes, bytes } => {
-                    i = next;
-                    rules += 1;
-                    count += nodes;
-                    size += bytes;
-                }
-            }
+            let rule = check_rule(text, tokens, level, i)?;
+            i = rule.next;
+            rules += 1;
+            count += rule.nodes;
+            size += rule.bytes;
         }
     }
-    Counted::Rules {
+    Ok(Counts {
         rules,
         nodes: count,
         bytes: size,
-    }
+    })
 }

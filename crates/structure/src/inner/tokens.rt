@@ -1,4 +1,6 @@
 // What is asked of a token, by its index.
+// The text and its table stay two parameters here and in the crates above: public functions take them so, and a struct
+// of both would only put a method beside each.
 ghost use Rattle.std.specs.Prelude.{◌≡◌, ◌≤◌, ◌<◌, length};
 ghost use Rattle.text.specs.Limits.{max_text};
 ghost use Rattle.literal.specs.Escapes.{unescaped};
@@ -9,7 +11,7 @@ ghost use Rattle.structure.specs.Tokens.{spells};
 ghost use Rattle.structure.specs.Values.{string};
 ghost use Rattle.structure.specs.Answers.{wanted};
 
-use crate::{Refusal, Wanted, Why};
+use crate::{Refusal, Why};
 use token::inner::listing::{end_at, kind_at, start_at};
 use token::kind;
 
@@ -33,15 +35,15 @@ pub fn not_allowed(text: &[u8], tokens: &[u32], at: usize) -> Refusal
 }
 
 // A token of a kind is wanted here.
-pub fn expect(text: &[u8], tokens: &[u32], at: usize, k: u8) -> Wanted
+pub fn expect(text: &[u8], tokens: &[u32], at: usize, k: u8) -> Option<usize>
     requires lent { Lent text.now tokens.now }
     requires k_nonzero { 0 < k }
     ensures { result ≡ wanted text.now at k }
 {
     if kind_at(text, tokens, at) == k {
-        return Wanted::Here(at + 1);
+        return Some(at + 1);
     }
-    Wanted::Missing
+    None
 }
 
 // The token is the word spelled so.
@@ -67,10 +69,7 @@ pub fn word_bytes(text: &[u8], tokens: &[u32], at: usize) -> usize
 {
     let a = start_at(text, tokens, at);
     let z = end_at(text, tokens, at);
-    if z <= a {
-        return 0;
-    }
-    z - a
+    z.saturating_sub(a)
 }
 
 // How many bytes the string has that the inside of a literal means.

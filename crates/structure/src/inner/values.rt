@@ -6,29 +6,29 @@ ghost use Rattle.token.specs.Table.{toks, between, word, Lent};
 ghost use Rattle.structure.specs.Values.{peek_fault, exceeds, above_fault, repeat_fault, literal_fault, word_fault, number_fault, integer_of, opening, literal_bytes, fault_at, faults};
 
 use super::tokens::refused_at;
-use crate::{Edition, Fault, Level, Refusal, Why};
-use text::{Decimal, Scan};
+use crate::{Edition, Level, Refusal, Why};
+use text::DecimalError;
 use token::inner::listing::{end_at, kind_at, start_at, token_count};
 use token::kind;
 
 // PUSH_LITERAL, at the plain level.
-fn word_fault(text: &[u8], tokens: &[u32], level: Level, at: usize) -> Fault
+fn word_fault(text: &[u8], tokens: &[u32], level: Level, at: usize) -> Option<Refusal>
     requires { Lent text.now tokens.now }
     ensures { result ≡ word_fault level text.now at }
 {
     match level {
-        Level::Tagged => Fault::Sound,
+        Level::Tagged => None,
         Level::Plain => {
             if super::tokens::spelled(b"PUSH_LITERAL", text, tokens, at) {
-                return Fault::At(refused_at(Why::NotPlain, text, tokens, at));
+                return Some(refused_at(Why::NotPlain, text, tokens, at));
             }
-            Fault::Sound
+            None
         }
     }
 }
 
 // What a repeat number is worth.
-pub fn number_of(text: &[u8], tokens: &[u32], at: usize) -> Decimal
+pub fn number_of(text: &[u8], tokens: &[u32], at: usize) -> Result<u32, DecimalError>
     requires lent { Lent text.now tokens.now }
     requires at_in_bounds { at < length (toks text.now) }
     ensures { result ≡ decimal_of 4294967295 (word text.now at) }
@@ -39,7 +39,7 @@ pub fn number_of(text: &[u8], tokens: &[u32], at: usize) -> Decimal
 }
 
 // What a number in a PEEK slice is worth, its sign aside.
-pub fn integer_of(text: &[u8], tokens: &[u32], at: usize) -> Decimal
+pub fn integer_of(text: &[u8], tokens: &[u32], at: usize) -> Result<u32, DecimalError>
     requires lent { Lent text.now tokens.now }
     requires at_in_bounds { at < length (toks text.now) }
     ensures { result ≡ integer_of text.now at }
@@ -54,16 +54,16 @@ pub fn integer_of(text: &[u8], tokens: &[u32], at: usize) -> Decimal
 }
 
 // A number in a PEEK slice.
-fn peek_fault(text: &[u8], tokens: &[u32], at: usize) -> Fault
+fn peek_fault(text: &[u8], tokens: &[u32], at: usize) -> Option<Refusal>
     requires lent { Lent text.now tokens.now }
     requires at_in_bounds { at < length (toks text.now) }
     ensures { result ≡ peek_fault text.now at (integer_of text.now at) }
 {
     let value = integer_of(text, tokens, at);
     match value {
-        Decimal::Is(_) => Fault::Sound,
-        Decimal::Over => Fault::At(refused_at(Why::PeekRange, text, tokens, at)),
-        Decimal::NotDigits => Fault::Sound,
+        Ok(_) => None,
+        Err(DecimalError::Over) => Some(refused_at(Why::PeekRange, text, tokens, at)),
+        Err(DecimalError::NotDigits) => None,
     }
 }
 
@@ -73,66 +73,66 @@ fn exceeds(text: &[u8], tokens: &[u32], at: usize, n: u32) -> bool
     requires at_in_bounds { at < length (toks text.now) }
     ensures { result ≡ exceeds text.now at n }
 {
-    if kind_at(text, tokens, at + 1) != kind::COMMA {
-        return false;
-    }
-    if kind_at(text, tokens, at + 2) != kind::NUMBER {
+    if kind_at(text, tokens, at + 1) != kind::COMMA
+        || kind_at(text, tokens, at + 2) != kind::NUMBER
+    {
         return false;
     }
     let most = number_of(text, tokens, at + 2);
     match most {
-        Decimal::Is(m) => {
-            if m == 0 {
-                return false;
-            }
-            m < n
-        }
-        Decimal::Over => false,
-        Decimal::NotDigits => false,
+        Ok(m) => m != 0 && m < n,
+        Err(DecimalError::Over) => false,
+        Err(DecimalError::NotDigits) => false,
     }
 }
 
 // A count that isn't 0, as the edition asks it.
-fn above_fault(text: &[u8], tokens: &[u32], edition: Edition, at: usize, n: u32) -> Fault
+fn above_fault(text: &[u8], tokens: &[u32], edition: Edition, at: usize, n: u32) -> Option<Refusal>
     requires lent { Lent text.now tokens.now }
     requires at_in_bounds { at < length (toks text.now) }
     ensures { result ≡ above_fault edition text.now at n }
 {
     match edition {
-        Edition::First => Fault::Sound,
+        Edition::First => None,
         Edition::Second => {
             if exceeds(text, tokens, at, n) {
-                return Fault::At(refused_at(Why::Above, text, tokens, at));
+                return Some(refused_at(Why::Above, text, tokens, at));
             }
-            Fault::Sound
+            None
         }
     }
 }
 
 // A repeat number.
-fn repeat_fault(text: &[u8], tokens: &[u32], edition: Edition, at: usize) -> Fault
+fn repeat_fault(text: &[u8], tokens: &[u32], edition: Edition, at: usize) -> Option<Refusal>
     requires lent { Lent text.now tokens.now }
     requires at_in_bounds { at < length (toks text.now) }
     ensures { result ≡ repeat_fault edition text.now at (decimal_of 4294967295 (word text.now at)) }
 {
     let value = number_of(text, tokens, at);
     match value {
-        Decimal::NotDigits => Fault::Sound,
-        Decimal::Over => Fault::At(refused_at(Why::Over, text, tokens, at)),
-        Decimal::Is(n) => {
+        Err(DecimalError::NotDigits) => None,
+        Err(DecimalError::Over) => Some(refused_at(Why::Over, text, tokens, at)),
+        Ok(n) => {
             if n != 0 {
                 return above_fault(text, tokens, edition, at, n);
             }
             if kind_at(text, tokens, at + 1) == kind::CLOSING_BRACE {
-                return Fault::At(refused_at(Why::Zero, text, tokens, at));
+                return Some(refused_at(Why::Zero, text, tokens, at));
             }
-            Fault::Sound
+            None
         }
     }
 }
 
 // A number, by the kind of the token before it.
-fn number_fault(text: &[u8], tokens: &[u32], edition: Edition, before: u8, at: usize) -> Fault
+fn number_fault(
+    text: &[u8],
+    tokens: &[u32],
+    edition: Edition,
+    before: u8,
+    at: usize,
+) -> Option<Refusal>
     requires lent { Lent text.now tokens.now }
     requires at_in_bounds { at < length (toks text.now) }
     ensures { result ≡ number_fault edition text.now before at }
@@ -144,18 +144,18 @@ fn number_fault(text: &[u8], tokens: &[u32], edition: Edition, before: u8, at: u
 }
 
 // The first bad escape in the part of a text from a to z.
-fn bad_escape_in(text: &[u8], a: usize, z: usize) -> Scan
+fn bad_escape_in(text: &[u8], a: usize, z: usize) -> Option<usize>
     requires { z ≤ length text.now }
     ensures { result ≡ bad_escape (between text.now a z) }
 {
     if z <= a {
-        return Scan::Through;
+        return None;
     }
     literal::inner::escapes::bad_escape(&text[a..z])
 }
 
 // The escapes of a literal that `skip` bytes open.
-fn literal_fault(text: &[u8], tokens: &[u32], at: usize, skip: usize) -> Fault
+fn literal_fault(text: &[u8], tokens: &[u32], at: usize, skip: usize) -> Option<Refusal>
     requires lent { Lent text.now tokens.now }
     requires at_in_bounds { at < length (toks text.now) }
     requires skip_value { skip ≡ opening text.now at }
@@ -165,8 +165,8 @@ fn literal_fault(text: &[u8], tokens: &[u32], at: usize, skip: usize) -> Fault
     let z = end_at(text, tokens, at);
     let bad = bad_escape_in(text, a, z - 1);
     match bad {
-        Scan::Through => Fault::Sound,
-        Scan::StopsAt(k) => Fault::At(Refusal {
+        None => None,
+        Some(k) => Some(Refusal {
             why: Why::NotScalar,
             place: a + k,
         }),
@@ -181,7 +181,7 @@ fn fault_at(
     level: Level,
     before: u8,
     at: usize,
-) -> Fault
+) -> Option<Refusal>
     requires lent { Lent text.now tokens.now }
     requires at_in_bounds { at < length (toks text.now) }
     ensures { result ≡ fault_at edition level text.now before at }
@@ -193,29 +193,27 @@ fn fault_at(
         kind::NEGATIVE_NUMBER => peek_fault(text, tokens, at),
         kind::STRING | kind::CHARACTER => literal_fault(text, tokens, at, 1),
         kind::INSENSITIVE_STRING => literal_fault(text, tokens, at, 2),
-        _ => Fault::Sound,
+        _ => None,
     }
 }
 
 // The first fault of a text, from the left.
-pub fn faults(text: &[u8], tokens: &[u32], edition: Edition, level: Level) -> Fault
+pub fn faults(text: &[u8], tokens: &[u32], edition: Edition, level: Level) -> Option<Refusal>
     requires { Lent text.now tokens.now }
     ensures { result ≡ faults edition level text.now }
 {
     let n = token_count(text, tokens);
     let mut before: u8 = 0;
-    let mut i = 0;
-    while i < n {
+    for i in 0..n {
         let fault = fault_at(text, tokens, edition, level, before, i);
         match fault {
-            Fault::Sound => {
+            None => {
                 before = kind_at(text, tokens, i);
-                i += 1;
             }
-            Fault::At(refusal) => {
-                return Fault::At(refusal);
+            Some(refusal) => {
+                return Some(refusal);
             }
         }
     }
-    Fault::Sound
+    None
 }

@@ -1,33 +1,27 @@
 // Characters, for crates that see the tables alone.
 ghost use Rattle.std.specs.Prelude.{◌≡◌, drop};
-ghost use Rattle.table.specs.Characters.{char_of, first_bad, fault_of, character};
-
-use crate::{Character, Fault};
-use text::{Scan, Sequence};
+ghost use Rattle.table.specs.Characters.{char_of, first_bad};
 
 // The start of a line's first bad sequence.
-pub fn first_bad(line: &[u8]) -> Fault
-    ensures { result ≡ fault_of (first_bad line.now) }
+pub fn first_bad(line: &[u8]) -> Option<usize>
+    ensures { result ≡ first_bad line.now }
 {
-    let bad = text::first_bad(line);
-    match bad {
-        Scan::Through => Fault::None,
-        Scan::StopsAt(i) => Fault::At(i),
+    match text::first_bad(line) {
+        None => None,
+        Some(i) => Some(i),
     }
 }
 
-// The character at a place. Below 128 it is its byte.
-pub fn char_at(line: &[u8], at: usize) -> Character
-    ensures { result ≡ character (char_of (drop at line.now)) }
+// The at a place. Below 128 it is its byte.
+#[tactic(auto, using(crate::proofs::Characters::ascii_at))]
+pub fn char_at(line: &[u8], at: usize) -> Option<(u32, usize)>
+    ensures { result ≡ char_of (drop at line.now) }
 {
-    if at < line.len() {
-        if line[at] < 128 {
-            return Character::Is(text::inner::utf8::wide(line[at]), 1);
-        }
+    if at < line.len() && line[at] < 128 {
+        return Some((u32::from(line[at]), 1));
     }
-    let sequence = text::char_at(line, at);
-    match sequence {
-        Sequence::Is(c, n) => Character::Is(c, n),
-        Sequence::Broken => Character::Broken,
+    match text::char_at(line, at) {
+        Some((c, n)) => Some((c, n)),
+        None => None,
     }
 }

@@ -5,7 +5,7 @@ ghost use Rattle.table.specs.declared.Op.TheVariants.{Plain};
 ghost use Rattle.table.specs.declared.Node.TheVariants.{Tip, One};
 ghost use Rattle.table.specs.Record.{node_size, rule_size, peek_of, node_of, node_at, head_at};
 
-use crate::{End, Head, Join, Leaf, Node, Op, Sort, Unary, kind};
+use crate::{Head, Join, Leaf, Node, Op, Sort, Unary, kind};
 
 // The numbers in a node record.
 pub const NODE_SIZE: usize = 7;
@@ -22,13 +22,11 @@ fn text_of(sort: Sort, p: u32, q: u32) -> Node
 fn peek_of(p: u32, q: u32, r: u32) -> Node
     ensures { result ≡ peek_of p q r }
 {
-    if q == 0 {
-        return Node::Tip(Leaf::PeekSlice(p, End::Open));
+    match q {
+        0 => Node::Tip(Leaf::PeekSlice(p, None)),
+        1 => Node::Tip(Leaf::PeekSlice(p, Some(r))),
+        _ => Node::Unknown,
     }
-    if q == 1 {
-        return Node::Tip(Leaf::PeekSlice(p, End::At(r)));
-    }
-    Node::Unknown
 }
 
 fn plain_of(unary: Unary, p: u32) -> Node
@@ -38,6 +36,7 @@ fn plain_of(unary: Unary, p: u32) -> Node
 }
 
 // A node by its kind, p, q and r.
+#[tactic(auto, using(crate::proofs::Records::kind_none), unfolding(crate::specs::Record::node_of))]
 fn node_of(kind: u32, p: u32, q: u32, r: u32) -> Node
     ensures { result ≡ node_of kind p q r }
 {
@@ -73,6 +72,7 @@ pub fn kind_at(nodes: &[u32], i: usize) -> u32
 }
 
 // A node whose kind was looked up.
+#[tactic(auto, unfolding(crate::specs::Record::node_at))]
 pub fn node_with(nodes: &[u32], kind: u32, i: usize) -> Node
     requires i_in_bounds { node_size * (i + 1) ≤ length nodes.now }
     requires kind_value { kind ≡ get_or nodes.now (node_size * i) 0 }
@@ -89,6 +89,7 @@ pub fn node_at(nodes: &[u32], i: usize) -> Node
     node_with(nodes, kind_at(nodes, i), i)
 }
 
+#[tactic(auto, unfolding(crate::specs::Record::head_at))]
 pub fn head_at(rules: &[u32], k: usize) -> Head
     requires { rule_size * (k + 1) ≤ length rules.now }
     ensures { result ≡ head_at rules.now k }

@@ -2,33 +2,27 @@
 ghost use Rattle.std.specs.Prelude.{◌≡◌};
 ghost use Rattle.table.specs.Names.{same_text, rule_named, NamesInside};
 
-use super::layout::RULE_SIZE;
-use crate::Named;
+use super::layout::{RULE_SIZE, head_at};
+use text::inner::words::begins_at;
 
+#[tactic(auto, using(crate::proofs::Names::other_length, crate::proofs::Names::same_length))]
 pub fn same_text(a: &[u8], b: &[u8]) -> bool
     ensures { result ≡ same_text a.now b.now }
 {
-    if a.len() != b.len() {
-        return false;
-    }
-    text::inner::words::begins_at(a, b, 0)
+    a.len() == b.len() && begins_at(a, b, 0)
 }
 
 // The lowest rule of a name.
-pub fn rule_named(rules: &[u32], store: &[u8], name: &[u8]) -> Named
+#[tactic(auto, using(crate::proofs::Names::named_at, crate::proofs::Names::other_at, crate::proofs::Names::named_none, crate::proofs::Names::head_name, crate::proofs::Names::head_inside, crate::proofs::Lowest::lowest_none, crate::proofs::Lowest::lowest_more))]
+pub fn rule_named(rules: &[u32], store: &[u8], name: &[u8]) -> Option<usize>
     requires { NamesInside rules.now store.now }
     ensures { result ≡ rule_named rules.now store.now name.now }
 {
-    let m = rules.len() / RULE_SIZE;
-    let mut k = 0;
-    while k < m {
-        let head = super::layout::head_at(rules, k);
-        let p = head.offset;
-        let e = p + head.length;
-        if same_text(&store[p..e], name) {
-            return Named::By(k);
+    for k in 0..rules.len() / RULE_SIZE {
+        let head = head_at(rules, k);
+        if same_text(&store[head.offset..head.offset + head.length], name) {
+            return Some(k);
         }
-        k += 1;
     }
-    Named::Nobody
+    None
 }

@@ -17,21 +17,21 @@ loop-i-init c = later_zero _
 pub loop-i-preserved-then-s-i-lt128 : goal.loop-i-preserved-then-s-i-lt128
 loop-i-preserved-then-s-i-lt128 c = sym (look_ascii _ _ c.loop-i-test.true c.if-s-i-lt128.true) ∙ c.loop-i.invariant
 
-pub overflow_add-i-in-Is : goal.overflow_add-i-in-Is
-overflow_add-i-in-Is c =
-    let d = decoded _ _ _ (sym c.char_at-sequence.ensures ∙ c.in-Is.is) in
+pub overflow_add-i-in-Some : goal.overflow_add-i-in-Some
+overflow_add-i-in-Some c =
+    let d = decoded _ _ _ (sym c.char_at-sequence.ensures ∙ c.in-Some.is) in
     omega (arith, d.few)
 
 pub loop-i-smaller : goal.loop-i-smaller
 loop-i-smaller c =
-    let d = decoded _ _ _ (sym c.char_at-sequence.ensures ∙ c.in-Is.is) in
+    let d = decoded _ _ _ (sym c.char_at-sequence.ensures ∙ c.in-Some.is) in
     omega (arith, d.some)
 
 pub loop-i-preserved : goal.loop-i-preserved
-loop-i-preserved c = sym (look_step _ _ _ _ c.loop-i-test.true (sym c.char_at-sequence.ensures ∙ c.in-Is.is)) ∙ c.loop-i.invariant
+loop-i-preserved c = sym (look_step _ _ _ _ c.loop-i-test.true (sym c.char_at-sequence.ensures ∙ c.in-Some.is)) ∙ c.loop-i.invariant
 
-pub returns-in-Broken : goal.returns-in-Broken
-returns-in-Broken c = sym (sought_stop seq_look _ _ c.loop-i-test.true (ap look_by (sym c.char_at-sequence.ensures ∙ c.in-Broken.is))) ∙ c.loop-i.invariant
+pub returns-in-None : goal.returns-in-None
+returns-in-None c = sym (sought_stop seq_look _ _ c.loop-i-test.true (ap look_by (sym c.char_at-sequence.ensures ∙ c.in-None.is))) ∙ c.loop-i.invariant
 
 pub returns : goal.returns
 returns c = sym (sought_end seq_look _ _ c.loop-i-test.false) ∙ c.loop-i.invariant

@@ -24,5 +24,5 @@ pub fn class(t: &[u8; 256], b: u8) -> u8
     requires { t.now ≡ Classes.classes }
     ensures { result ≡ class_of b }
 {
-    t[b as usize]
+    t[usize::from(b)]
 }

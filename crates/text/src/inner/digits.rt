@@ -4,40 +4,33 @@ ghost use Rattle.text.specs.Booleans.{choose};
 ghost use Rattle.text.specs.Splice.{Room, Wrote, spent};
 ghost use Rattle.text.specs.Digits.{decimal_from, decimal, hex_digit, hexes};
 
-use crate::Decimal;
+use crate::DecimalError;
 
 // One more digit, unless the limit is exceeded already: then it stays exceeded.
 fn decimal_more(v: u64, limit: u32, d: u64) -> u64
     requires { d < 10 }
     ensures { result ≡ choose (leb v limit) (λ u. v * 10 + d) (λ u. v) }
 {
-    if v <= limit as u64 {
-        return v * 10 + d;
-    }
-    v
+    if v <= u64::from(limit) { v * 10 + d } else { v }
 }
 
 // What decimal digits are worth, if it is at most a limit; none are worth 0.
-pub fn decimal_from(s: &[u8], limit: u32) -> Decimal
+#[tactic(auto, using(crate::proofs::Decimals::from_step, crate::proofs::Decimals::from_stop, crate::proofs::Decimals::from_end))]
+pub fn decimal_from(s: &[u8], limit: u32) -> Result<u32, DecimalError>
     ensures { result ≡ decimal_from limit 0 s.now }
 {
     let mut v: u64 = 0;
-    let mut i = 0;
-    while i < s.len() {
-        let x = super::utf8::wide(s[i]) as u64;
-        if x < 48 {
-            return Decimal::NotDigits;
+    for b in s {
+        if !b.is_ascii_digit() {
+            return Err(DecimalError::NotDigits);
         }
-        if 57 < x {
-            return Decimal::NotDigits;
-        }
-        v = decimal_more(v, limit, x - 48);
-        i += 1;
+        v = decimal_more(v, limit, u64::from(b - b'0'));
     }
-    if v <= limit as u64 {
-        return Decimal::Is(v as u32);
+    if v <= u64::from(limit) {
+        Ok(v as u32)
+    } else {
+        Err(DecimalError::Over)
     }
-    Decimal::Over
 }
 
 // What is left after a number in decimal.
@@ -56,35 +49,37 @@ pub fn put_number(n: u64, out: &mut [u8], at: usize) -> usize
     ensures { Wrote out.old at (decimal n) out.new result }
 {
     if n < 10 {
-        return super::splice::put_byte(48 + n as u8, out, at);
+        return super::splice::put_byte(b'0' + n as u8, out, at);
     }
     let next = put_number(n / 10, out, at);
-    super::splice::put_byte(48 + (n % 10) as u8, out, next)
+    super::splice::put_byte(b'0' + (n % 10) as u8, out, next)
 }
 
 // Both for a number of 32 bits, as records have it.
 pub fn spend_decimal(left: usize, n: u32) -> usize
     ensures { result ≡ spent left (decimal n) }
 {
-    spend_number(left, n as u64)
+    spend_number(left, u64::from(n))
 }
 
 pub fn put_decimal(n: u32, out: &mut [u8], at: usize) -> usize
     requires { Room out.old at (decimal n) }
     ensures { Wrote out.old at (decimal n) out.new result }
 {
-    put_number(n as u64, out, at)
+    put_number(u64::from(n), out, at)
 }
 
 // The hex digit of a value below sixteen.
+#[tactic(auto, unfolding(crate::specs::Digits::hex_digit))]
 fn hex_digit(d: u32) -> u8
     requires { d < 16 }
     ensures { result ≡ hex_digit d }
 {
     if d < 10 {
-        return 48 + d as u8;
+        b'0' + d as u8
+    } else {
+        b'a' + (d - 10) as u8
     }
-    87 + d as u8
 }
 
 // Writes the last k hex digits of a number.

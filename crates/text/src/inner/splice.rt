@@ -6,7 +6,7 @@ ghost use Rattle.text.specs.Splice.{Room, Wrote};
 pub fn spend(left: usize, n: usize) -> usize
     ensures { result ≡ left - n }
 {
-    if n < left { left - n } else { 0 }
+    left.saturating_sub(n)
 }
 
 pub fn put_byte(b: u8, out: &mut [u8], at: usize) -> usize
@@ -22,10 +22,7 @@ pub fn put(x: &[u8], out: &mut [u8], at: usize) -> usize
     requires { Room out.old at x.now }
     ensures { Wrote out.old at x.now out.new result }
 {
-    let mut i = 0;
-    while i < x.len() {
-        out[at + i] = x[i];
-        i += 1;
-    }
-    at + i
+    let end = at + x.len();
+    out[at..end].copy_from_slice(x);
+    end
 }

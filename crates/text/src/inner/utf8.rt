@@ -3,32 +3,17 @@ ghost use Rattle.std.specs.Prelude.{◌≡◌, true, false, ℕ, ◌<◌, ◌≤
 ghost use Rattle.text.specs.Splice.{Room, Wrote, spent};
 ghost use Rattle.text.specs.Utf8.{scalar, lead_of, gathered, judged, encoded};
 
-use crate::{Lead, Sequence, Value};
-
 pub fn wide(b: u8) -> u32
     ensures { result ≡ b }
 {
-    b as u32
+    u32::from(b)
 }
 
+#[tactic(auto, unfolding(crate::specs::Utf8::scalar))]
 pub fn is_scalar(c: u32) -> bool
     ensures { result ≡ scalar c }
 {
-    if c < 0xd800 {
-        return true;
-    }
-    if c < 0xe000 {
-        return false;
-    }
-    c <= 0x10ffff
-}
-
-fn larger(x: u8, y: u8) -> u8
-    ensures lower_bound { x ≤ result }
-    ensures lower_bound_2 { y ≤ result }
-    ensures upper_bound { x < 128 → y < 128 → result < 128 }
-{
-    if x < y { y } else { x }
+    char::from_u32(c).is_some()
 }
 
 // Whether all bytes are below 128. It looks at each, and a processor at many at once.
@@ -37,120 +22,98 @@ pub fn is_ascii(s: &[u8]) -> bool
     ensures fact { result ≡ false → ((k : ℕ) → get_or s.now k 0 < 128) → ⊥ }
 {
     let mut x: u8 = 0;
-    let mut i = 0;
-    while i < s.len() {
-        x = larger(x, s[i]);
-        i += 1;
+    for b in s {
+        x = x.max(*b);
     }
     x < 128
 }
 
-pub(crate) fn lead_of(x: u32) -> Lead
+#[tactic(auto, unfolding(crate::specs::Utf8::lead_of))]
+pub(crate) fn lead_of(x: u8) -> Option<(u32, usize, u32)>
     ensures { result ≡ lead_of x }
 {
-    if x < 0x80 {
-        return Lead::Row(x, 0, 0);
+    match x {
+        0..=0x7f => Some((u32::from(x), 0, 0)),
+        0xc0..=0xdf => Some((u32::from(x - 0xc0), 1, 0x80)),
+        0xe0..=0xef => Some((u32::from(x - 0xe0), 2, 0x800)),
+        0xf0..=0xf7 => Some((u32::from(x - 0xf0), 3, 0x10000)),
+        _ => None,
     }
-    if x < 0xc0 {
-        return Lead::Stray;
-    }
-    if x < 0xe0 {
-        return Lead::Row(x - 0xc0, 1, 0x80);
-    }
-    if x < 0xf0 {
-        return Lead::Row(x - 0xe0, 2, 0x800);
-    }
-    if x < 0xf8 {
-        return Lead::Row(x - 0xf0, 3, 0x10000);
-    }
-    Lead::Stray
 }
 
-// A number with the six bits of each of `more` bytes from a place on.
-pub(crate) fn gather(s: &[u8], at: usize, more: usize, bits: u32) -> Value
+// A number with the six bits of each of the first `more` bytes.
+pub(crate) fn gather(s: &[u8], more: usize, bits: u32) -> Option<u32>
     requires more_bound { more ≤ 3 }
     requires bits_bound { bits < 256 }
-    requires at_in_bounds { at ≤ length s.now }
-    ensures { result ≡ gathered more bits (drop at s.now) }
+    ensures { result ≡ gathered more bits s.now }
 {
+    let Some(tail) = s.get(..more) else {
+        return None;
+    };
     let mut v = bits;
-    let mut j = 0;
-    while j < more {
-        let i = at + j;
-        if s.len() <= i {
-            return Value::Nothing;
+    for x in tail {
+        match x {
+            0x80..=0xbf => v = v * 64 + u32::from(x - 0x80),
+            _ => return None,
         }
-        let x = wide(s[i]);
-        if x < 0x80 {
-            return Value::Nothing;
-        }
-        if 0xbf < x {
-            return Value::Nothing;
-        }
-        v = v * 64 + (x - 0x80);
-        j += 1;
     }
-    Value::Number(v)
+    Some(v)
 }
 
 // A number is a character if it is at least its row's least and a scalar value.
-pub(crate) fn judge(low: u32, n: usize, v: Value) -> Sequence
+#[tactic(auto, unfolding(crate::specs::Utf8::judged))]
+pub(crate) fn judge(low: u32, n: usize, v: Option<u32>) -> Option<(u32, usize)>
     ensures { result ≡ judged low n v }
 {
     match v {
-        Value::Number(c) => {
-            if c < low {
-                return Sequence::Broken;
-            }
-            if is_scalar(c) {
-                return Sequence::Is(c, n);
-            }
-            Sequence::Broken
-        }
-        Value::Nothing => Sequence::Broken,
+        Some(c) if low <= c && is_scalar(c) => Some((c, n)),
+        _ => None,
     }
 }
 
 // What is left after a character's bytes.
+#[tactic(auto, unfolding(crate::specs::Utf8::encoded, crate::specs::Splice::spent))]
 pub fn spend_char(left: usize, c: u32) -> usize
     ensures { result ≡ spent left (encoded c) }
 {
-    if c < 0x80 {
-        return super::splice::spend(left, 1);
-    }
-    if c < 0x800 {
-        return super::splice::spend(left, 2);
-    }
-    if c < 0x10000 {
-        return super::splice::spend(left, 3);
-    }
-    super::splice::spend(left, 4)
+    let n = match c {
+        0..=0x7f => 1,
+        0x80..=0x7ff => 2,
+        0x800..=0xffff => 3,
+        _ => 4,
+    };
+    super::splice::spend(left, n)
 }
 
-// Writes a character's bytes.
+// Writes a character's bytes. Each is stored by itself: to copy them out of an array is slower.
+#[tactic(auto, using(crate::proofs::Splices::wrote_one, crate::proofs::Splices::wrote_two, crate::proofs::Splices::wrote_three, crate::proofs::Splices::wrote_four), unfolding(crate::specs::Utf8::encoded))]
 pub fn put_char(c: u32, out: &mut [u8], at: usize) -> usize
     requires c_bound { c < 0x110000 }
     requires room { Room out.old at (encoded c) }
     ensures { Wrote out.old at (encoded c) out.new result }
 {
-    if c < 0x80 {
-        out[at] = c as u8;
-        return at + 1;
+    match c {
+        0..=0x7f => {
+            out[at] = c as u8;
+            at + 1
+        }
+        0x80..=0x7ff => {
+            out[at] = (0xc0 + c / 64) as u8;
+            out[at + 1] = (0x80 + c % 64) as u8;
+            at + 2
+        }
+        0x800..=0xffff => {
+            out[at] = (0xe0 + c / 4096) as u8;
+            out[at + 1] = (0x80 + c / 64 % 64) as u8;
+            out[at + 2] = (0x80 + c % 64) as u8;
+            at + 3
+        }
+        _ => {
+            out[at] = (0xf0 + c / 262144) as u8;
+            out[at + 1] = (0x80 + c / 4096 % 64) as u8;
+            out[at + 2] = (0x80 + c / 64 % 64) as u8;
+            out[at + 3] = (0x80 + c % 64) as u8;
+            at + 4
+        }
     }
-    if c < 0x800 {
-        out[at] = (0xc0 + c / 64) as u8;
-        out[at + 1] = (0x80 + c % 64) as u8;
-        return at + 2;
-    }
-    if c < 0x10000 {
-        out[at] = (0xe0 + c / 4096) as u8;
-        out[at + 1] = (0x80 + c / 64 % 64) as u8;
-        out[at + 2] = (0x80 + c % 64) as u8;
-        return at + 3;
-    }
-    out[at] = (0xf0 + c / 262144) as u8;
-    out[at + 1] = (0x80 + c / 4096 % 64) as u8;
-    out[at + 2] = (0x80 + c / 64 % 64) as u8;
-    out[at + 3] = (0x80 + c % 64) as u8;
-    at + 4
 }

@@ -19,27 +19,15 @@ pub fn in_word(t: &[u8; 256], b: u8) -> bool
     requires { t.now ≡ classes }
     ensures { result ≡ in_word b }
 {
-    let k = super::classes::class(t, b);
-    match k {
-        2 => true,
-        3 => true,
-        _ => false,
-    }
+    matches!(super::classes::class(t, b), 2 | 3)
 }
 
-// From a place on there is nothing but letters, `_` and digits.
-fn all_in_word(t: &[u8; 256], s: &[u8], at: usize) -> bool
+// There is nothing but letters, `_` and digits.
+fn all_in_word(t: &[u8; 256], s: &[u8]) -> bool
     requires { t.now ≡ classes }
-    ensures { result ≡ all in_word (drop at s.now) }
+    ensures { result ≡ all in_word s.now }
 {
-    let mut i = at;
-    while i < s.len() {
-        if !in_word(t, s[i]) {
-            return false;
-        }
-        i += 1;
-    }
-    true
+    s.iter().all(|b| in_word(t, *b))
 }
 
 // From a place on, p stands at the front.
@@ -47,35 +35,23 @@ pub fn begins_at(p: &[u8], s: &[u8], at: usize) -> bool
     requires { at ≤ length s.now }
     ensures { result ≡ begins p.now (drop at s.now) }
 {
-    let mut j = 0;
-    while j < p.len() {
-        let i = at + j;
-        if s.len() <= i {
-            return false;
-        }
-        if s[i] != p[j] {
-            return false;
-        }
-        j += 1;
-    }
-    true
+    s[at..].starts_with(p)
 }
 
+#[tactic(auto, using(crate::proofs::Runs::word_at), unfolding(crate::specs::Words::word_of, crate::specs::Words::is_word))]
 pub fn word(t: &[u8; 256], s: &[u8]) -> Word
     requires { t.now ≡ classes }
     ensures { result ≡ word_of s.now }
 {
-    if s.len() == 0 {
+    let [first, rest @ ..] = s else {
+        return Word::Neither;
+    };
+    if !starts_word(t, *first) || !all_in_word(t, rest) {
         return Word::Neither;
     }
-    if !starts_word(t, s[0]) {
-        return Word::Neither;
+    if s.starts_with(b"PUSH") {
+        Word::Push
+    } else {
+        Word::Name
     }
-    if !all_in_word(t, s, 1) {
-        return Word::Neither;
-    }
-    if begins_at(b"PUSH", s, 0) {
-        return Word::Push;
-    }
-    Word::Name
 }

@@ -11,8 +11,8 @@ clauses_answer_numbers h = record { answer = h.0; numbers = h.1 }
 pub returns-then-s-gt-TEXT : goal.returns-then-s-gt-TEXT
 returns-then-s-gt-TEXT c = clauses_answer_numbers (answered _ _ _ (next_long _ _ c.if-s-gt-TEXT.true))
 
-pub returns-in-StopsAt : goal.returns-in-StopsAt
-returns-in-StopsAt c = clauses_answer_numbers (answered _ _ _ (next_bad _ _ c.if-s-gt-TEXT.false _ (sym c.first_bad-utf8.ensures ∙ c.in-StopsAt.is)))
+pub returns-in-Some : goal.returns-in-Some
+returns-in-Some c = clauses_answer_numbers (answered _ _ _ (next_bad _ _ c.if-s-gt-TEXT.false _ (sym c.first_bad-utf8.ensures ∙ c.in-Some.is)))
 
 pub returns-in-Found : goal.returns-in-Found
 returns-in-Found c = clauses_answer_numbers (answered _ _ _ (next_good _ _ c.if-s-gt-TEXT.false (sym c.first_bad-utf8.ensures ∙ c.in_default.is) (Found _ _ _) (sym c.in-Found.is ∙ c.token_at-token.ensures)))

@@ -1,6 +1,6 @@
 // The table of a text's tokens: a row of numbers for each. Only the functions here know what stands
 // where in a row.
-ghost use Rattle.std.specs.Prelude.{◌≡◌, ◌+◌, ◌*◌, ◌≤◌, length};
+ghost use Rattle.std.specs.Prelude.{◌≡◌, ◌+◌, ◌*◌, ◌/◌, ◌<◌, ◌≤◌, length, get_or};
 ghost use Rattle.std.proofs.lemmas.List.Edits.{sets};
 ghost use Rattle.token.specs.Lists.{tok};
 ghost use Rattle.token.specs.Table.{token_size, row_of, toks, Lent, kind, start, end};
@@ -27,15 +27,24 @@ pub fn token_count(text: &[u8], tokens: &[u32]) -> usize
     tokens.len() / TOKEN_SIZE
 }
 
+// A number of a token's row, by its column; past the last token, what is to stand for it.
+fn number_at(tokens: &[u32], at: usize, column: usize, past: usize) -> usize
+    requires { column < token_size }
+    ensures inside { at < length tokens.now / token_size → result ≡ get_or tokens.now (at * token_size + column) 0 }
+    ensures outside { length tokens.now / token_size ≤ at → result ≡ past }
+{
+    if tokens.len() / TOKEN_SIZE <= at {
+        return past;
+    }
+    tokens[at * TOKEN_SIZE + column] as usize
+}
+
 // A token's kind; past the last token, 0.
 pub fn kind_at(text: &[u8], tokens: &[u32], at: usize) -> u8
     requires { Lent text.now tokens.now }
     ensures { result ≡ kind text.now at }
 {
-    if tokens.len() / TOKEN_SIZE <= at {
-        return 0;
-    }
-    tokens[at * TOKEN_SIZE] as u8
+    number_at(tokens, at, 0, 0) as u8
 }
 
 // Its start; past the last token, the text's length.
@@ -43,10 +52,7 @@ pub fn start_at(text: &[u8], tokens: &[u32], at: usize) -> usize
     requires { Lent text.now tokens.now }
     ensures { result ≡ start text.now at }
 {
-    if tokens.len() / TOKEN_SIZE <= at {
-        return text.len();
-    }
-    tokens[at * TOKEN_SIZE + 1] as usize
+    number_at(tokens, at, 1, text.len())
 }
 
 // Its end; past the last token, the text's length.
@@ -54,8 +60,5 @@ pub fn end_at(text: &[u8], tokens: &[u32], at: usize) -> usize
     requires { Lent text.now tokens.now }
     ensures { result ≡ end text.now at }
 {
-    if tokens.len() / TOKEN_SIZE <= at {
-        return text.len();
-    }
-    tokens[at * TOKEN_SIZE + 2] as usize
+    number_at(tokens, at, 2, text.len())
 }

@@ -4,28 +4,20 @@ ghost use Rattle.text.specs.Classes.{classes};
 ghost use Rattle.text.specs.Scans.{later, sought};
 ghost use Rattle.token.specs.Tokens.{moved, allowed, word_token, tag_token, minus_token, dots_token, inside_look, string_of, insens_token, quoted, char_token, doc_token, opener_token, one_kind};
 
+use super::runs;
 use crate::{Token, kind};
-use literal::Escape;
-use text::{Scan, Sequence};
+use text::inner::words;
 
 // A word of n bytes is a token. Few words begin with P.
+#[tactic(auto, unfolding(crate::specs::Tokens::allowed, text::specs::Words::begins))]
 fn word_allowed(s: &[u8], at: usize, n: usize) -> bool
     requires { at < length s.now }
     ensures { result ≡ allowed n (drop at s.now) }
 {
-    if s[at] != 80 {
+    if s[at] != b'P' || !words::begins_at(b"PUSH", s, at) {
         return true;
     }
-    if !text::inner::words::begins_at(b"PUSH", s, at) {
-        return true;
-    }
-    if n == 4 {
-        return true;
-    }
-    if n == 12 {
-        return text::inner::words::begins_at(b"PUSH_LITERAL", s, at);
-    }
-    false
+    n == 4 || n == 12 && words::begins_at(b"PUSH_LITERAL", s, at)
 }
 
 // A word.
@@ -34,7 +26,7 @@ pub(crate) fn word_at(t: &[u8; 256], s: &[u8], at: usize) -> Token
     requires at_in_bounds { at < length s.now }
     ensures { result ≡ moved at (word_token (drop at s.now)) }
 {
-    let end = super::runs::word_end(t, s, at);
+    let end = runs::word_end(t, s, at);
     if word_allowed(s, at, end - at) {
         return Token::Found {
             kind: kind::WORD,
@@ -46,21 +38,18 @@ pub(crate) fn word_at(t: &[u8; 256], s: &[u8], at: usize) -> Token
 }
 
 // A tag: `#` and directly a word's spelling.
+#[tactic(auto, using(crate::proofs::Places::none, crate::proofs::Places::found, crate::proofs::Runs::first_at_lem), unfolding(crate::specs::Tokens::tag_token))]
 fn tag_at(t: &[u8; 256], s: &[u8], at: usize) -> Token
     requires t_value { t.now ≡ classes }
     requires at_in_bounds { at < length s.now }
     ensures { result ≡ moved at (tag_token (drop (at + 1) s.now)) }
 {
     let j = at + 1;
-    if s.len() <= j {
-        return Token::NoToken(at);
-    }
-    if text::inner::words::starts_word(t, s[j]) {
-        let end = super::runs::word_end(t, s, j);
+    if j < s.len() && words::starts_word(t, s[j]) {
         return Token::Found {
             kind: kind::TAG,
             start: at,
-            end,
+            end: runs::word_end(t, s, j),
         };
     }
     Token::NoToken(at)
@@ -72,8 +61,8 @@ fn minus_at(t: &[u8; 256], s: &[u8], at: usize) -> Token
     requires at_in_bounds { at < length s.now }
     ensures { result ≡ moved at (minus_token (drop (at + 1) s.now)) }
 {
-    let zeros = super::runs::zeros_end(s, at + 1);
-    let end = super::runs::digits_end(t, s, at + 1);
+    let zeros = runs::zeros_end(s, at + 1);
+    let end = runs::digits_end(t, s, at + 1);
     if zeros < end {
         return Token::Found {
             kind: kind::NEGATIVE_NUMBER,
@@ -85,11 +74,12 @@ fn minus_at(t: &[u8; 256], s: &[u8], at: usize) -> Token
 }
 
 // `..`
+#[tactic(auto, using(crate::proofs::Places::none, crate::proofs::Places::found), unfolding(crate::specs::Tokens::dots_token))]
 fn dots_at(s: &[u8], at: usize) -> Token
     requires { at < length s.now }
     ensures { result ≡ moved at (dots_token (drop (at + 1) s.now)) }
 {
-    if super::runs::next_is(s, at + 1, 46) {
+    if runs::next_is(s, at + 1, b'.') {
         return Token::Found {
             kind: kind::DOTS,
             start: at,
@@ -100,30 +90,29 @@ fn dots_at(s: &[u8], at: usize) -> Token
 }
 
 // Up to the `"` or the bad backslash that ends the inside of a string.
-fn inside_end(s: &[u8], at: usize) -> Scan
+fn inside_end(s: &[u8], at: usize) -> Option<usize>
     ensures { result ≡ later at (sought inside_look 0 (drop at s.now)) }
 {
     let mut i = at;
     while i < s.len() {
-        let b = s[i];
-        if b == 34 {
-            return Scan::StopsAt(i);
-        }
-        if b == 92 {
-            let escape = literal::escape_at(s, i);
-            match escape {
-                Escape::Means(_, n) => {
+        match s[i] {
+            b'"' => {
+                return Some(i);
+            }
+            b'\\' => match literal::escape_at(s, i) {
+                Some((_, n)) => {
                     i += n;
                 }
-                Escape::Plain => {
-                    return Scan::StopsAt(i);
+                None => {
+                    return Some(i);
                 }
+            },
+            _ => {
+                i += 1;
             }
-        } else {
-            i += 1;
         }
     }
-    Scan::Through
+    None
 }
 
 // A string that the k bytes at a place open. A bad escape is told at its backslash.
@@ -133,9 +122,9 @@ fn string_at(s: &[u8], at: usize, kind: u8, k: usize) -> Token
 {
     let inside = inside_end(s, at + k);
     match inside {
-        Scan::Through => Token::NoToken(at),
-        Scan::StopsAt(i) => {
-            if s[i] == 34 {
+        None => Token::NoToken(at),
+        Some(i) => {
+            if s[i] == b'"' {
                 return Token::Found {
                     kind,
                     start: at,
@@ -148,15 +137,12 @@ fn string_at(s: &[u8], at: usize, kind: u8, k: usize) -> Token
 }
 
 // `^` directly before a string.
+#[tactic(auto, using(crate::proofs::Places::none, crate::proofs::Runs::drop_next), unfolding(crate::specs::Tokens::insens_token))]
 fn insens_at(s: &[u8], at: usize) -> Token
     requires { at < length s.now }
     ensures { result ≡ moved at (insens_token (drop (at + 1) s.now)) }
 {
-    let j = at + 1;
-    if s.len() <= j {
-        return Token::NoToken(at);
-    }
-    if s[j] == 34 {
+    if runs::next_is(s, at + 1, b'"') {
         return string_at(s, at, kind::INSENSITIVE_STRING, 2);
     }
     Token::NoToken(at)
@@ -169,7 +155,7 @@ fn quoted_at(s: &[u8], at: usize, n: usize) -> Token
     ensures { result ≡ moved at (quoted n (drop (at + 1) s.now)) }
 {
     let j = at + 1 + n;
-    if super::runs::next_is(s, j, 39) {
+    if runs::next_is(s, j, b'\'') {
         return Token::Found {
             kind: kind::CHARACTER,
             start: at,
@@ -185,70 +171,63 @@ fn char_at(s: &[u8], at: usize) -> Token
     ensures { result ≡ moved at (char_token (drop (at + 1) s.now)) }
 {
     let j = at + 1;
-    if super::runs::next_is(s, j, 92) {
-        let escape = literal::escape_at(s, j);
-        match escape {
-            Escape::Means(_, n) => {
-                return quoted_at(s, at, n);
-            }
-            Escape::Plain => {
-                return Token::NoToken(j);
-            }
-        }
+    if runs::next_is(s, j, b'\\') {
+        return match literal::escape_at(s, j) {
+            Some((_, n)) => quoted_at(s, at, n),
+            None => Token::NoToken(j),
+        };
     }
-    let sequence = text::char_at(s, j);
-    match sequence {
-        Sequence::Is(_, n) => quoted_at(s, at, n),
-        Sequence::Broken => Token::NoToken(at),
+    match text::char_at(s, j) {
+        Some((_, n)) => quoted_at(s, at, n),
+        None => Token::NoToken(at),
     }
 }
 
 // A doc: `//!` or `///` up to the line's end.
+#[tactic(auto, using(crate::proofs::Places::none, crate::proofs::Places::found, crate::proofs::Runs::drop_next), unfolding(crate::specs::Tokens::doc_token))]
 fn doc_at(s: &[u8], at: usize) -> Token
     requires { at < length s.now }
     ensures { result ≡ moved at (doc_token (drop (at + 1) s.now)) }
 {
     let j = at + 1;
-    let k = at + 2;
-    if !super::runs::next_is(s, j, 47) {
-        return Token::NoToken(at);
-    }
-    if super::runs::next_is(s, k, 33) {
+    if runs::next_is(s, j, b'/') && runs::next_is(s, j + 1, b'!') {
         return Token::Found {
             kind: kind::GRAMMAR_DOC,
             start: at,
-            end: super::runs::line_end(s, j),
+            end: runs::line_end(s, j),
         };
     }
-    if super::runs::next_is(s, k, 47) {
+    if runs::next_is(s, j, b'/') && runs::next_is(s, j + 1, b'/') {
         return Token::Found {
             kind: kind::LINE_DOC,
             start: at,
-            end: super::runs::line_end(s, j),
+            end: runs::line_end(s, j),
         };
     }
     Token::NoToken(at)
 }
 
 // What an opener at a place begins.
+#[tactic(auto, using(crate::proofs::Places::none), unfolding(crate::specs::Tokens::opener_token))]
 pub(crate) fn opener_at(t: &[u8; 256], s: &[u8], at: usize, b: u8) -> Token
     requires t_value { t.now ≡ classes }
     requires at_in_bounds { at < length s.now }
     ensures { result ≡ moved at (opener_token b (drop (at + 1) s.now)) }
 {
     match b {
-        34 => string_at(s, at, kind::STRING, 1),
-        39 => char_at(s, at),
-        94 => insens_at(s, at),
-        35 => tag_at(t, s, at),
-        46 => dots_at(s, at),
-        47 => doc_at(s, at),
-        45 => minus_at(t, s, at),
+        b'"' => string_at(s, at, kind::STRING, 1),
+        b'\'' => char_at(s, at),
+        b'^' => insens_at(s, at),
+        b'#' => tag_at(t, s, at),
+        b'.' => dots_at(s, at),
+        b'/' => doc_at(s, at),
+        b'-' => minus_at(t, s, at),
         _ => Token::NoToken(at),
     }
 }
 
 // The kind of a one-byte token.
+#[tactic(auto, unfolding(crate::specs::Tokens::one_kind))]
 pub fn one_kind(b: u8) -> u8
     ensures { result ≡ one_kind b }
 {

@@ -1,8 +1,8 @@
-// Runs of bytes of one sort: a direct loop for each.
-ghost use Rattle.std.specs.Prelude.{◌≡◌, true, false, ◌+◌, ◌<◌, ◌≤◌, length, drop};
+// Runs of bytes of one sort.
+ghost use Rattle.std.specs.Prelude.{◌≡◌, ℕ, Bool, List, true, false, ◌+◌, ◌<◌, ◌≤◌, length, drop};
 ghost use Rattle.text.specs.Booleans.{next_is};
 ghost use Rattle.text.specs.Classes.{classes};
-ghost use Rattle.token.specs.Blanks.{words, digit_run, zeros, line, line_ends, Plain};
+ghost use Rattle.token.specs.Blanks.{run, words, digit_run, zeros, line, line_ends, Plain};
 
 // The bytes that are looked at in one go where nothing is wanted of most.
 const WINDOW: usize = 16;
@@ -11,10 +11,20 @@ const WINDOW: usize = 16;
 pub(crate) fn next_is(s: &[u8], i: usize, b: u8) -> bool
     ensures { result ≡ next_is b (drop i s.now) }
 {
-    if s.len() <= i {
-        return false;
+    i < s.len() && s[i] == b
+}
+
+// Past the places from one on that pass a test.
+fn run_end<F: Fn(usize) -> bool>(s: &[u8], at: usize, inside: F) -> usize
+    requires callable { (i : ℕ) → i < length s.now → F.pre inside i }
+    ensures { (p : List ℕ → Bool) → ((i : ℕ) (r : Bool) → i < length s.now → F.post inside i r → r ≡ p (drop i s.now)) → result ≡ at + run p (drop at s.now) }
+{
+    for i in at..s.len() {
+        if !inside(i) {
+            return i;
+        }
     }
-    s[i] == b
+    at.max(s.len())
 }
 
 // Past letters, `_` and digits.
@@ -22,14 +32,7 @@ pub(crate) fn word_end(t: &[u8; 256], s: &[u8], at: usize) -> usize
     requires { t.now ≡ classes }
     ensures { result ≡ at + words (drop at s.now) }
 {
-    let mut i = at;
-    while i < s.len() {
-        if !text::inner::words::in_word(t, s[i]) {
-            return i;
-        }
-        i += 1;
-    }
-    i
+    run_end(s, at, |i| text::inner::words::in_word(t, s[i]))
 }
 
 // Past digits.
@@ -37,28 +40,14 @@ pub(crate) fn digits_end(t: &[u8; 256], s: &[u8], at: usize) -> usize
     requires { t.now ≡ classes }
     ensures { result ≡ at + digit_run (drop at s.now) }
 {
-    let mut i = at;
-    while i < s.len() {
-        if text::inner::classes::class(t, s[i]) != 3 {
-            return i;
-        }
-        i += 1;
-    }
-    i
+    run_end(s, at, |i| text::inner::classes::class(t, s[i]) == 3)
 }
 
 // Past zeros.
 pub(crate) fn zeros_end(s: &[u8], at: usize) -> usize
     ensures { result ≡ at + zeros (drop at s.now) }
 {
-    let mut i = at;
-    while i < s.len() {
-        if s[i] != 48 {
-            return i;
-        }
-        i += 1;
-    }
-    i
+    run_end(s, at, |i| s[i] == b'0')
 }
 
 // LF or CRLF stands here.
@@ -67,16 +56,7 @@ fn line_ends(s: &[u8], i: usize) -> bool
     ensures { result ≡ line_ends (drop i s.now) }
 {
     let b = s[i];
-    if 13 < b {
-        return false;
-    }
-    if b == 10 {
-        return true;
-    }
-    if b == 13 {
-        return next_is(s, i + 1, 10);
-    }
-    false
+    b <= 13 && (b == b'\n' || b == b'\r' && next_is(s, i + 1, b'\n'))
 }
 
 // Whether the bytes of the window at a place are all above CR, so that no line ends there. It looks at
@@ -88,12 +68,10 @@ fn is_plain(s: &[u8], at: usize) -> bool
     ensures fact { result ≡ false → Plain 16 s.now at → ⊥ }
 {
     let mut plain = true;
-    let mut k = 0;
-    while k < WINDOW {
-        if s[at + k] <= 13 {
+    for b in &s[at..at + WINDOW] {
+        if *b <= 13 {
             plain = false;
         }
-        k += 1;
     }
     plain
 }
@@ -103,13 +81,7 @@ fn plain_end(s: &[u8], at: usize) -> usize
     ensures { result + line (drop result s.now) ≡ at + line (drop at s.now) }
 {
     let mut i = at;
-    while i < s.len() {
-        if s.len() - i < WINDOW {
-            return i;
-        }
-        if !is_plain(s, i) {
-            return i;
-        }
+    while i < s.len() && WINDOW <= s.len() - i && is_plain(s, i) {
         i += WINDOW;
     }
     i
@@ -119,12 +91,5 @@ fn plain_end(s: &[u8], at: usize) -> usize
 pub(crate) fn line_end(s: &[u8], at: usize) -> usize
     ensures { result ≡ at + line (drop at s.now) }
 {
-    let mut i = plain_end(s, at);
-    while i < s.len() {
-        if line_ends(s, i) {
-            return i;
-        }
-        i += 1;
-    }
-    i
+    run_end(s, plain_end(s, at), |i| !line_ends(s, i))
 }

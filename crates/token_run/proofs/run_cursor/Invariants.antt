@@ -4,8 +4,8 @@ use Prim.Native.Nat.{◌-◌}
 use lib.ListN.{length}
 use Rattle.token_run.proofs.run_cursor.Given as goal
 
-abbrev pub invariant-loop-at : goal.invariant-loop-at
-invariant-loop-at l = Unit {0}
+abbrev pub invariant-loop : goal.invariant-loop
+invariant-loop l = Unit {0}
 
-abbrev pub decreases-loop-at : goal.decreases-loop-at
-decreases-loop-at l = length l.bytes - l.at
+abbrev pub decreases-loop : goal.decreases-loop
+decreases-loop l = length l.bytes - l.at

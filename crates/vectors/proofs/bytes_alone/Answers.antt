@@ -1,12 +1,7 @@
-use native.Mathlib.Omega.{arith}
-use Rattle.vectors.proofs.Vectors.{alone_more, alone_done}
+use lib.ListN.{drop}
+use mathlib.Core.Path.{◌∙◌}
+use Rattle.vectors.proofs.Vectors.{alone_counts}
 use Rattle.vectors.proofs.bytes_alone.Goals as goal
 
-pub loop-i-init : goal.loop-i-init
-loop-i-init c = (omega arith, omega arith)
-
-pub loop-i-preserved : goal.loop-i-preserved
-loop-i-preserved c = (omega arith, alone_more _ _ _ c.args.from _ _ c.loop-i-test.true c.one_if-n.ensures.1 c.loop-i.invariant.1)
-
 pub returns : goal.returns
-returns c = alone_done _ _ _ c.args.from _ c.loop-i-test.false c.loop-i.invariant.1
+returns c = c.alone.ensures ∙ alone_counts _ (drop c.args.from c.args.s.now)

@@ -1,29 +1,17 @@
 use borrow.Author.Rules.{rules}
-use lib.Seq.{length-take-le}
-use mathlib.Core.Path.{sym}
 use Rattle.vectors.proofs.Buffers.{pieces_start, pieces_more, pieces_done}
 use Rattle.vectors.proofs.pieces.Goals as goal
 
-pub loop-turns-init : goal.loop-turns-init
-loop-turns-init c = (search rules, search rules, search rules, search rules, pieces_start _ _ _)
+pub loop-turn-init : goal.loop-turn-init
+loop-turn-init c = (search rules, search rules, pieces_start _ _ _)
 
-pub loop-turns-preserved : goal.loop-turns-preserved
-loop-turns-preserved c =
-    let i = c.loop-turns.invariant in (
+pub loop-turn-preserved : goal.loop-turn-preserved
+loop-turn-preserved c =
+    let i = c.loop-turn.invariant in (
       search rules,
       search rules,
-      search rules,
-      search rules,
-      pieces_more _ _ _ _ _ _ i.4 _ _ _ _ _ _ _ _ c.loop-turns-test.true i.2 c.word.ensures c.word-in-loop-turns.ensures c.number-times.ensures c.unhex-n.ensures.left c.repeat-k.ensures.left,
+      pieces_more _ _ _ _ _ _ i.2 _ _ _ _ _ _ _ _ c.loop-turn-test.true i.1 (rw c.from.ensures at c.word.ensures) (rw c.from.ensures at c.word-in-loop-turn.ensures) c.number-times.ensures c.unhex-n.ensures.left c.repeat-k.ensures.left,
     )
 
-pub shape_of-out : goal.shape_of-out
-shape_of-out c = c.loop-turns.invariant.1
-
-pub returns : goal.returns
-returns c =
-    let i = c.loop-turns.invariant in
-    record {
-      counts = (i.0, sym (length-take-le _ _ i.0));
-      left = pieces_done _ _ _ _ _ _ i.4 c.loop-turns-test.false;
-    }
+pub returns-clause-left : goal.returns-clause-left
+returns-clause-left c = pieces_done _ _ _ _ _ _ c.loop-turn.invariant.2 c.loop-turn-test.false

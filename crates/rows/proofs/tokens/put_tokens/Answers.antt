@@ -11,15 +11,15 @@ loop-i-init c = listing_none _ _ _
 
 pub put_record-at-requires : goal.put_record-at-requires
 put_record-at-requires c = record {
-  token_size_in_bounds = omega (arith, c.requires.k_in_bounds, c.loop-i-test.true);
-  longest_token_in_bounds = omega (arith, c.requires.k_in_bounds_2, c.loop-i-test.true, c.loop-i.invariant.low, wrote_length c.loop-i.invariant.wrote);
+  token_size_in_bounds = omega (arith, c.requires.k_in_bounds);
+  longest_token_in_bounds = omega (arith, c.requires.k_in_bounds_2, c.loop-i.invariant.low, wrote_length c.loop-i.invariant.wrote);
 }
 
 pub loop-i-preserved : goal.loop-i-preserved
-loop-i-preserved c = listing_more c.loop-i.invariant c.loop-i-test.true c.put_record-at.ensures.wrote c.put_record-at.ensures.upper_bound
+loop-i-preserved c = listing_more c.loop-i.invariant (omega arith) c.put_record-at.ensures.wrote c.put_record-at.ensures.upper_bound
 
 pub shape_of-out : goal.shape_of-out
 shape_of-out c = wrote_length c.loop-i.invariant.wrote
 
 pub returns : goal.returns
-returns c = clauses_wrote_upper_bound (list_all c.loop-i.invariant c.loop-i-test.false)
+returns c = clauses_wrote_upper_bound (list_all c.loop-i.invariant (omega arith))

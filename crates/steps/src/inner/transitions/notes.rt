@@ -4,7 +4,7 @@ ghost use Rattle.text.specs.Limits.{max_text};
 ghost use Rattle.states.specs.Machine as Machine;
 ghost use Rattle.steps.specs.Shapes.{out_of};
 
-use super::moves;
+use super::moves::{self, Piece};
 use crate::Row;
 use states::State;
 
@@ -12,20 +12,19 @@ pub(crate) fn slash(a: usize, x: u8) -> Row
     ensures { out_of result ≡ Machine.slash_row a x }
 {
     match x {
-        47 => moves::go(State::Slash2, a, 2),
-        42 => moves::go(State::Com(1), a, 2),
+        b'/' => moves::go(State::Slash2, a, 2),
+        b'*' => moves::go(State::Com(1), a, 2),
         _ => moves::refuse(a),
     }
 }
 
-pub(crate) fn line(a: usize, n: usize, x: u8) -> Row
-    requires { a + n ≤ 65540 }
-    ensures { out_of result ≡ Machine.line_row a n x }
+pub(crate) fn line(p: Piece, x: u8) -> Row
+    ensures { out_of result ≡ Machine.line_row p.start p.size x }
 {
-    if x == 10 {
-        return moves::go(State::Start, a + (n + 1), 0);
+    if x == b'\n' {
+        return moves::go(State::Start, p.start + (p.size + 1), 0);
     }
-    moves::grow(State::Line, a, n)
+    p.grow(State::Line)
 }
 
 pub(crate) fn slash2(a: usize, x: u8) -> Row
@@ -33,79 +32,75 @@ pub(crate) fn slash2(a: usize, x: u8) -> Row
     ensures { out_of result ≡ Machine.slash2_row a x }
 {
     match x {
-        47 => moves::go(State::Doc(27), a, 3),
-        33 => moves::go(State::Doc(26), a, 3),
-        _ => line(a, 2, x),
+        b'/' => moves::go(State::Doc(27), a, 3),
+        b'!' => moves::go(State::Doc(26), a, 3),
+        _ => line(Piece { start: a, size: 2 }, x),
     }
 }
 
-pub(crate) fn doc(kind: usize, a: usize, n: usize, x: u8) -> Row
+pub(crate) fn doc(kind: usize, p: Piece, x: u8) -> Row
     requires kind_bound { kind ≤ 255 }
-    requires n_bound { a + n ≤ max_text + 1 }
-    ensures { out_of result ≡ Machine.doc_row kind a n x }
+    ensures { out_of result ≡ Machine.doc_row kind p.start p.size x }
 {
     match x {
-        10 => moves::give(kind, a, a + n, a + (n + 1)),
-        13 => moves::go(State::DocCr(kind), a, n),
-        _ => moves::grow(State::Doc(kind), a, n),
+        b'\n' => moves::give(kind, p.start, p.start + p.size, p.start + (p.size + 1)),
+        b'\r' => p.stay(State::DocCr(kind)),
+        _ => p.grow(State::Doc(kind)),
     }
 }
 
 // The CR that came before isn't counted yet.
-pub(crate) fn doc_cr(kind: usize, a: usize, n: usize, x: u8) -> Row
+pub(crate) fn doc_cr(kind: usize, p: Piece, x: u8) -> Row
     requires kind_bound { kind ≤ 255 }
-    requires n_bound { a + n ≤ max_text }
-    ensures { out_of result ≡ Machine.doc_cr_row kind a n x }
+    requires n_bound { p.start + p.size ≤ max_text }
+    ensures { out_of result ≡ Machine.doc_cr_row kind p.start p.size x }
 {
-    if x == 10 {
-        return moves::give(kind, a, a + n, a + (n + 2));
+    if x == b'\n' {
+        return moves::give(kind, p.start, p.start + p.size, p.start + (p.size + 2));
     }
-    doc(kind, a, n + 1, x)
+    doc(kind, p.longer(), x)
 }
 
 pub(crate) fn cr(a: usize, x: u8) -> Row
     requires { a ≤ max_text }
     ensures { out_of result ≡ Machine.cr_row a x }
 {
-    if x == 10 {
+    if x == b'\n' {
         return moves::go(State::Start, a + 2, 0);
     }
     moves::refuse(a)
 }
 
-pub(crate) fn comment(d: usize, a: usize, n: usize, x: u8) -> Row
-    requires { n ≤ max_text + 1 }
-    ensures { out_of result ≡ Machine.com_row d a n x }
+pub(crate) fn comment(d: usize, p: Piece, x: u8) -> Row
+    ensures { out_of result ≡ Machine.com_row d p.start p.size x }
 {
     match x {
-        42 => moves::go(State::Star(d), a, n),
-        47 => moves::go(State::Bar(d), a, n),
-        _ => moves::grow(State::Com(d), a, n),
+        b'*' => p.stay(State::Star(d)),
+        b'/' => p.stay(State::Bar(d)),
+        _ => p.grow(State::Com(d)),
     }
 }
 
 // The `*` that came before isn't counted yet.
-pub(crate) fn star(d: usize, a: usize, n: usize, x: u8) -> Row
-    requires { a + n ≤ max_text }
-    ensures { out_of result ≡ Machine.star_row d a n x }
+pub(crate) fn star(d: usize, p: Piece, x: u8) -> Row
+    requires { p.start + p.size ≤ max_text }
+    ensures { out_of result ≡ Machine.star_row d p.start p.size x }
 {
-    if x == 47 {
-        if d <= 1 {
-            return moves::go(State::Start, a + (n + 2), 0);
-        }
-        return moves::go(State::Com(d - 1), a, n + 2);
+    match x {
+        b'/' if d <= 1 => moves::go(State::Start, p.start + (p.size + 2), 0),
+        b'/' => moves::go(State::Com(d - 1), p.start, p.size + 2),
+        _ => comment(d, p.longer(), x),
     }
-    comment(d, a, n + 1, x)
 }
 
 // Nor is the `/`.
-pub(crate) fn bar(d: usize, a: usize, n: usize, x: u8) -> Row
-    requires d_le_n { d ≤ n }
-    requires n_le_max_text { n ≤ max_text }
-    ensures { out_of result ≡ Machine.bar_row d a n x }
+pub(crate) fn bar(d: usize, p: Piece, x: u8) -> Row
+    requires d_le_n { d ≤ p.size }
+    requires n_bound { p.start + p.size ≤ max_text }
+    ensures { out_of result ≡ Machine.bar_row d p.start p.size x }
 {
-    if x == 42 {
-        return moves::go(State::Com(d + 1), a, n + 2);
+    if x == b'*' {
+        return moves::go(State::Com(d + 1), p.start, p.size + 2);
     }
-    comment(d, a, n + 1, x)
+    comment(d, p.longer(), x)
 }

@@ -4,20 +4,20 @@ use mathlib.Core.Path.{sym, ◌∙◌}
 use Rattle.stream.proofs.Sounds.{last_2, last_3, last_14, last_goes}
 use Rattle.stream.proofs.passes.last.Goals as goal
 
-pub returns-in-StopsAt : goal.returns-in-StopsAt
-returns-in-StopsAt c = last_2 c.args.room c.args.c c.in-StopsAt.place (sym c.ended-cut.ensures ∙ c.in-StopsAt.is)
+pub returns-in-Some : goal.returns-in-Some
+returns-in-Some c = last_2 c.args.room c.args.c c.in-Some.place (sym c.ended.ensures ∙ c.in-Some.is)
 
-pub returns-in-StopsAt-fault : goal.returns-in-StopsAt-fault
-returns-in-StopsAt-fault c =
-    let e = sym c.ended-cut.ensures ∙ c.in_default.is in
-    last_3 c.args.room c.args.c e c.finish-finish.result c.finish-finish.ensures c.in-StopsAt-fault.place c.in-StopsAt-fault.is
+pub returns-in-Some-fault : goal.returns-in-Some-fault
+returns-in-Some-fault c =
+    let e = sym c.ended.ensures ∙ c.in_default.is in
+    last_3 c.args.room c.args.c e c.finish-finish.result c.finish-finish.ensures c.in-Some-fault.place c.in-Some-fault.is
 
-pub returns-in-StopsAt-over : goal.returns-in-StopsAt-over
-returns-in-StopsAt-over c =
-    let e = sym c.ended-cut.ensures ∙ c.in_default.is in
-    last_14 c.args.room c.args.c e c.finish-finish.result c.finish-finish.ensures c.in-StopsAt-over.place c.in_default-fault.is (sym c.over-over.ensures ∙ c.in-StopsAt-over.is)
+pub returns-in-Some-over : goal.returns-in-Some-over
+returns-in-Some-over c =
+    let e = sym c.ended.ensures ∙ c.in_default.is in
+    last_14 c.args.room c.args.c e c.finish-finish.result c.finish-finish.ensures c.in-Some-over.place c.in_default-fault.is (sym c.over.ensures ∙ c.in-Some-over.is)
 
 pub returns : goal.returns
 returns c =
-    let e = sym c.ended-cut.ensures ∙ c.in_default.is in
-    rw c.fresh.ensures (last_goes c.args.room c.args.c e c.finish-finish.result c.finish-finish.ensures c.in_default-fault.is (sym c.over-over.ensures ∙ c.in_default-over.is))
+    let e = sym c.ended.ensures ∙ c.in_default.is in
+    rw c.fresh.ensures (last_goes c.args.room c.args.c e c.finish-finish.result c.finish-finish.ensures c.in_default-fault.is (sym c.over.ensures ∙ c.in_default-over.is))

@@ -1,25 +1,27 @@
-use native.Mathlib.Omega.{arith}
 use mathlib.Core.Path.{sym, ◌∙◌, ap, refl}
 use Rattle.stream.specs.Shapes.{ran_by}
 use Rattle.stream.proofs.Writes.{run_stops, run_moves, ran_end, step_sound}
+use Rattle.std.proofs.lemmas.Result.{err_from_is_err_and}
 use Rattle.stream.proofs.passes.run.Goals as goal
 
-pub loop-i-init : goal.loop-i-init
-loop-i-init c = (omega arith, c.requires.coherent, refl)
+pub loop-x-init : goal.loop-x-init
+loop-x-init c = (c.requires.coherent, refl)
 
-pub step-stepped-requires : goal.step-stepped-requires
-step-stepped-requires c = record {
+pub step-requires : goal.step-requires
+step-requires c = record {
   t_value = c.requires.t_value;
-  coherent = c.loop-i.invariant.1;
+  coherent = c.loop-x.invariant.0;
 }
 
-pub returns-in-Stops : goal.returns-in-Stops
-returns-in-Stops c = run_stops c.args.room c.loop-i.c c.args.packet.now c.loop-i.i c.loop-i-test.true _ _ (rw c.in-Stops.is at c.step-stepped.ensures) ∙ c.loop-i.invariant.2
+pub returns-in_err-c : goal.returns-in_err-c
+returns-in_err-c c =
+    let p = err_from_is_err_and c.from_residual.result c.from_residual.ensures.1 in
+    rw (p.1, p.2) (run_stops c.args.room c.loop-x.c c.args.packet.now c.loop-x.x-index c.loop-x-test.true _ c.in_err-c.ensures ∙ c.loop-x.invariant.1)
 
-pub loop-i-preserved : goal.loop-i-preserved
-loop-i-preserved c =
-    let e = rw c.in-Moves.is at c.step-stepped.ensures in
-    (omega arith, step_sound c.args.room c.loop-i.c _ _ _ c.loop-i.invariant.1 e, run_moves c.args.room c.loop-i.c c.args.packet.now c.loop-i.i c.loop-i-test.true _ _ e ∙ c.loop-i.invariant.2)
+pub loop-x-preserved : goal.loop-x-preserved
+loop-x-preserved c =
+    let e = rw c.in_ok-c.was at c.step.ensures in
+    (step_sound c.args.room c.loop-x.c _ _ _ c.loop-x.invariant.0 e, run_moves c.args.room c.loop-x.c c.args.packet.now c.loop-x.x-index c.loop-x-test.true _ _ e ∙ c.loop-x.invariant.1)
 
 pub returns : goal.returns
-returns c = sym (ap ran_by (ran_end c.args.room c.loop-i.c c.args.packet.now c.loop-i.i c.loop-i-test.false)) ∙ c.loop-i.invariant.2
+returns c = sym (ap ran_by (ran_end c.args.room c.loop-x.c c.args.packet.now c.loop-x.x-index c.loop-x-test.false)) ∙ c.loop-x.invariant.1

@@ -26,11 +26,6 @@ shape_of-tokens-then-room-n c = fill_length c.loop-place.invariant
 pub returns-then-room-n : goal.returns-then-room-n
 returns-then-room-n c = clauses_answer_held (fill_full c.loop-place.invariant c.near_token-token.ensures c.in-Found.is c.if-room-n.true)
 
-pub overflow_cast-kind : goal.overflow_cast-kind
-overflow_cast-kind c =
-    let t = fill_room c.loop-place.invariant c.near_token-token.ensures c.in-Found.is c.if-room-n.false c.requires.s_len_bound in
-    omega arith
-
 pub overflow_cast-start : goal.overflow_cast-start
 overflow_cast-start c =
     let t = fill_room c.loop-place.invariant c.near_token-token.ensures c.in-Found.is c.if-room-n.false c.requires.s_len_bound in
@@ -53,4 +48,4 @@ pub loop-place-smaller : goal.loop-place-smaller
 loop-place-smaller c = (fill_room c.loop-place.invariant c.near_token-token.ensures c.in-Found.is c.if-room-n.false c.requires.s_len_bound).less
 
 pub loop-place-preserved : goal.loop-place-preserved
-loop-place-preserved c = fill_more c.loop-place.invariant c.near_token-token.ensures c.in-Found.is c.if-room-n.false c.put_token.ensures
+loop-place-preserved c = fill_more c.loop-place.invariant c.near_token-token.ensures c.in-Found.is c.if-room-n.false (rw c.from.ensures at c.put_token.ensures)

@@ -1,18 +1,7 @@
 -- The inside of the literal is the bytes from a + k to z - 1, which lie in the text (`string_inside`). What it means goes into the store, and one record names it.
 -- Room for the leaf is room for both (`string_room`, `string_fits`), and together they are the leaf in the buffers (`string_built`).
-use native.Mathlib.Omega.{arith}
-use Rattle.build.proofs.Leaves.{string_inside, string_good, string_room, string_fits, string_few, string_built}
+use Rattle.build.proofs.Leaves.{string_inside, string_good, string_room, string_fits, string_built}
 use Rattle.build.proofs.inner.leaves.put_literal.Goals as goal
-
-pub overflow_add-a : goal.overflow_add-a
-overflow_add-a c =
-    let quotes = string_inside _ _ _ _ _ _ _ _ c.requires.lent.short c.requires.at_bound c.requires.at_value c.requires.tree_room _ _ _ c.start_at-a.ensures c.end_at-z.ensures c.opening_of-k.ensures in
-    omega (arith, quotes)
-
-pub overflow_sub-z : goal.overflow_sub-z
-overflow_sub-z c =
-    let p = string_inside _ _ _ _ _ _ _ _ c.requires.lent.short c.requires.at_bound c.requires.at_value c.requires.tree_room _ _ _ c.start_at-a.ensures c.end_at-z.ensures c.opening_of-k.ensures in
-    omega arith
 
 pub put_string-end-requires : goal.put_string-end-requires
 put_string-end-requires c =
@@ -23,16 +12,8 @@ put_string-end-requires c =
       room = string_room _ _ _ _ _ _ _ _ c.requires.lent.short c.requires.at_bound c.requires.at_value c.requires.tree_room _ _ _ c.start_at-a.ensures c.end_at-z.ensures c.opening_of-k.ensures;
     }
 
-pub overflow_sub-end : goal.overflow_sub-end
-overflow_sub-end c = (string_fits _ _ _ _ _ _ _ _ c.requires.lent.short c.requires.at_bound c.requires.at_value c.requires.tree_room _ _ _ c.start_at-a.ensures c.end_at-z.ensures c.opening_of-k.ensures _ _ c.put_string-end.ensures).0
-
 pub put_text-requires : goal.put_text-requires
 put_text-requires c = (string_fits _ _ _ _ _ _ _ _ c.requires.lent.short c.requires.at_bound c.requires.at_value c.requires.tree_room _ _ _ c.start_at-a.ensures c.end_at-z.ensures c.opening_of-k.ensures _ _ c.put_string-end.ensures).1
-
-pub overflow_add-result : goal.overflow_add-result
-overflow_add-result c =
-    let p = string_few _ _ _ _ _ _ _ _ c.requires.lent.short c.requires.at_bound c.requires.at_value c.requires.tree_room _ _ _ c.start_at-a.ensures c.end_at-z.ensures c.opening_of-k.ensures _ _ c.put_string-end.ensures in
-    omega arith
 
 pub returns : goal.returns
 returns c = string_built _ _ _ _ _ _ _ _ c.requires.lent.short c.requires.at_bound c.requires.at_value c.requires.tree_room _ _ _ c.start_at-a.ensures c.end_at-z.ensures c.opening_of-k.ensures _ _ c.put_string-end.ensures _ c.put_text.ensures

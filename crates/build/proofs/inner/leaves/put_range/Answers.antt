@@ -32,10 +32,5 @@ overflow_add-result c =
     let n = sizes _ _ c.requires.lent in
     omega arith
 
-pub overflow_add-result-2 : goal.overflow_add-result-2
-overflow_add-result-2 c =
-    let f = c.requires.tree_room.few in
-    omega arith
-
 pub returns : goal.returns
 returns c = range_built _ _ _ _ c.requires.lent.short _ _ _ _ c.start_at-a.ensures c.end_at-z.ensures _ _ _ _ _ _ (range_read _ _ c.requires.tree_room).2 c.character_at-x.ensures c.character_at-y.ensures _ c.put_range.ensures

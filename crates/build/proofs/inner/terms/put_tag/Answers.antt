@@ -1,6 +1,5 @@
 -- Without a tag, and with one that plain drops, the term is what was built already (`tie_none`, `tie_plain`).
 -- Otherwise one record goes over it, which names the tag's text in the store, from `free` to `mid` (`tie_tagged`).
-use native.Mathlib.Omega.{arith}
 use Rattle.build.proofs.Terms.{tie_none, tie_plain, tag_fits, tie_tagged}
 use Rattle.build.proofs.inner.terms.put_tag.Goals as goal
 
@@ -14,11 +13,6 @@ put_tag-requires c =
       over = f.0;
       offset_le_most = f.1;
     }
-
-pub overflow_add-result : goal.overflow_add-result
-overflow_add-result c =
-    let f = (tag_fits _ _ _ _ _ _ _ c.kind_at.ensures c.if-kind_at-ne-TAG.false c.requires.lent.short _ c.start_at-a.ensures c.in-Tagged.is c.requires.tag_room).2 in
-    omega arith
 
 pub returns-in-Plain : goal.returns-in-Plain
 returns-in-Plain c = tie_plain _ _ _ _ _ _ _ c.kind_at.ensures c.if-kind_at-ne-TAG.false c.in-Plain.is

@@ -11,7 +11,7 @@ pub bounds-runs-i : goal.bounds-runs-i
 bounds-runs-i c = omega (arith, c.requires.store_len_bound)
 
 pub returns-then-i-eq0 : goal.returns-then-i-eq0
-returns-then-i-eq0 c = ap (leb c.args.e) (c.wide.ensures ∙ c.requires.runs.at c.loop-i.i (omega arith) c.if-i-eq0.true) ∙ sym (part_runs _ _ c.requires.e_in_bounds _ c.loop-i.invariant.0) ∙ c.loop-i.invariant.1
+returns-then-i-eq0 c = ap (leb c.args.e) (c.requires.runs.at c.loop-i.i (omega arith) c.if-i-eq0.true) ∙ sym (part_runs _ _ c.requires.e_in_bounds _ c.loop-i.invariant.0) ∙ c.loop-i.invariant.1
 
 pub returns-then-not-in_word : goal.returns-then-not-in_word
 returns-then-not-in_word c = sym (part_stop _ _ c.requires.e_in_bounds _ c.loop-i-test.true (sym c.in_word.ensures ∙ c.if-not-in_word.true)) ∙ c.loop-i.invariant.1

@@ -12,22 +12,22 @@ pub bounds-stops-i : goal.bounds-stops-i
 bounds-stops-i c = omega (arith, c.requires.store_len_bound)
 
 pub ends-requires : goal.ends-requires
-ends-requires c = omega (arith, c.wide.ensures, c.requires.stops.at c.loop-i.i (omega arith) c.if-i-lt4.true, (stop_between c.args.store.now c.loop-i.i (omega arith)).1)
+ends-requires c = omega (arith, c.requires.stops.at c.loop-i.i (omega arith) c.if-i-lt4.true, (stop_between c.args.store.now c.loop-i.i (omega arith)).1)
 
 pub returns-then-i-lt4 : goal.returns-then-i-lt4
-returns-then-i-lt4 c = c.ends.ensures ∙ ap (λ x. ends_at c.args.store.now x c.args.e) (c.wide.ensures ∙ c.requires.stops.at c.loop-i.i (omega arith) c.if-i-lt4.true) ∙ sym (part_ends _ _ c.requires.e_in_bounds _ c.loop-i-test.true) ∙ c.loop-i.invariant.1
+returns-then-i-lt4 c = c.ends.ensures ∙ ap (λ x. ends_at c.args.store.now x c.args.e) (c.requires.stops.at c.loop-i.i (omega arith) c.if-i-lt4.true) ∙ sym (part_ends _ _ c.requires.e_in_bounds _ c.loop-i-test.true) ∙ c.loop-i.invariant.1
 
 pub returns-then-e-i : goal.returns-then-e-i
-returns-then-e-i c = sym (part_cut _ _ _ c.requires.e_in_bounds _ _ c.loop-i-test.true (sym c.char_at-sequence.ensures ∙ c.in-Is.is) c.if-e-i.true) ∙ c.loop-i.invariant.1
+returns-then-e-i c = sym (part_cut _ _ _ c.requires.e_in_bounds _ _ c.loop-i-test.true (sym c.char_at-sequence.ensures ∙ c.in-Some.is) c.if-e-i.true) ∙ c.loop-i.invariant.1
 
 pub loop-i-smaller : goal.loop-i-smaller
-loop-i-smaller c = let d = decoded _ _ _ (sym c.char_at-sequence.ensures ∙ c.in-Is.is) in omega (arith, d.some)
+loop-i-smaller c = let d = decoded _ _ _ (sym c.char_at-sequence.ensures ∙ c.in-Some.is) in omega (arith, d.some)
 
 pub loop-i-preserved : goal.loop-i-preserved
-loop-i-preserved c = (omega arith, sym (part_step _ _ _ c.requires.e_in_bounds _ _ c.loop-i-test.true (sym c.char_at-sequence.ensures ∙ c.in-Is.is) c.if-e-i.false) ∙ c.loop-i.invariant.1)
+loop-i-preserved c = (omega arith, sym (part_step _ _ _ c.requires.e_in_bounds _ _ c.loop-i-test.true (sym c.char_at-sequence.ensures ∙ c.in-Some.is) c.if-e-i.false) ∙ c.loop-i.invariant.1)
 
-pub returns-in-Broken : goal.returns-in-Broken
-returns-in-Broken c = sym (part_bad _ _ _ c.requires.e_in_bounds c.loop-i-test.true (sym c.char_at-sequence.ensures ∙ c.in-Broken.is)) ∙ c.loop-i.invariant.1
+pub returns-in-None : goal.returns-in-None
+returns-in-None c = sym (part_bad _ _ _ c.requires.e_in_bounds c.loop-i-test.true (sym c.char_at-sequence.ensures ∙ c.in-None.is)) ∙ c.loop-i.invariant.1
 
 pub returns : goal.returns
 returns c = sym (part_end _ _ _ c.requires.e_in_bounds c.loop-i-test.false) ∙ c.loop-i.invariant.1

@@ -7,16 +7,16 @@ pub returns-then-is_any : goal.returns-then-is_any
 returns-then-is_any c = link_any _ _ _ c.is_any.ensures c.if-is_any.true
 
 pub root_of-requires : goal.root_of-requires
-root_of-requires c = rule_below _ _ _ c.is_any.ensures c.if-is_any.false c.rule_named-named.ensures c.in-By.is
+root_of-requires c = rule_below _ _ _ c.is_any.ensures c.if-is_any.false c.rule_named.ensures c.in-Some.is
 
 pub overflow_add-result : goal.overflow_add-result
-overflow_add-result c = omega (arith, c.root_of.ensures, c.requires.rooted.low _ (rule_below _ _ _ c.is_any.ensures c.if-is_any.false c.rule_named-named.ensures c.in-By.is))
+overflow_add-result c = omega (arith, c.root_of.ensures, c.requires.rooted.low _ (rule_below _ _ _ c.is_any.ensures c.if-is_any.false c.rule_named.ensures c.in-Some.is))
 
 pub overflow_cast-result : goal.overflow_cast-result
-overflow_cast-result c = omega (arith, c.root_of.ensures, c.requires.rooted.low _ (rule_below _ _ _ c.is_any.ensures c.if-is_any.false c.rule_named-named.ensures c.in-By.is))
+overflow_cast-result c = omega (arith, c.root_of.ensures, c.requires.rooted.low _ (rule_below _ _ _ c.is_any.ensures c.if-is_any.false c.rule_named.ensures c.in-Some.is))
 
-pub returns-in-By : goal.returns-in-By
-returns-in-By c = link_rule _ _ _ c.is_any.ensures c.if-is_any.false c.rule_named-named.ensures c.in-By.is c.root_of.ensures
+pub returns-in-Some : goal.returns-in-Some
+returns-in-Some c = link_rule _ _ _ c.is_any.ensures c.if-is_any.false c.rule_named.ensures c.in-Some.is c.root_of.ensures
 
-pub returns-in-Nobody : goal.returns-in-Nobody
-returns-in-Nobody c = link_nobody _ _ _ c.is_any.ensures c.if-is_any.false c.rule_named-named.ensures c.in-Nobody.is
+pub returns-in-None : goal.returns-in-None
+returns-in-None c = link_nobody _ _ _ c.is_any.ensures c.if-is_any.false c.rule_named.ensures c.in-None.is

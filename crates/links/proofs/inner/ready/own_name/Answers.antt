@@ -13,8 +13,8 @@ slice_bounds-name-end c = head_inside _ _ _ _ c.head_at-head.ensures c.requires.
 pub returns-then-is_any : goal.returns-then-is_any
 returns-then-is_any c = own_any _ _ _ _ (head_name _ _ _ _ c.head_at-head.ensures) c.is_any.ensures c.if-is_any.true
 
-pub returns-in-By : goal.returns-in-By
-returns-in-By c = own_by _ _ _ _ (head_name _ _ _ _ c.head_at-head.ensures) c.is_any.ensures c.if-is_any.false c.rule_named-named.ensures c.in-By.is
+pub returns-in-Some : goal.returns-in-Some
+returns-in-Some c = own_by _ _ _ _ (head_name _ _ _ _ c.head_at-head.ensures) c.is_any.ensures c.if-is_any.false c.rule_named.ensures c.in-Some.is
 
-pub returns-in-Nobody : goal.returns-in-Nobody
-returns-in-Nobody c = own_nobody _ _ _ _ (head_name _ _ _ _ c.head_at-head.ensures) c.is_any.ensures c.if-is_any.false c.rule_named-named.ensures c.in-Nobody.is
+pub returns-in-None : goal.returns-in-None
+returns-in-None c = own_nobody _ _ _ _ (head_name _ _ _ _ c.head_at-head.ensures) c.is_any.ensures c.if-is_any.false c.rule_named.ensures c.in-None.is

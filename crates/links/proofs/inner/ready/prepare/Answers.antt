@@ -1,64 +1,28 @@
 -- The questions are asked in the order of their numbers, each once those before it are settled.
-use mathlib.Core.Path.{◌≡◌}
-use Rattle.links.proofs.Asked.{ready_shape, ready_node, ready_rule, ready_unfit, ready_start, ready_own, ready_known, ready_yes, ready_valid}
+use Rattle.links.proofs.Asked.{ready_false, ready_unfit, ready_start, ready_own, ready_known, ready_yes, ready_valid}
 use Rattle.table.proofs.Names.{valid_inside}
-use native.Mathlib.Omega.{arith}
-use Prim.Native.Nat.{ℕ}
 use Rattle.links.proofs.inner.ready.prepare.Goals as goal
+use Rattle.links.proofs.inner.ready.prepare.Goals.{then-rules-start-via-then-rules-start, then-rules-start-via-else-rules-start+then-not-own_names, then-rules-start-via-else-rules-start+else-not-own_names+then-not-link_names}
 
-pub returns-in-Shape : goal.returns-in-Shape
-returns-in-Shape c = record {
-  value = ready_shape _ _ _ _ c.check_tables-check.ensures c.in-Shape.is;
-  linked = λ e. let z : ◌≡◌ {A = ℕ} 0 1 = cc in absurd (omega arith);
-}
+pub returns-in_default-clause-value : goal.returns-in_default-clause-value
+returns-in_default-clause-value c = ready_false _ _ _ _ c.check_tables.ensures c.in_default.not-Good
 
-pub returns-in-Node : goal.returns-in-Node
-returns-in-Node c = record {
-  value = ready_node _ _ _ _ c.check_tables-check.ensures c.in-Node.is;
-  linked = λ e. let z : ◌≡◌ {A = ℕ} 0 1 = cc in absurd (omega arith);
-}
-
-pub returns-in-Rule : goal.returns-in-Rule
-returns-in-Rule c = record {
-  value = ready_rule _ _ _ _ c.check_tables-check.ensures c.in-Rule.is;
-  linked = λ e. let z : ◌≡◌ {A = ℕ} 0 1 = cc in absurd (omega arith);
-}
-
-pub returns-in-At : goal.returns-in-At
-returns-in-At c = record {
-  value = ready_unfit _ _ _ _ c.check_tables-check.ensures c.in-Good.is c.first_unfit-unfit.ensures c.in-At.is;
-  linked = λ e. let z : ◌≡◌ {A = ℕ} 0 1 = cc in absurd (omega arith);
-}
-
-pub returns-then-rules-start : goal.returns-then-rules-start
-returns-then-rules-start c = record {
-  value = ready_start _ _ _ _ c.check_tables-check.ensures c.in-Good.is c.first_unfit-unfit.ensures c.in_default.is c.if-rules-start.true;
-  linked = λ e. let z : ◌≡◌ {A = ℕ} 0 1 = cc in absurd (omega arith);
-}
+pub returns-in-Some-clause-value : goal.returns-in-Some-clause-value
+returns-in-Some-clause-value c = ready_unfit _ _ _ _ c.check_tables.ensures c.in-Good.is c.first_unfit.ensures c.in-Some.is
 
 pub own_names-requires : goal.own_names-requires
-own_names-requires c = valid_inside (ready_valid _ _ _ 0 c.check_tables-check.ensures c.in-Good.is)
+own_names-requires c = valid_inside (ready_valid _ _ _ 0 c.check_tables.ensures c.in-Good.is)
 
-pub returns-then-not-own_names : goal.returns-then-not-own_names
-returns-then-not-own_names c = record {
-  value = ready_own _ _ _ _ c.check_tables-check.ensures c.in-Good.is c.first_unfit-unfit.ensures c.in_default.is c.own_names.ensures c.if-not-own_names.true;
-  linked = λ e. let z : ◌≡◌ {A = ℕ} 0 1 = cc in absurd (omega arith);
-}
+pub link_names-requires-clause-valid : goal.link_names-requires-clause-valid
+link_names-requires-clause-valid c = ready_valid _ _ _ 0 c.check_tables.ensures c.in-Good.is
 
-pub link_names-requires : goal.link_names-requires
-link_names-requires c = record {
-  valid = ready_valid _ _ _ 0 c.check_tables-check.ensures c.in-Good.is;
-  links_len = c.requires;
-}
+pub returns-then-rules-start-clause-value : goal.returns-then-rules-start-clause-value
+returns-then-rules-start-clause-value c =
+    elim c.then-rules-start.branch [
+      | then-rules-start-via-then-rules-start w ↦ ready_start _ _ _ _ c.check_tables.ensures c.in-Good.is c.first_unfit.ensures c.in_default-first_unfit.is w.if-rules-start.true
+      | then-rules-start-via-else-rules-start+then-not-own_names w ↦ ready_own _ _ _ _ c.check_tables.ensures c.in-Good.is c.first_unfit.ensures c.in_default-first_unfit.is w.own_names.ensures w.if-not-own_names.true
+      | then-rules-start-via-else-rules-start+else-not-own_names+then-not-link_names w ↦ ready_known _ _ _ _ c.check_tables.ensures c.in-Good.is c.first_unfit.ensures c.in_default-first_unfit.is w.link_names.ensures.value w.if-not-link_names.true
+    ]
 
-pub returns-then-not-link_names : goal.returns-then-not-link_names
-returns-then-not-link_names c = record {
-  value = ready_known _ _ _ _ c.check_tables-check.ensures c.in-Good.is c.first_unfit-unfit.ensures c.in_default.is c.link_names.ensures.value c.if-not-link_names.true;
-  linked = λ e. let z : ◌≡◌ {A = ℕ} 0 1 = cc in absurd (omega arith);
-}
-
-pub returns : goal.returns
-returns c = record {
-  value = ready_yes _ _ _ _ c.check_tables-check.ensures c.in-Good.is c.first_unfit-unfit.ensures c.in_default.is c.if-rules-start.false c.own_names.ensures c.if-not-own_names.false c.link_names.ensures.value c.if-not-link_names.false;
-  linked = λ e. c.link_names.ensures.linked c.if-not-link_names.false;
-}
+pub returns-clause-value : goal.returns-clause-value
+returns-clause-value c = ready_yes _ _ _ _ c.check_tables.ensures c.in-Good.is c.first_unfit.ensures c.in_default-first_unfit.is c.if-rules-start.false c.own_names.ensures c.if-not-own_names.false c.link_names.ensures.value c.if-not-link_names.false

@@ -9,20 +9,20 @@ pub loop-i-init : goal.loop-i-init
 unfolding bad_escape
 loop-i-init c = later_zero _
 
-pub loop-i-preserved-in-Plain : goal.loop-i-preserved-in-Plain
-loop-i-preserved-in-Plain c = sym (plain_look _ _ c.loop-i-test.true (sym c.escape_in-escape.ensures ∙ c.in-Plain.is)) ∙ c.loop-i.invariant
+pub loop-i-preserved-in-None : goal.loop-i-preserved-in-None
+loop-i-preserved-in-None c = sym (plain_look _ _ c.loop-i-test.true (sym c.escape_in-escape.ensures ∙ c.in-None.is)) ∙ c.loop-i.invariant
 
 pub returns-then-not-is_scalar : goal.returns-then-not-is_scalar
-returns-then-not-is_scalar c = sym (bad_look _ _ c.loop-i-test.true _ _ (sym c.escape_in-escape.ensures ∙ c.in-Means.is) (sym c.is_scalar.ensures ∙ c.if-not-is_scalar.true)) ∙ c.loop-i.invariant
+returns-then-not-is_scalar c = sym (bad_look _ _ c.loop-i-test.true _ _ (sym c.escape_in-escape.ensures ∙ c.in-Some.is) (sym c.is_scalar.ensures ∙ c.if-not-is_scalar.true)) ∙ c.loop-i.invariant
 
-pub overflow_add-i-in-Means : goal.overflow_add-i-in-Means
-overflow_add-i-in-Means c = omega (arith, (meant _ _ _ (sym c.escape_in-escape.ensures ∙ c.in-Means.is)).ten)
+pub overflow_add-i-in-Some : goal.overflow_add-i-in-Some
+overflow_add-i-in-Some c = omega (arith, (meant _ _ _ (sym c.escape_in-escape.ensures ∙ c.in-Some.is)).ten)
 
 pub loop-i-smaller : goal.loop-i-smaller
-loop-i-smaller c = omega (arith, (meant _ _ _ (sym c.escape_in-escape.ensures ∙ c.in-Means.is)).two)
+loop-i-smaller c = omega (arith, (meant _ _ _ (sym c.escape_in-escape.ensures ∙ c.in-Some.is)).two)
 
 pub loop-i-preserved : goal.loop-i-preserved
-loop-i-preserved c = sym (means_look _ _ c.loop-i-test.true _ _ (sym c.escape_in-escape.ensures ∙ c.in-Means.is) (sym c.is_scalar.ensures ∙ c.if-not-is_scalar.false)) ∙ c.loop-i.invariant
+loop-i-preserved c = sym (means_look _ _ c.loop-i-test.true _ _ (sym c.escape_in-escape.ensures ∙ c.in-Some.is) (sym c.is_scalar.ensures ∙ c.if-not-is_scalar.false)) ∙ c.loop-i.invariant
 
 pub returns : goal.returns
 returns c = sym (sought_end escape_look _ _ c.loop-i-test.false) ∙ c.loop-i.invariant

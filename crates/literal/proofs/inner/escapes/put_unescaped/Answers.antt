@@ -12,32 +12,32 @@ unfolding unescaped bad_escape
 loop-i-init c = (same_start _ _ _, later_zero _ ∙ c.requires.s_value)
 
 pub put_byte-a-requires : goal.put_byte-a-requires
-put_byte-a-requires c = turn_room (plain_turn _ _ c.loop-i-test.true (sym c.escape_in-escape.ensures ∙ c.in-Plain.is)) c.loop-i.invariant.0 c.requires.room
+put_byte-a-requires c = turn_room (plain_turn _ _ c.loop-i-test.true (sym c.escape_in-escape.ensures ∙ c.in-None.is)) c.loop-i.invariant.0 c.requires.room
 
-pub loop-i-preserved-in-Plain : goal.loop-i-preserved-in-Plain
-loop-i-preserved-in-Plain c =
-    let e = sym c.escape_in-escape.ensures ∙ c.in-Plain.is in
+pub loop-i-preserved-in-None : goal.loop-i-preserved-in-None
+loop-i-preserved-in-None c =
+    let e = sym c.escape_in-escape.ensures ∙ c.in-None.is in
     let l = c.loop-i-test.true in
     (turn_same (plain_turn _ _ l e) c.loop-i.invariant.0 c.put_byte-a.ensures, sym (plain_look _ _ l e) ∙ c.loop-i.invariant.1)
 
 pub put_char-a-requires : goal.put_char-a-requires
 put_char-a-requires c =
-    let e = sym c.escape_in-escape.ensures ∙ c.in-Means.is in
+    let e = sym c.escape_in-escape.ensures ∙ c.in-Some.is in
     let l = c.loop-i-test.true in
     record {
       c_bound = scalar_below _ (good_scalar _ _ l _ _ c.loop-i.invariant.1 e);
       room = turn_room (means_turn _ _ l _ _ e) c.loop-i.invariant.0 c.requires.room;
     }
 
-pub overflow_add-i-in-Means : goal.overflow_add-i-in-Means
-overflow_add-i-in-Means c = omega (arith, (meant _ _ _ (sym c.escape_in-escape.ensures ∙ c.in-Means.is)).ten)
+pub overflow_add-i-in-Some : goal.overflow_add-i-in-Some
+overflow_add-i-in-Some c = omega (arith, (meant _ _ _ (sym c.escape_in-escape.ensures ∙ c.in-Some.is)).ten)
 
 pub loop-i-smaller : goal.loop-i-smaller
-loop-i-smaller c = omega (arith, (meant _ _ _ (sym c.escape_in-escape.ensures ∙ c.in-Means.is)).two)
+loop-i-smaller c = omega (arith, (meant _ _ _ (sym c.escape_in-escape.ensures ∙ c.in-Some.is)).two)
 
 pub loop-i-preserved : goal.loop-i-preserved
 loop-i-preserved c =
-    let e = sym c.escape_in-escape.ensures ∙ c.in-Means.is in
+    let e = sym c.escape_in-escape.ensures ∙ c.in-Some.is in
     let l = c.loop-i-test.true in
     let g = good_scalar _ _ l _ _ c.loop-i.invariant.1 e in
     (turn_same (means_turn _ _ l _ _ e) c.loop-i.invariant.0 c.put_char-a.ensures, sym (means_look _ _ l _ _ e g) ∙ c.loop-i.invariant.1)

@@ -11,18 +11,18 @@ pub loop-i-init : goal.loop-i-init
 unfolding unescaped
 loop-i-init c = refl
 
-pub loop-i-preserved-in-Plain : goal.loop-i-preserved-in-Plain
+pub loop-i-preserved-in-None : goal.loop-i-preserved-in-None
 unfolding spent
-loop-i-preserved-in-Plain c = rw c.spend-left.ensures (turn_spent (plain_turn _ _ c.loop-i-test.true (sym c.escape_in-escape.ensures ∙ c.in-Plain.is)) _ ∙ c.loop-i.invariant)
+loop-i-preserved-in-None c = rw c.spend-left.ensures (turn_spent (plain_turn _ _ c.loop-i-test.true (sym c.escape_in-escape.ensures ∙ c.in-None.is)) _ ∙ c.loop-i.invariant)
 
-pub overflow_add-i-in-Means : goal.overflow_add-i-in-Means
-overflow_add-i-in-Means c = omega (arith, (meant _ _ _ (sym c.escape_in-escape.ensures ∙ c.in-Means.is)).ten)
+pub overflow_add-i-in-Some : goal.overflow_add-i-in-Some
+overflow_add-i-in-Some c = omega (arith, (meant _ _ _ (sym c.escape_in-escape.ensures ∙ c.in-Some.is)).ten)
 
 pub loop-i-smaller : goal.loop-i-smaller
-loop-i-smaller c = omega (arith, (meant _ _ _ (sym c.escape_in-escape.ensures ∙ c.in-Means.is)).two)
+loop-i-smaller c = omega (arith, (meant _ _ _ (sym c.escape_in-escape.ensures ∙ c.in-Some.is)).two)
 
 pub loop-i-preserved : goal.loop-i-preserved
-loop-i-preserved c = rw c.spend_char-left.ensures (turn_spent (means_turn _ _ c.loop-i-test.true _ _ (sym c.escape_in-escape.ensures ∙ c.in-Means.is)) _ ∙ c.loop-i.invariant)
+loop-i-preserved c = rw c.spend_char-left.ensures (turn_spent (means_turn _ _ c.loop-i-test.true _ _ (sym c.escape_in-escape.ensures ∙ c.in-Some.is)) _ ∙ c.loop-i.invariant)
 
 pub returns : goal.returns
 returns c = sym (turn_end _ (spelled_end escape_piece _ _ c.loop-i-test.false)) ∙ c.loop-i.invariant

@@ -1,12 +1,13 @@
-use lib.Count.{leading_le}
+use Prim.Native.Nat.{◌+◌, ◌-◌, ◌/◌}
+use mathlib.Core.Logic.{⊎_elim}
+use native.Mathlib.Omega.{arith}
+use lib.Count.{count_leading_zeros}
+use Rattle.text.proofs.Tests.{lt_or_ge}
 use Rattle.literal.proofs.Hexes.{by_zeros}
 use Rattle.literal.proofs.inner.shows.hex_count.Goals as goal
 
-pub overflow_sub-bits : goal.overflow_sub-bits
-overflow_sub-bits c = leading_le 32 _
-
-pub returns-then-n-lt2 : goal.returns-then-n-lt2
-returns-then-n-lt2 c = (by_zeros _ c.requires).0 c.if-n-lt2.true
-
 pub returns : goal.returns
-returns c = (by_zeros _ c.requires).1 c.if-n-lt2.false
+returns c =
+    let b = by_zeros c.args.c c.requires in
+    ⊎_elim (λ l. omega (arith, b.0 l, c.div_ceil.ensures, c.max.ensures)) (λ g. omega (arith, b.1 g, c.div_ceil.ensures, c.max.ensures))
+    (lt_or_ge ((32 - count_leading_zeros 32 c.args.c + 3) / 4) 2)

@@ -25,23 +25,23 @@ loop-i-preserved-then-is_bare c =
 
 pub put_shown-a-requires : goal.put_shown-a-requires
 put_shown-a-requires c =
-    let e = sym c.char_at-sequence.ensures ∙ c.in-Is.is in
+    let e = sym c.char_at-sequence.ensures ∙ c.in-Some.is in
     record {
       c_bound = char_below _ _ _ e;
       room = turn_room (shown_turn _ _ _ c.loop-i-test.true _ _ e) c.loop-i.invariant c.requires;
     }
 
-pub overflow_add-i-in-Is : goal.overflow_add-i-in-Is
-overflow_add-i-in-Is c = omega (arith, (decoded _ _ _ (sym c.char_at-sequence.ensures ∙ c.in-Is.is)).few)
+pub overflow_add-i-in-Some : goal.overflow_add-i-in-Some
+overflow_add-i-in-Some c = omega (arith, (decoded _ _ _ (sym c.char_at-sequence.ensures ∙ c.in-Some.is)).few)
 
-pub loop-i-smaller-in-Is : goal.loop-i-smaller-in-Is
-loop-i-smaller-in-Is c = omega (arith, (decoded _ _ _ (sym c.char_at-sequence.ensures ∙ c.in-Is.is)).some)
+pub loop-i-smaller-in-Some : goal.loop-i-smaller-in-Some
+loop-i-smaller-in-Some c = omega (arith, (decoded _ _ _ (sym c.char_at-sequence.ensures ∙ c.in-Some.is)).some)
 
-pub loop-i-preserved-in-Is : goal.loop-i-preserved-in-Is
-loop-i-preserved-in-Is c = turn_same (shown_turn _ _ _ c.loop-i-test.true _ _ (sym c.char_at-sequence.ensures ∙ c.in-Is.is)) c.loop-i.invariant c.put_shown-a.ensures
+pub loop-i-preserved-in-Some : goal.loop-i-preserved-in-Some
+loop-i-preserved-in-Some c = turn_same (shown_turn _ _ _ c.loop-i-test.true _ _ (sym c.char_at-sequence.ensures ∙ c.in-Some.is)) c.loop-i.invariant c.put_shown-a.ensures
 
 pub loop-i-preserved : goal.loop-i-preserved
-loop-i-preserved c = rw (shown_skip _ _ _ c.loop-i-test.true (sym c.char_at-sequence.ensures ∙ c.in-Broken.is)) at c.loop-i.invariant
+loop-i-preserved c = rw (shown_skip _ _ _ c.loop-i-test.true (sym c.char_at-sequence.ensures ∙ c.in-None.is)) at c.loop-i.invariant
 
 pub shape_of-out : goal.shape_of-out
 shape_of-out c = c.loop-i.invariant.long

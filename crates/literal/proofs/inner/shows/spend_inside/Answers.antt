@@ -19,22 +19,22 @@ loop-i-preserved-then-is_bare c =
     rw c.spend-left.ensures (turn_spent (bare_turn _ _ _ c.loop-i-test.true b) _ ∙ c.loop-i.invariant)
 
 pub spend_shown-left-requires : goal.spend_shown-left-requires
-spend_shown-left-requires c = char_below _ _ _ (sym c.char_at-sequence.ensures ∙ c.in-Is.is)
+spend_shown-left-requires c = char_below _ _ _ (sym c.char_at-sequence.ensures ∙ c.in-Some.is)
 
-pub overflow_add-i-in-Is : goal.overflow_add-i-in-Is
-overflow_add-i-in-Is c = omega (arith, (decoded _ _ _ (sym c.char_at-sequence.ensures ∙ c.in-Is.is)).few)
+pub overflow_add-i-in-Some : goal.overflow_add-i-in-Some
+overflow_add-i-in-Some c = omega (arith, (decoded _ _ _ (sym c.char_at-sequence.ensures ∙ c.in-Some.is)).few)
 
-pub loop-i-smaller-in-Is : goal.loop-i-smaller-in-Is
-loop-i-smaller-in-Is c = omega (arith, (decoded _ _ _ (sym c.char_at-sequence.ensures ∙ c.in-Is.is)).some)
+pub loop-i-smaller-in-Some : goal.loop-i-smaller-in-Some
+loop-i-smaller-in-Some c = omega (arith, (decoded _ _ _ (sym c.char_at-sequence.ensures ∙ c.in-Some.is)).some)
 
-pub loop-i-preserved-in-Is : goal.loop-i-preserved-in-Is
-loop-i-preserved-in-Is c =
-    let e = sym c.char_at-sequence.ensures ∙ c.in-Is.is in
+pub loop-i-preserved-in-Some : goal.loop-i-preserved-in-Some
+loop-i-preserved-in-Some c =
+    let e = sym c.char_at-sequence.ensures ∙ c.in-Some.is in
     rw c.spend_shown-left.ensures (turn_spent (shown_turn _ _ _ c.loop-i-test.true _ _ e) _ ∙ c.loop-i.invariant)
 
 pub loop-i-preserved : goal.loop-i-preserved
 loop-i-preserved c =
-    let e = sym c.char_at-sequence.ensures ∙ c.in-Broken.is in
+    let e = sym c.char_at-sequence.ensures ∙ c.in-None.is in
     rw (shown_skip _ _ _ c.loop-i-test.true e) at c.loop-i.invariant
 
 pub returns : goal.returns

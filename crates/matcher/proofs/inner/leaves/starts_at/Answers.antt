@@ -13,10 +13,10 @@ pub loop-j-init : goal.loop-j-init
 loop-j-init c = same_none _ _ _ _ _ _ (omega arith)
 
 pub returns-then-not-alike : goal.returns-then-not-alike
-returns-then-not-alike c = same_not _ _ _ _ _ _ _ c.requires c.loop-j.invariant c.loop-j-test.true c.alike.ensures c.if-not-alike.true
+returns-then-not-alike c = same_not _ _ _ _ _ _ _ c.requires c.loop-j.invariant (omega arith) c.alike.ensures c.if-not-alike.true
 
 pub loop-j-preserved : goal.loop-j-preserved
-loop-j-preserved c = same_more _ _ _ _ _ _ _ c.requires c.loop-j.invariant c.loop-j-test.true c.alike.ensures c.if-not-alike.false
+loop-j-preserved c = same_more _ _ _ _ _ _ _ c.requires c.loop-j.invariant (omega arith) c.alike.ensures c.if-not-alike.false
 
 pub returns : goal.returns
-returns c = same_all _ _ _ _ _ _ _ c.loop-j.invariant c.loop-j-test.false
+returns c = same_all _ _ _ _ _ _ _ c.loop-j.invariant (omega arith)

@@ -1,10 +1,6 @@
 -- After j bytes that are alike, the test is that of what is left of the text and of the line.
 use Rattle.matcher.proofs.Leaves.{Same}
-use Prim.Native.Nat.{◌-◌}
 use Rattle.matcher.proofs.inner.leaves.starts_at.Given as goal
 
 abbrev pub invariant-loop-j : goal.invariant-loop-j
 invariant-loop-j l = Same l.fold l.store l.p l.n l.line l.at l.j
-
-abbrev pub decreases-loop-j : goal.decreases-loop-j
-decreases-loop-j l = l.n - l.j

@@ -4,28 +4,28 @@ use Rattle.matcher.proofs.Rows.{line_inside, done_none, done_more, done_text, no
 use Rattle.matcher.proofs.inner.lines.run_lines.Goals as goal
 
 pub loop-k-init : goal.loop-k-init
-loop-k-init c = (refl, done_none _ _ _ _ refl)
+loop-k-init c = done_none _ _ _ _ refl
 
 pub shape_of-records-then-n-at : goal.shape_of-records-then-n-at
-shape_of-records-then-n-at c = c.loop-k.invariant.1.long
+shape_of-records-then-n-at c = c.loop-k.invariant.long
 
 pub returns-then-n-at : goal.returns-then-n-at
 returns-then-n-at c = record {
-  value = done_text _ _ _ _ _ _ _ c.loop-k.invariant.1 (omega arith);
-  records_after = now_text _ _ _ _ _ _ _ c.loop-k.invariant.1 (omega arith);
+  value = done_text _ _ _ _ _ _ _ c.loop-k.invariant (omega arith);
+  records_after = now_text _ _ _ _ _ _ _ c.loop-k.invariant (omega arith);
 }
 
 pub line_at-line-requires : goal.line_at-line-requires
-line_at-line-requires c = c.loop-k.invariant.1.inside
+line_at-line-requires c = c.loop-k.invariant.inside
 
 pub slice_bounds-run_line-count : goal.slice_bounds-run_line-count
-slice_bounds-run_line-count c = (line_inside c.args.text.now c.loop-k.at c.loop-k.invariant.1.inside c.line_at-line.ensures).0
+slice_bounds-run_line-count c = (line_inside c.args.text.now c.loop-k.at c.loop-k.invariant.inside c.line_at-line.ensures).0
 
 pub slice_bounds-run_line-start : goal.slice_bounds-run_line-start
-slice_bounds-run_line-start c = (line_inside c.args.text.now c.loop-k.at c.loop-k.invariant.1.inside c.line_at-line.ensures).0
+slice_bounds-run_line-start c = (line_inside c.args.text.now c.loop-k.at c.loop-k.invariant.inside c.line_at-line.ensures).0
 
 pub slice_bounds-run_line-end : goal.slice_bounds-run_line-end
-slice_bounds-run_line-end c = (line_inside c.args.text.now c.loop-k.at c.loop-k.invariant.1.inside c.line_at-line.ensures).1
+slice_bounds-run_line-end c = (line_inside c.args.text.now c.loop-k.at c.loop-k.invariant.inside c.line_at-line.ensures).1
 
 pub run_line-answer-requires : goal.run_line-answer-requires
 run_line-answer-requires c = record {
@@ -34,25 +34,19 @@ run_line-answer-requires c = record {
 }
 
 pub overflow_mul-k : goal.overflow_mul-k
-overflow_mul-k c = omega (arith, c.loop-k.invariant.1.room, c.loop-k.invariant.1.long)
+overflow_mul-k c = omega (arith, c.loop-k.invariant.room, c.loop-k.invariant.long)
 
 pub put_row-requires : goal.put_row-requires
-put_row-requires c = omega (arith, c.loop-k.invariant.1.room, c.loop-k.invariant.1.long)
-
-pub overflow_add-k : goal.overflow_add-k
-overflow_add-k c = omega (arith, c.loop-k-test.true, c.loop-k.invariant.1.room)
-
-pub loop-k-smaller : goal.loop-k-smaller
-loop-k-smaller c = omega (arith, c.loop-k-test.true)
+put_row-requires c = omega (arith, c.loop-k.invariant.room, c.loop-k.invariant.long)
 
 pub loop-k-preserved : goal.loop-k-preserved
-loop-k-preserved c = (c.loop-k.invariant.0, done_more _ _ _ _ _ _ _ c.loop-k.invariant.1 c.loop-k-test.true (omega (arith, c.if-n-at.false, c.loop-k.invariant.0)) c.line_at-line.ensures c.run_line-answer.ensures c.row_of.ensures c.put_row.ensures)
+loop-k-preserved c = done_more _ _ _ _ _ _ _ c.loop-k.invariant (omega arith) (omega arith) c.line_at-line.ensures c.run_line-answer.ensures c.row_of.ensures c.put_row.ensures
 
 pub shape_of-records : goal.shape_of-records
-shape_of-records c = c.loop-k.invariant.1.long
+shape_of-records c = c.loop-k.invariant.long
 
 pub returns : goal.returns
 returns c = record {
-  value = done_full _ _ _ _ _ _ _ c.loop-k.invariant.1 c.loop-k-test.false;
-  records_after = now_full _ _ _ _ _ _ _ c.loop-k.invariant.1 c.loop-k-test.false;
+  value = done_full _ _ _ _ _ _ _ c.loop-k.invariant (omega arith);
+  records_after = now_full _ _ _ _ _ _ _ c.loop-k.invariant (omega arith);
 }

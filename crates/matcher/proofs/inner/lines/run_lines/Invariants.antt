@@ -1,14 +1,8 @@
 -- What is left to be done after k lines is the same work over the rest of the text and of the records.
-use Prim.Native.Nat.{◌-◌}
-use mathlib.Core.Path.{◌≡◌}
-use lib.ListN.{length}
 use Rattle.links.specs.Program.{linked_at}
 use Rattle.matcher.specs.Answers.{line_of}
 use Rattle.matcher.proofs.Rows.{Done}
 use Rattle.matcher.proofs.inner.lines.run_lines.Given as goal
 
 abbrev pub invariant-loop-k : goal.invariant-loop-k
-invariant-loop-k l = (l.n ≡ length l.text) × Done (line_of (linked_at l.nodes l.links) l.store l.root l.allowance) l.text l.initial.records l.m l.records l.k l.at
-
-abbrev pub decreases-loop-k : goal.decreases-loop-k
-decreases-loop-k l = l.m - l.k
+invariant-loop-k l = Done (line_of (linked_at l.nodes l.links) l.store l.root l.allowance) l.text l.initial.records l.m l.records l.k l.at

@@ -21,11 +21,11 @@ repeat-loop-most-smaller t c = round_less c.loop-most.invariant c.is_full.ensure
 pub repeat-loop-most-preserved : goal.repeat-loop-most-preserved
 repeat-loop-most-preserved t c = round_more c.loop-most.invariant c.is_full.ensures c.if-is_full.false c.visit-x.ensures c.in-Matched.is
 
-pub repeat-returns-then-least-n : goal.repeat-returns-then-least-n
-repeat-returns-then-least-n t c = round_enough c.loop-most.invariant c.is_full.ensures c.if-is_full.false c.visit-x.ensures c.in-Missed.is c.if-least-n.true
+pub repeat-returns-then-from-n : goal.repeat-returns-then-from-n
+repeat-returns-then-from-n t c = round_enough c.loop-most.invariant c.is_full.ensures c.if-is_full.false c.visit-x.ensures c.in-Missed.is (omega (arith, c.from.ensures, c.if-from-n.true))
 
 pub repeat-returns-in-Missed : goal.repeat-returns-in-Missed
-repeat-returns-in-Missed t c = round_short c.loop-most.invariant c.is_full.ensures c.if-is_full.false c.visit-x.ensures c.in-Missed.is c.if-least-n.false
+repeat-returns-in-Missed t c = round_short c.loop-most.invariant c.is_full.ensures c.if-is_full.false c.visit-x.ensures c.in-Missed.is (omega (arith, c.from.ensures, c.if-from-n.false))
 
 pub repeat-returns-in-Over : goal.repeat-returns-in-Over
 repeat-returns-in-Over t c = round_over c.loop-most.invariant c.is_full.ensures c.if-is_full.false c.visit-x.ensures c.in-Over.is

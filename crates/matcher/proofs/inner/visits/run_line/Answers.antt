@@ -3,8 +3,8 @@ use native.Mathlib.Omega.{arith}
 use Rattle.matcher.proofs.Answering.{line_bad, line_matched, line_missed, line_over, matched_under, missed_under}
 use Rattle.matcher.proofs.inner.visits.run_line.Goals as goal
 
-pub returns-in-At : goal.returns-in-At
-returns-in-At c = line_bad _ _ _ _ _ c.first_bad-bad.ensures c.in-At.is
+pub returns-in-Some : goal.returns-in-Some
+returns-in-Some c = line_bad _ _ _ _ _ c.first_bad-bad.ensures c.in-Some.is
 
 pub visit-x-requires : goal.visit-x-requires
 visit-x-requires c = record {

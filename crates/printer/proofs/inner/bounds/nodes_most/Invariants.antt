@@ -1,13 +1,9 @@
--- Invariant: the sum is the bound of the first i nodes, and at most i times 2^41, so that no addition overflows. `nodes_more` adds a node;
--- the nodes that are left fall. `Narrow` holds because a slice of u32 has no wider numbers.
+-- The sum is the bound of the first i nodes, and at most i times 2^41, so that no addition overflows. `nodes_more` adds a node. `Narrow`
+-- holds because a slice of u32 has no wider numbers.
 use Rattle.printer.specs.Bounds.{nodes_most}
-use Rattle.table.specs.Record.{nodes_in}
 use mathlib.Core.Path.{◌≡◌}
-use Prim.Native.Nat.{◌-◌, ◌*◌, ◌≤◌}
+use Prim.Native.Nat.{◌*◌, ◌≤◌}
 use Rattle.printer.proofs.inner.bounds.nodes_most.Given as goal
 
 abbrev pub invariant-loop-i : goal.invariant-loop-i
-invariant-loop-i l = (l.sum ≡ nodes_most l.nodes l.i) × (l.sum ≤ l.i * 0x200_0000_0000) × (l.i ≤ l.n) × (l.n ≡ nodes_in l.nodes)
-
-abbrev pub decreases-loop-i : goal.decreases-loop-i
-decreases-loop-i l = l.n - l.i
+invariant-loop-i l = (l.sum ≡ nodes_most l.nodes l.i) × (l.sum ≤ l.i * 0x200_0000_0000)

@@ -1,13 +1,8 @@
--- Invariant: the sum is the bound of the first k rules, and at most k times 2^33, so that no addition overflows. `rules_more` adds a rule;
--- the rules that are left fall.
+-- The sum is the bound of the first k rules, and at most k times 2^33, so that no addition overflows. `rules_more` adds a rule.
 use Rattle.printer.specs.Bounds.{rules_most}
-use Rattle.table.specs.Record.{rules_in}
 use mathlib.Core.Path.{◌≡◌}
-use Prim.Native.Nat.{◌-◌, ◌*◌, ◌≤◌}
+use Prim.Native.Nat.{◌*◌, ◌≤◌}
 use Rattle.printer.proofs.inner.bounds.rules_most.Given as goal
 
 abbrev pub invariant-loop-k : goal.invariant-loop-k
-invariant-loop-k l = (l.sum ≡ rules_most l.rules l.k) × (l.sum ≤ l.k * 0x2_0000_0000) × (l.k ≤ l.m) × (l.m ≡ rules_in l.rules)
-
-abbrev pub decreases-loop-k : goal.decreases-loop-k
-decreases-loop-k l = l.m - l.k
+invariant-loop-k l = (l.sum ≡ rules_most l.rules l.k) × (l.sum ≤ l.k * 0x2_0000_0000)

@@ -3,11 +3,11 @@
 use Rattle.reader.proofs.Answers.{judge_refused, judge_by, judge_room}
 use Rattle.reader.proofs.inner.phases.judge.Goals as goal
 
-pub returns-in-Refused : goal.returns-in-Refused
-returns-in-Refused c = judge_refused _ _ _ _ _ _ _ c.check_grammar-counted.ensures _ c.in-Refused.is
+pub returns-in-Err : goal.returns-in-Err
+returns-in-Err c = judge_refused _ _ _ _ _ _ _ c.check_grammar-counted.ensures _ c.in-Err.is
 
-pub returns-in-Sound : goal.returns-in-Sound
-returns-in-Sound c = judge_room _ _ _ _ _ _ _ c.check_grammar-counted.ensures _ _ _ c.in-Rules.is _ c.faults-fault.ensures c.in-Sound.is _ c.room_for.ensures
+pub returns-in-None : goal.returns-in-None
+returns-in-None c = judge_room _ _ _ _ _ _ _ c.check_grammar-counted.ensures _ _ _ c.in-Ok.is _ c.faults-fault.ensures c.in-None.is _ c.room_for.ensures
 
-pub returns-in-At : goal.returns-in-At
-returns-in-At c = judge_by _ _ _ _ _ _ _ c.check_grammar-counted.ensures _ _ _ c.in-Rules.is _ c.faults-fault.ensures _ c.in-At.is
+pub returns-in-Some : goal.returns-in-Some
+returns-in-Some c = judge_by _ _ _ _ _ _ _ c.check_grammar-counted.ensures _ _ _ c.in-Ok.is _ c.faults-fault.ensures _ c.in-Some.is

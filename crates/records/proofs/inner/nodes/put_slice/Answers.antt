@@ -3,9 +3,9 @@ use Rattle.records.proofs.Patches.{slice_is}
 use Rattle.records.proofs.inner.nodes.put_slice.Goals as goal
 
 -- src/inner/nodes.rt:119:1
-pub returns-in-Open : goal.returns-in-Open
-returns-in-Open c = slice_is _ _ _ _ _ _ c.in-Open.is c.put_node.ensures
+pub returns-in-None : goal.returns-in-None
+returns-in-None c = slice_is _ _ _ _ _ _ c.in-None.is c.put_node.ensures
 
 -- src/inner/nodes.rt:119:1
-pub returns-in-At : goal.returns-in-At
-returns-in-At c = slice_is _ _ _ _ _ _ c.in-At.is c.put_node-in-At.ensures
+pub returns-in-Some : goal.returns-in-Some
+returns-in-Some c = slice_is _ _ _ _ _ _ c.in-Some.is c.put_node-in-Some.ensures

@@ -9,6 +9,7 @@ use Prim.Native.Nat.{◌*◌}
 use mathlib.Core.Path.{sym, ◌∙◌, ap, refl}
 use native.Mathlib.Omega.{arith}
 use Rattle.token.specs.Table.{flat, room_of}
+use Rattle.std.proofs.lemmas.Result.{err_from_is_err_and}
 use Rattle.stream.proofs.passes.quick.fast.Goals as goal
 
 pub leap-middle-requires : goal.leap-middle-requires
@@ -19,8 +20,8 @@ leap-middle-requires c = record {
   m_bound = so_many _ c.args.from _ _ _ _ _ c.settle-front.ensures;
 }
 
-pub run-ran-requires : goal.run-ran-requires
-run-ran-requires c = record {
+pub run-requires : goal.run-requires
+run-requires c = record {
   t_value = c.requires.t_value;
   coherent = c.leap-middle.ensures.sound;
 }
@@ -60,26 +61,27 @@ slice_bounds-write-start c =
 pub write-requires : goal.write-requires
 write-requires c =
     let l = simp length-sets at (ap length c.copy.ensures) in
-    let w = ran_stands (ran_of (room_of c.args.list.now) _ _) c.in-Stands.next (sym c.in-Stands.is ∙ c.run-ran.ensures) in
+    let w = ran_stands (ran_of (room_of c.args.list.now) _ _) c.in_ok-next.next c.in_ok-next.ensures in
     record {
       t_value = c.requires.t_value;
       coherent = c.leap-middle.ensures.sound;
       packet_value = rw l w.good;
     }
 
-pub returns-in-Refuses : goal.returns-in-Refuses
-returns-in-Refuses c =
+pub returns-in_err-next : goal.returns-in_err-next
+returns-in_err-next c =
     let h = leapt_longer _ c.args.from c.args.packet.now _ _ _ _ _ c.cut-end.ensures (leapt_both _ c.args.from _ _ _ _ _ c.settle-front.ensures _ _ _ c.leap-middle.ensures) in
-    let g = ran_stops (room_of c.args.list.now) c.args.from c.args.packet.now _ _ _ _ h c.in-Refuses.number c.in-Refuses.place (ran_refuses _ c.in-Refuses.number c.in-Refuses.place (sym c.in-Refuses.is ∙ c.run-ran.ensures)) in
+    let g = ran_stops (room_of c.args.list.now) c.args.from c.args.packet.now _ _ _ _ h _ _ (ran_refuses _ _ c.in_err-next.ensures) in
+    let p = err_from_is_err_and c.from_residual.result c.from_residual.ensures.1 in
     record {
-      answer = sym (ap ran_by g);
+      answer = rw (p.1, p.2) (sym (ap ran_by g));
       held = sym (ap (λ (z : Step). sets c.args.list.now (c.args.from.count * 3) (flat (gives_of z))) g);
     }
 
-pub returns-in-Stands : goal.returns-in-Stands
-returns-in-Stands c =
+pub returns : goal.returns
+returns c =
     let h = leapt_longer _ c.args.from c.args.packet.now _ _ _ _ _ c.cut-end.ensures (leapt_both _ c.args.from _ _ _ _ _ c.settle-front.ensures _ _ _ c.leap-middle.ensures) in
-    let w = ran_stands (ran_of (room_of c.args.list.now) _ _) c.in-Stands.next (sym c.in-Stands.is ∙ c.run-ran.ensures) in
+    let w = ran_stands (ran_of (room_of c.args.list.now) _ _) c.in_ok-next.next c.in_ok-next.ensures in
     let l = simp length-sets at (ap length c.copy.ensures) in
     let o = rw (l, w.stands) at c.write.ensures in
     record {

@@ -28,53 +28,28 @@ loop-n-init c =
     let l = length-drop s.i s.packet.now in
     (refl, omega arith, omega (arith, f.short), f.clean, leapt_none s.room (start_at s.from.seen s.from.count) s.i s.m s.packet.now s.stash.now (sound_between s.from c.requires.coherent) c.requires.i_in_bounds c.requires.m_bound)
 
-pub shape_of-stash-then-room-count : goal.shape_of-stash-then-room-count
-shape_of-stash-then-room-count c = c.loop-n.invariant.0
-
-pub returns-then-room-count : goal.returns-then-room-count
-returns-then-room-count c =
-    let f = c.may_leap.ensures c.if-not-may_leap.false in
-    leapt_same c.args.room c.args.from (start_at c.args.from.seen c.args.from.count) _ (start_at c.loop-n.seen c.loop-n.count) c.args.i c.args.m c.args.packet.now c.args.stash.now c.loop-n.stash c.loop-n.at f.between c.start_at.ensures c.loop-n.invariant.4
-
-pub ahead-next-requires : goal.ahead-next-requires
-ahead-next-requires c = c.requires.t_value
-
-pub shape_of-stash-in-Nothing : goal.shape_of-stash-in-Nothing
-shape_of-stash-in-Nothing c = c.loop-n.invariant.0
-
-pub returns-in-Nothing : goal.returns-in-Nothing
-returns-in-Nothing c =
-    let f = c.may_leap.ensures c.if-not-may_leap.false in
-    leapt_same c.args.room c.args.from (start_at c.args.from.seen c.args.from.count) _ (start_at c.loop-n.seen c.loop-n.count) c.args.i c.args.m c.args.packet.now c.args.stash.now c.loop-n.stash c.loop-n.at f.between c.start_at-in-Nothing.ensures c.loop-n.invariant.4
-
 pub overflow_sub-start : goal.overflow_sub-start
 overflow_sub-start c =
-    let h = rw c.in-Token.is at c.ahead-next.ensures in
-    let g = inside c.args.packet.now c.loop-n.at c.in-Token.kind c.in-Token.start c.in-Token.end h in
+    let h = rw c.in-Some.is at c.ahead.ensures in
+    let g = inside c.args.packet.now c.loop-n.at c.in-Some.kind c.in-Some.start c.in-Some.end h in
     omega (arith, g.0, g.1, g.2, h.inside, c.loop-n.invariant.2)
 
 pub overflow_add-seen : goal.overflow_add-seen
 overflow_add-seen c =
-    let h = rw c.in-Token.is at c.ahead-next.ensures in
-    let g = inside c.args.packet.now c.loop-n.at c.in-Token.kind c.in-Token.start c.in-Token.end h in
+    let h = rw c.in-Some.is at c.ahead.ensures in
+    let g = inside c.args.packet.now c.loop-n.at c.in-Some.kind c.in-Some.start c.in-Some.end h in
     omega (arith, g.0, g.1, g.2, h.inside, c.loop-n.invariant.2)
 
 pub overflow_sub-end : goal.overflow_sub-end
 overflow_sub-end c =
-    let h = rw c.in-Token.is at c.ahead-next.ensures in
-    let g = inside c.args.packet.now c.loop-n.at c.in-Token.kind c.in-Token.start c.in-Token.end h in
-    omega (arith, g.0, g.1, g.2, h.inside, c.loop-n.invariant.2)
-
-pub overflow_add-seen-in-Token : goal.overflow_add-seen-in-Token
-overflow_add-seen-in-Token c =
-    let h = rw c.in-Token.is at c.ahead-next.ensures in
-    let g = inside c.args.packet.now c.loop-n.at c.in-Token.kind c.in-Token.start c.in-Token.end h in
+    let h = rw c.in-Some.is at c.ahead.ensures in
+    let g = inside c.args.packet.now c.loop-n.at c.in-Some.kind c.in-Some.start c.in-Some.end h in
     omega (arith, g.0, g.1, g.2, h.inside, c.loop-n.invariant.2)
 
 pub token-token-requires : goal.token-token-requires
 token-token-requires c =
-    let h = rw c.in-Token.is at c.ahead-next.ensures in
-    let g = inside c.args.packet.now c.loop-n.at c.in-Token.kind c.in-Token.start c.in-Token.end h in
+    let h = rw c.in-Some.is at c.ahead.ensures in
+    let g = inside c.args.packet.now c.loop-n.at c.in-Some.kind c.in-Some.start c.in-Some.end h in
     record {
       kind_bound = omega (arith, g.3);
       a_bound = omega (arith, g.0, g.1, g.2, h.inside, c.loop-n.invariant.2);
@@ -89,29 +64,17 @@ put-requires c =
 
 pub overflow_sub-seen : goal.overflow_sub-seen
 overflow_sub-seen c =
-    let h = rw c.in-Token.is at c.ahead-next.ensures in
-    let g = inside c.args.packet.now c.loop-n.at c.in-Token.kind c.in-Token.start c.in-Token.end h in
+    let h = rw c.in-Some.is at c.ahead.ensures in
+    let g = inside c.args.packet.now c.loop-n.at c.in-Some.kind c.in-Some.start c.in-Some.end h in
     omega (arith, g.0, g.1, g.2, h.inside, c.loop-n.invariant.2)
-
-pub overflow_add-seen-in-Token-2 : goal.overflow_add-seen-in-Token-2
-overflow_add-seen-in-Token-2 c =
-    let h = rw c.in-Token.is at c.ahead-next.ensures in
-    let g = inside c.args.packet.now c.loop-n.at c.in-Token.kind c.in-Token.start c.in-Token.end h in
-    omega (arith, g.0, g.1, g.2, h.inside, c.loop-n.invariant.2)
-
-pub loop-n-smaller : goal.loop-n-smaller
-loop-n-smaller c =
-    let h = rw c.in-Token.is at c.ahead-next.ensures in
-    let g = inside c.args.packet.now c.loop-n.at c.in-Token.kind c.in-Token.start c.in-Token.end h in
-    omega (arith, g.0, g.1, g.2)
 
 pub loop-n-preserved : goal.loop-n-preserved
 loop-n-preserved c =
-    let h = rw c.in-Token.is at c.ahead-next.ensures in
-    let g = inside c.args.packet.now c.loop-n.at c.in-Token.kind c.in-Token.start c.in-Token.end h in
+    let h = rw c.in-Some.is at c.ahead.ensures in
+    let g = inside c.args.packet.now c.loop-n.at c.in-Some.kind c.in-Some.start c.in-Some.end h in
     let o = rw c.token-token.ensures at c.put.ensures in
     let l = simp length-set at (ap length o) in
-    (l ∙ c.loop-n.invariant.0, omega (arith, c.loop-n.invariant.1), omega (arith, g.0, g.1, g.2, c.loop-n.invariant.2), clean_on c.args.packet.now c.loop-n.at c.in-Token.kind c.in-Token.start c.in-Token.end h c.loop-n.seen c.loop-n.invariant.3, leap_turn c.args.room (start_at c.args.from.seen c.args.from.count) c.args.i c.args.m c.args.packet.now c.args.stash.now c.loop-n.stash _ c.loop-n.seen c.loop-n.count c.loop-n.at c.in-Token.kind c.in-Token.start c.in-Token.end c.loop-n.n c.loop-n.invariant.4 c.loop-n.invariant.1 h c.loop-n.invariant.2 (omega arith) c.loop-n.invariant.3 (omega arith) o)
+    (l ∙ c.loop-n.invariant.0, omega (arith, c.loop-n.invariant.1), omega (arith, g.0, g.1, g.2, c.loop-n.invariant.2), clean_on c.args.packet.now c.loop-n.at c.in-Some.kind c.in-Some.start c.in-Some.end h c.loop-n.seen c.loop-n.invariant.3, leap_turn c.args.room (start_at c.args.from.seen c.args.from.count) c.args.i c.args.m c.args.packet.now c.args.stash.now c.loop-n.stash _ c.loop-n.seen c.loop-n.count c.loop-n.at c.in-Some.kind c.in-Some.start c.in-Some.end c.loop-n.n c.loop-n.invariant.4 c.loop-n.invariant.1 h c.loop-n.invariant.2 (omega arith) c.loop-n.invariant.3 (omega arith) o)
 
 pub shape_of-stash : goal.shape_of-stash
 shape_of-stash c = c.loop-n.invariant.0
@@ -119,4 +82,4 @@ shape_of-stash c = c.loop-n.invariant.0
 pub returns : goal.returns
 returns c =
     let f = c.may_leap.ensures c.if-not-may_leap.false in
-    leapt_same c.args.room c.args.from (start_at c.args.from.seen c.args.from.count) _ (start_at c.loop-n.seen c.loop-n.count) c.args.i c.args.m c.args.packet.now c.args.stash.now c.loop-n.stash c.loop-n.at f.between c.start_at-2.ensures c.loop-n.invariant.4
+    leapt_same c.args.room c.args.from (start_at c.args.from.seen c.args.from.count) _ (start_at c.loop-n.seen c.loop-n.count) c.args.i c.args.m c.args.packet.now c.args.stash.now c.loop-n.stash c.loop-n.at f.between c.start_at.ensures c.loop-n.invariant.4

@@ -2,11 +2,8 @@
 use Rattle.stream.specs.Quick.{Leapt}
 use lib.ListN.{length}
 use mathlib.Core.Path.{◌≡◌}
-use Prim.Native.Nat.{◌+◌, ◌-◌}
+use Prim.Native.Nat.{◌+◌}
 use Rattle.stream.proofs.passes.quick.settle.Given as goal
 
-abbrev pub invariant-loop-c : goal.invariant-loop-c
-invariant-loop-c l = (length l.stash ≡ length l.initial.stash) × (l.n + l.initial.c.count ≡ l.c.count) × Leapt l.room l.initial.c 0 0 l.packet l.initial.stash l.stash l.c l.i × (l.initial.c.seen + l.i ≡ l.c.seen)
-
-abbrev pub decreases-loop-c : goal.decreases-loop-c
-decreases-loop-c l = length l.packet - l.i
+abbrev pub invariant-loop-i : goal.invariant-loop-i
+invariant-loop-i l = (length l.stash ≡ length l.initial.stash) × (l.n + l.initial.c.count ≡ l.c.count) × Leapt l.room l.initial.c 0 0 l.packet l.initial.stash l.stash l.c l.i

@@ -6,8 +6,8 @@ use Prim.Native.Nat.{◌-◌}
 use Rattle.token.specs.Table.{toks}
 use Rattle.structure.proofs.inner.checks.predicates_end.Given as goal
 
-abbrev pub invariant-loop-at : goal.invariant-loop-at
-invariant-loop-at l = EndInv l.text l.at l.i
+abbrev pub invariant-loop-i : goal.invariant-loop-i
+invariant-loop-i l = EndInv l.text l.at l.i
 
-abbrev pub decreases-loop-at : goal.decreases-loop-at
-decreases-loop-at l = length (toks l.text) - l.i
+abbrev pub decreases-loop-i : goal.decreases-loop-i
+decreases-loop-i l = length (toks l.text) - l.i

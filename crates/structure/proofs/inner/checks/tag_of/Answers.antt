@@ -22,7 +22,7 @@ pub overflow_sub-result : goal.overflow_sub-result
 overflow_sub-result c = let i = post_in _ _ _ c.kind_at.ensures 19 (omega arith) c.if-kind_at-ne-TAG.false in let p = spans _ _ i in omega arith
 
 pub returns-in-Tagged : goal.returns-in-Tagged
-returns-in-Tagged c = tag_kept _ _ _ _ c.kind_at.ensures c.if-kind_at-ne-TAG.false _ c.expect-tie.ensures _ c.in-Here.is c.in-Tagged.is _ _ c.start_at-a.ensures c.end_at-z.ensures
+returns-in-Tagged c = tag_kept _ _ _ _ c.kind_at.ensures c.if-kind_at-ne-TAG.false _ c.expect-tie.ensures _ c.in-Some.is c.in-Tagged.is _ _ c.start_at-a.ensures c.end_at-z.ensures
 
 pub returns-in-Plain : goal.returns-in-Plain
-returns-in-Plain c = tag_dropped _ _ _ _ c.kind_at.ensures c.if-kind_at-ne-TAG.false _ c.expect-tie.ensures _ c.in-Here.is c.in-Plain.is
+returns-in-Plain c = tag_dropped _ _ _ _ c.kind_at.ensures c.if-kind_at-ne-TAG.false _ c.expect-tie.ensures _ c.in-Some.is c.in-Plain.is

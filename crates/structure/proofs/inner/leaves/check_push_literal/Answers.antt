@@ -18,13 +18,13 @@ pub overflow_add-at-then-deep-ge-OPEN : goal.overflow_add-at-then-deep-ge-OPEN
 overflow_add-at-then-deep-ge-OPEN c = let z = sizes _ _ c.requires.lent in omega arith
 
 pub returns-then-deep-ge-OPEN : goal.returns-then-deep-ge-OPEN
-returns-then-deep-ge-OPEN c = pushed_deep _ _ _ _ c.expect-bracket.ensures _ c.in-Here.is c.if-deep-ge-OPEN.true _ c.refused_at.ensures
+returns-then-deep-ge-OPEN c = pushed_deep _ _ _ _ c.expect-bracket.ensures _ c.in-Some.is c.if-deep-ge-OPEN.true _ c.refused_at.ensures
 
 pub returns-in_default-string : goal.returns-in_default-string
-returns-in_default-string c = pushed_empty _ _ _ _ c.expect-bracket.ensures _ c.in-Here.is c.if-deep-ge-OPEN.false _ c.expect-string.ensures c.in_default-string.is _ c.not_allowed-in_default-string.ensures
+returns-in_default-string c = pushed_empty _ _ _ _ c.expect-bracket.ensures _ c.in-Some.is c.if-deep-ge-OPEN.false _ c.expect-string.ensures c.in_default-string.is _ c.not_allowed-in_default-string.ensures
 
 pub returns-in_default-close : goal.returns-in_default-close
-returns-in_default-close c = pushed_unclosed _ _ _ _ c.expect-bracket.ensures _ c.in-Here.is c.if-deep-ge-OPEN.false _ c.expect-string.ensures _ c.in-Here-string.is _ c.expect-close.ensures c.in_default-close.is _ c.not_allowed-in_default-close.ensures
+returns-in_default-close c = pushed_unclosed _ _ _ _ c.expect-bracket.ensures _ c.in-Some.is c.if-deep-ge-OPEN.false _ c.expect-string.ensures _ c.in-Some-string.is _ c.expect-close.ensures c.in_default-close.is _ c.not_allowed-in_default-close.ensures
 
 pub returns : goal.returns
-returns c = pushed_read _ _ _ _ c.expect-bracket.ensures _ c.in-Here.is c.if-deep-ge-OPEN.false _ c.expect-string.ensures _ c.in-Here-string.is _ c.expect-close.ensures _ c.in-Here-close.is _ c.string_bytes-bytes.ensures
+returns c = pushed_read _ _ _ _ c.expect-bracket.ensures _ c.in-Some.is c.if-deep-ge-OPEN.false _ c.expect-string.ensures _ c.in-Some-string.is _ c.expect-close.ensures _ c.in-Some-close.is _ c.string_bytes-bytes.ensures

@@ -15,7 +15,7 @@ pub returns-in_default : goal.returns-in_default
 returns-in_default c = range_undotted _ _ _ c.expect-dots.ensures c.in_default.is _ c.not_allowed.ensures
 
 pub returns-in_default-last : goal.returns-in_default-last
-returns-in_default-last c = range_open _ _ _ c.expect-dots.ensures _ c.in-Here.is _ c.expect-last.ensures c.in_default-last.is _ c.not_allowed-in_default-last.ensures
+returns-in_default-last c = range_open _ _ _ c.expect-dots.ensures _ c.in-Some.is _ c.expect-last.ensures c.in_default-last.is _ c.not_allowed-in_default-last.ensures
 
 pub returns : goal.returns
-returns c = range_read _ _ _ c.expect-dots.ensures _ c.in-Here.is _ c.expect-last.ensures _ c.in-Here-last.is
+returns c = range_read _ _ _ c.expect-dots.ensures _ c.in-Some.is _ c.expect-last.ensures _ c.in-Some-last.is

@@ -6,7 +6,7 @@ use native.Mathlib.Omega.{arith}
 use mathlib.Core.Path.{refl}
 use Rattle.token.proofs.Table.{sizes}
 use Rattle.structure.proofs.inner.leaves.check_word.Goals as goal
-use Rattle.structure.proofs.inner.leaves.check_word.Goals.{then-spelled-2+else-kind_at-eq-OPENING_BRACK, else-spelled-2}
+use Rattle.structure.proofs.inner.leaves.check_word.Goals.{else-spelled-2-via-then-spelled-2+else-kind_at-eq-OPENING_BRACK, else-spelled-2-via-else-spelled-2}
 
 pub check_push_literal-requires : goal.check_push_literal-requires
 check_push_literal-requires c = record {
@@ -32,8 +32,8 @@ overflow_add-result c = let i = inside_is _ _ 18 (omega arith) (sees _ _ _ 18 re
 pub returns : goal.returns
 returns c =
     word_named _ _ _ _ c.spelled.ensures c.if-spelled.false _ c.spelled-2.ensures
-    (elim c.if-spelled-2.branch [
-      | then-spelled-2+else-kind_at-eq-OPENING_BRACK w ↦ no_slice c.args.deep _ _ _ c.spelled.ensures c.if-spelled.false _ c.spelled-2.ensures _ w.kind_at.ensures w.if-kind_at-eq-OPENING_BRACK.false
-      | else-spelled-2 w ↦ no_peek c.args.deep _ _ _ c.spelled.ensures c.if-spelled.false _ c.spelled-2.ensures w.if-spelled-2.false
+    (elim c.else-spelled-2.branch [
+      | else-spelled-2-via-then-spelled-2+else-kind_at-eq-OPENING_BRACK w ↦ no_slice c.args.deep _ _ _ c.spelled.ensures c.if-spelled.false _ c.spelled-2.ensures _ w.kind_at.ensures w.if-kind_at-eq-OPENING_BRACK.false
+      | else-spelled-2-via-else-spelled-2 w ↦ no_peek c.args.deep _ _ _ c.spelled.ensures c.if-spelled.false _ c.spelled-2.ensures w.if-spelled-2.false
     ])
     c.requires.at_value _ c.word_bytes-bytes.ensures

@@ -6,4 +6,4 @@ pub returns-in_default : goal.returns-in_default
 returns-in_default c = comma_none _ _ _ c.expect-comma.ensures c.in_default.is _ c.not_allowed.ensures
 
 pub returns : goal.returns
-returns c = comma_most _ _ _ c.expect-comma.ensures _ c.in-Here.is _ c.most_end.ensures
+returns c = comma_most _ _ _ c.expect-comma.ensures _ c.in-Some.is _ c.most_end.ensures

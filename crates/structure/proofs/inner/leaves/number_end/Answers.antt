@@ -19,10 +19,10 @@ pub returns-in_default : goal.returns-in_default
 returns-in_default c = number_open _ _ _ c.kind_at.ensures c.if-kind_at-eq-CLOSING_BRACE.false _ c.expect-comma.ensures c.in_default.is _ c.not_allowed.ensures
 
 pub overflow_add-result-then-kind_at-eq-CLOSING_BRACE-2 : goal.overflow_add-result-then-kind_at-eq-CLOSING_BRACE-2
-overflow_add-result-then-kind_at-eq-CLOSING_BRACE-2 c = let i = here_in _ _ 15 _ _ (omega arith) c.expect-comma.ensures c.in-Here.is in let z = sizes _ _ c.requires.lent in omega arith
+overflow_add-result-then-kind_at-eq-CLOSING_BRACE-2 c = let i = here_in _ _ 15 _ _ (omega arith) c.expect-comma.ensures c.in-Some.is in let z = sizes _ _ c.requires.lent in omega arith
 
 pub returns-then-kind_at-eq-CLOSING_BRACE-2 : goal.returns-then-kind_at-eq-CLOSING_BRACE-2
-returns-then-kind_at-eq-CLOSING_BRACE-2 c = number_least _ _ _ c.kind_at.ensures c.if-kind_at-eq-CLOSING_BRACE.false _ c.expect-comma.ensures _ c.in-Here.is _ c.kind_at-2.ensures c.if-kind_at-eq-CLOSING_BRACE-2.true
+returns-then-kind_at-eq-CLOSING_BRACE-2 c = number_least _ _ _ c.kind_at.ensures c.if-kind_at-eq-CLOSING_BRACE.false _ c.expect-comma.ensures _ c.in-Some.is _ c.kind_at-2.ensures c.if-kind_at-eq-CLOSING_BRACE-2.true
 
 pub returns : goal.returns
-returns c = number_most _ _ _ c.kind_at.ensures c.if-kind_at-eq-CLOSING_BRACE.false _ c.expect-comma.ensures _ c.in-Here.is _ c.kind_at-2.ensures c.if-kind_at-eq-CLOSING_BRACE-2.false _ c.most_end.ensures
+returns c = number_most _ _ _ c.kind_at.ensures c.if-kind_at-eq-CLOSING_BRACE.false _ c.expect-comma.ensures _ c.in-Some.is _ c.kind_at-2.ensures c.if-kind_at-eq-CLOSING_BRACE-2.false _ c.most_end.ensures

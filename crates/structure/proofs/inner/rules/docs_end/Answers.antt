@@ -1,13 +1,7 @@
-use Rattle.structure.proofs.Rules.{docs_start, docs_more, docs_done}
+use Rattle.structure.proofs.Rules.{docs_more, docs_done}
 use native.Mathlib.Omega.{arith}
 use Rattle.token.proofs.Table.{sizes}
 use Rattle.structure.proofs.inner.rules.docs_end.Goals as goal
-
-pub loop-i-init : goal.loop-i-init
-loop-i-init c = docs_start _
-
-pub kind_at-requires : goal.kind_at-requires
-kind_at-requires c = c.requires
 
 pub overflow_add-i : goal.overflow_add-i
 overflow_add-i c = let i = (docs_more _ _ _ c.kind_at.ensures c.loop-i-test.true c.loop-i.invariant).0 in let z = sizes _ _ c.requires in omega arith

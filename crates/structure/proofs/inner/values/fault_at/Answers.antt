@@ -1,6 +1,6 @@
 -- By the kind of the token, a law of Faults for each. What `literal_fault` is told of the opening bytes, 2 for kind 24 and 1 for the two other
 -- literals, is what the definition takes (`opens_two`, `opens_one`).
-use Rattle.structure.specs.declared.Fault.TheVariants.{Sound}
+use Rattle.std.specs.Prelude.{None}
 use Rattle.structure.proofs.Faults.{value_word, value_number, value_minus, value_quoted, value_insens, value_none}
 use mathlib.Core.Logic.{inl, inr, ⊎_elim}
 use native.Mathlib.Omega.{arith}
@@ -37,4 +37,4 @@ pub returns-in-24 : goal.returns-in-24
 returns-in-24 c = value_insens _ _ _ _ _ _ c.kind_at-k.ensures _ c.in-24.is c.literal_fault-in-24.ensures
 
 pub returns-in_default : goal.returns-in_default
-returns-in_default c = let r = c.in_default.in_default-own.rest in value_none _ _ _ _ _ _ c.kind_at-k.ensures Sound r.0.0.0.0.1 r.0.0.0.1 r.0.0.1 (λ q. r.0.1 (inl q)) r.1 (λ q. r.0.1 (inr q))
+returns-in_default c = let r = c.in_default.in_default-own.rest in value_none _ _ _ _ _ _ c.kind_at-k.ensures None r.0.0.0.0.1 r.0.0.0.1 r.0.0.1 (λ q. r.0.1 (inl q)) r.1 (λ q. r.0.1 (inr q))

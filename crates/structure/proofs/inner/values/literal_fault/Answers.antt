@@ -1,6 +1,6 @@
 -- The part that is searched is the inside of the literal, so that its bad escape is the definition's, counted from where the inside begins.
 -- It stands inside the text (`literal_low`), so that the sum fits.
-use Rattle.structure.proofs.Faults.{literal_sound, literal_bad, literal_low}
+use Rattle.structure.proofs.Faults.{literal_low}
 use native.Mathlib.Omega.{arith}
 use Prim.Native.Nat.{◌-◌, ◌+◌}
 use mathlib.Core.Path.{ap}
@@ -18,10 +18,4 @@ pub bad_escape_in-bad-requires : goal.bad_escape_in-bad-requires
 bad_escape_in-bad-requires c = let p = spans _ _ c.requires.at_in_bounds in omega arith
 
 pub overflow_add-result : goal.overflow_add-result
-overflow_add-result c = let k = literal_low _ _ _ _ _ c.requires.skip_value (ap (λ n. n + c.args.skip) c.start_at.ensures) (ap (λ n. n - 1) c.end_at-z.ensures) _ c.bad_escape_in-bad.ensures _ c.in-StopsAt.is in let p = spans _ _ c.requires.at_in_bounds in let h = c.requires.lent.short in let o = opens_small c.args.text.now c.args.at in omega arith
-
-pub returns-in-Through : goal.returns-in-Through
-returns-in-Through c = literal_sound _ _ _ _ _ c.requires.skip_value (ap (λ n. n + c.args.skip) c.start_at.ensures) (ap (λ n. n - 1) c.end_at-z.ensures) _ c.bad_escape_in-bad.ensures c.in-Through.is
-
-pub returns-in-StopsAt : goal.returns-in-StopsAt
-returns-in-StopsAt c = literal_bad _ _ _ _ _ c.requires.skip_value (ap (λ n. n + c.args.skip) c.start_at.ensures) (ap (λ n. n - 1) c.end_at-z.ensures) _ c.bad_escape_in-bad.ensures _ c.in-StopsAt.is
+overflow_add-result c = let k = literal_low _ _ _ _ _ c.requires.skip_value (ap (λ n. n + c.args.skip) c.start_at.ensures) (ap (λ n. n - 1) c.end_at-z.ensures) _ c.bad_escape_in-bad.ensures _ c.in-Some.is in let p = spans _ _ c.requires.at_in_bounds in let h = c.requires.lent.short in let o = opens_small c.args.text.now c.args.at in omega arith

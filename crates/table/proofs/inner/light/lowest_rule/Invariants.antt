@@ -1,13 +1,8 @@
--- The invariant: k is at most m, and no rule below k is false; m - k falls. So the first rule that fails is the lowest (`lowest_bad`), and
--- from a long name on `lowest_rule_from` finds it.
-use Rattle.table.specs.Check.{good_rule, lowest}
-use Rattle.text.specs.declared.Scan.TheVariants.{Through}
+-- No rule below k is false. So the first rule that fails is the lowest (`lowest_bad`), and from a long name on `lowest_rule_from` finds it.
+use Rattle.std.specs.Prelude.{None}
 use mathlib.Core.Path.{◌≡◌}
-use Prim.Native.Nat.{◌-◌, ◌≤◌}
+use Rattle.table.specs.Check.{good_rule, lowest}
 use Rattle.table.proofs.inner.light.lowest_rule.Given as goal
 
 abbrev pub invariant-loop-k : goal.invariant-loop-k
-invariant-loop-k l = (l.k ≤ l.m) × (lowest (good_rule l.nodes l.rules l.store) l.k ≡ Through)
-
-abbrev pub decreases-loop-k : goal.decreases-loop-k
-decreases-loop-k l = l.m - l.k
+invariant-loop-k l = lowest (good_rule l.all.nodes.now l.all.rules.now l.texts.store.now) l.k ≡ None

@@ -1,16 +1,10 @@
-use mathlib.Core.Path.{refl, sym, ◌∙◌}
+use mathlib.Core.Path.{◌∙◌}
+use Rattle.std.proofs.Common.{rules, tests}
+use Rattle.std.proofs.lemmas.Iterator.{YieldsList-from_slice}
+use Rattle.std.proofs.lemmas.Iterator.Search.{all_from_yields_List}
 use Rattle.text.specs.Words.{in_word}
-use Rattle.text.proofs.Runs.{all_step, all_stop, all_end}
+use Rattle.text.proofs.Runs.{all_listed}
 use Rattle.text.proofs.inner.words.all_in_word.Goals as goal
 
-pub loop-i-init : goal.loop-i-init
-loop-i-init c = refl
-
-pub returns-then-not-in_word : goal.returns-then-not-in_word
-returns-then-not-in_word c = sym (all_stop in_word _ _ c.loop-i-test.true (sym c.in_word.ensures ∙ c.if-not-in_word.true)) ∙ c.loop-i.invariant
-
-pub loop-i-preserved : goal.loop-i-preserved
-loop-i-preserved c = sym (all_step in_word _ _ c.loop-i-test.true (sym c.in_word.ensures ∙ c.if-not-in_word.false)) ∙ c.loop-i.invariant
-
 pub returns : goal.returns
-returns c = sym (all_end in_word _ _ c.loop-i-test.false) ∙ c.loop-i.invariant
+returns c = all_from_yields_List in_word _ _ c.all.result c.all.ensures.ran (YieldsList-from_slice c.args.s.now cc) (λ x b q k. search (rules, tests)) ∙ all_listed in_word c.args.s.now

@@ -1,25 +1,20 @@
--- No byte, or one that may not stand where it does, makes no word (`word_empty`, `word_at`). Of a word, PUSH at its front decides.
-use mathlib.Core.Path.{sym, ◌∙◌}
-use Rattle.text.specs.Words.{word_of}
-use Rattle.text.proofs.Runs.{word_empty, word_at}
+-- Of a word, PUSH at its front decides: the library's test of it is `begins` (`begins_listed`).
+use mathlib.Core.Path.{◌≡◌, sym, ◌∙◌}
+use mathlib.Core.Bool.{true, false}
+use native.Mathlib.Omega.{arith}
+use Rattle.std.proofs.lemmas.Grind.{common_steps}
+use Rattle.text.specs.Words.{word_of, begins, push}
+use Rattle.text.proofs.Runs.{word_at, begins_listed}
 use Rattle.text.proofs.inner.words.word.Goals as goal
 
-pub returns-then-s-eq0 : goal.returns-then-s-eq0
+pub returns-then-starts_with : goal.returns-then-starts_with
 unfolding word_of
-returns-then-s-eq0 c = rw (word_empty _ c.if-s-eq0.true)
+returns-then-starts_with c =
+    let b : begins push c.args.s.now ≡ true = sym (begins_listed push c.args.s.now) ∙ (sym c.starts_with.ensures.value ∙ c.if-starts_with.true) in
+    grind (arith, common_steps, word_at)
 
-pub returns-then-not-starts_word : goal.returns-then-not-starts_word
+pub returns-else-starts_with : goal.returns-else-starts_with
 unfolding word_of
-returns-then-not-starts_word c = rw (word_at _ c.if-s-eq0.false, sym c.starts_word.ensures ∙ c.if-not-starts_word.true)
-
-pub returns-then-not-all_in_word : goal.returns-then-not-all_in_word
-unfolding word_of
-returns-then-not-all_in_word c = rw (word_at _ c.if-s-eq0.false, sym c.starts_word.ensures ∙ c.if-not-starts_word.false, sym c.all_in_word.ensures ∙ c.if-not-all_in_word.true)
-
-pub returns-then-begins_at : goal.returns-then-begins_at
-unfolding word_of
-returns-then-begins_at c = rw (word_at _ c.if-s-eq0.false, sym c.starts_word.ensures ∙ c.if-not-starts_word.false, sym c.all_in_word.ensures ∙ c.if-not-all_in_word.false, sym c.begins_at.ensures ∙ c.if-begins_at.true)
-
-pub returns : goal.returns
-unfolding word_of
-returns c = rw (word_at _ c.if-s-eq0.false, sym c.starts_word.ensures ∙ c.if-not-starts_word.false, sym c.all_in_word.ensures ∙ c.if-not-all_in_word.false, sym c.begins_at.ensures ∙ c.if-begins_at.false)
+returns-else-starts_with c =
+    let b : begins push c.args.s.now ≡ false = sym (begins_listed push c.args.s.now) ∙ (sym c.starts_with.ensures.value ∙ c.if-starts_with.false) in
+    grind (arith, common_steps, word_at)

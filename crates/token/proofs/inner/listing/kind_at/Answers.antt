@@ -1,31 +1,16 @@
--- The table has a token's kind where the code reads; past the last row the definition gives what the code returns.
-use Rattle.token.proofs.Table.{known, kind_in, kind_out, row_lies}
 use native.Mathlib.Omega.{arith}
-use borrow.Author.Rules.{rules}
+use mathlib.Core.Path.{refl}
+use Rattle.token.specs.Lists.{kind_of}
+use Rattle.token.specs.Table.{kind}
+use Rattle.token.proofs.Table.{number_is, known}
 use Rattle.token.proofs.inner.listing.kind_at.Goals as goal
 
-pub returns-then-tokens-at : goal.returns-then-tokens-at
-returns-then-tokens-at c = kind_out _ _ c.requires _ c.if-tokens-at.true
-
-pub overflow_mul-result : goal.overflow_mul-result
-overflow_mul-result c =
-    let f = row_lies _ _ c.requires _ c.if-tokens-at.false in
-    search rules
-
-pub offset_bounds-tokens-at : goal.offset_bounds-tokens-at
-offset_bounds-tokens-at c =
-    let f = row_lies _ _ c.requires _ c.if-tokens-at.false in
-    search rules
-
-pub bounds-tokens-at : goal.bounds-tokens-at
-bounds-tokens-at c =
-    let f = row_lies _ _ c.requires _ c.if-tokens-at.false in
-    search rules
-
 pub overflow_cast-result : goal.overflow_cast-result
+unfolding kind
 overflow_cast-result c =
-    let e = kind_in _ _ c.requires _ c.if-tokens-at.false in
+    let e = number_is _ _ c.requires kind_of c.args.at 0 _ (omega arith) (λ t. refl) c.number_at.ensures.inside c.number_at.ensures.outside in
     omega (arith, known c.args.text.now c.args.at)
 
 pub returns : goal.returns
-returns c = kind_in _ _ c.requires _ c.if-tokens-at.false
+unfolding kind
+returns c = number_is _ _ c.requires kind_of c.args.at 0 _ (omega arith) (λ t. refl) c.number_at.ensures.inside c.number_at.ensures.outside

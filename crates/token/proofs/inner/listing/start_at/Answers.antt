@@ -1,37 +1,10 @@
--- The table has a token's start where the code reads; past the last row the definition gives what the code returns.
-use Rattle.token.proofs.Table.{low, start_in, start_out, row_lies}
 use native.Mathlib.Omega.{arith}
-use borrow.Author.Rules.{rules}
+use mathlib.Core.Path.{refl}
+use Rattle.token.specs.Lists.{start_of}
+use Rattle.token.specs.Table.{start}
+use Rattle.token.proofs.Table.{number_is}
 use Rattle.token.proofs.inner.listing.start_at.Goals as goal
 
-pub returns-then-tokens-at : goal.returns-then-tokens-at
-returns-then-tokens-at c = start_out _ _ c.requires _ c.if-tokens-at.true
-
-pub overflow_mul-result : goal.overflow_mul-result
-overflow_mul-result c =
-    let f = row_lies _ _ c.requires _ c.if-tokens-at.false in
-    search rules
-
-pub overflow_add-result : goal.overflow_add-result
-overflow_add-result c =
-    let f = row_lies _ _ c.requires _ c.if-tokens-at.false in
-    search rules
-
-pub offset_bounds-tokens-at : goal.offset_bounds-tokens-at
-offset_bounds-tokens-at c =
-    let f = row_lies _ _ c.requires _ c.if-tokens-at.false in
-    search rules
-
-pub bounds-tokens-at : goal.bounds-tokens-at
-bounds-tokens-at c =
-    let f = row_lies _ _ c.requires _ c.if-tokens-at.false in
-    search rules
-
-pub overflow_cast-result : goal.overflow_cast-result
-overflow_cast-result c =
-    let e = start_in _ _ c.requires _ c.if-tokens-at.false in
-    let l = low c.args.text.now c.args.at in
-    omega (arith, c.requires.short)
-
 pub returns : goal.returns
-returns c = start_in _ _ c.requires _ c.if-tokens-at.false
+unfolding start
+returns c = number_is _ _ c.requires start_of c.args.at 1 _ (omega arith) (λ t. refl) c.number_at.ensures.inside c.number_at.ensures.outside

@@ -12,26 +12,26 @@ use Rattle.token.proofs.inner.openers.char_at.Goals as goal
 pub quoted_at-requires : goal.quoted_at-requires
 quoted_at-requires c = record {
   at_in_bounds = c.requires;
-  n_bound = omega (arith, (meant _ _ _ (sym c.escape_at-escape.ensures ∙ c.in-Means.is)).ten);
+  n_bound = omega (arith, (meant _ _ _ (sym c.escape_at.ensures ∙ c.in-Some.is)).ten);
 }
 
-pub returns-in-Means : goal.returns-in-Means
+pub returns-in-Some : goal.returns-in-Some
 unfolding char_token
-returns-in-Means c = rw (sym c.next_is.ensures ∙ c.if-next_is.true, sym c.escape_at-escape.ensures ∙ c.in-Means.is) c.quoted_at.ensures
+returns-in-Some c = rw (sym c.next_is.ensures ∙ c.if-next_is.true, sym c.escape_at.ensures ∙ c.in-Some.is) c.quoted_at.ensures
 
-pub returns-in-Plain : goal.returns-in-Plain
-returns-in-Plain c = char_bad _ _ (sym c.next_is.ensures ∙ c.if-next_is.true) (sym c.escape_at-escape.ensures ∙ c.in-Plain.is)
+pub returns-in-None : goal.returns-in-None
+returns-in-None c = char_bad _ _ (sym c.next_is.ensures ∙ c.if-next_is.true) (sym c.escape_at.ensures ∙ c.in-None.is)
 
-pub quoted_at-requires-in-Is : goal.quoted_at-requires-in-Is
-quoted_at-requires-in-Is c = record {
+pub quoted_at-requires-in-Some-char_at : goal.quoted_at-requires-in-Some-char_at
+quoted_at-requires-in-Some-char_at c = record {
   at_in_bounds = c.requires;
-  n_bound = omega (arith, (decoded _ _ _ (sym c.char_at-sequence.ensures ∙ c.in-Is.is)).few);
+  n_bound = omega (arith, (decoded _ _ _ (sym c.char_at.ensures ∙ c.in-Some-char_at.is)).few);
 }
 
-pub returns-in-Is : goal.returns-in-Is
+pub returns-in-Some-char_at : goal.returns-in-Some-char_at
 unfolding char_token
-returns-in-Is c = rw (sym c.next_is.ensures ∙ c.if-next_is.false, sym c.char_at-sequence.ensures ∙ c.in-Is.is) c.quoted_at-in-Is.ensures
+returns-in-Some-char_at c = rw (sym c.next_is.ensures ∙ c.if-next_is.false, sym c.char_at.ensures ∙ c.in-Some-char_at.is) c.quoted_at-in-Some-char_at.ensures
 
-pub returns-in-Broken : goal.returns-in-Broken
+pub returns-in-None-char_at : goal.returns-in-None-char_at
 unfolding char_token
-returns-in-Broken c = rw (sym c.next_is.ensures ∙ c.if-next_is.false, sym c.char_at-sequence.ensures ∙ c.in-Broken.is) (none _)
+returns-in-None-char_at c = rw (sym c.next_is.ensures ∙ c.if-next_is.false, sym c.char_at.ensures ∙ c.in-None-char_at.is) (none _)

@@ -1,2 +1,0 @@
--- The program for camera lines: the law that its proofs cite.
-pub mod Turns

@@ -1,2 +1,0 @@
--- The program for camera lines: the definitions that its contracts cite.
-pub mod Turns

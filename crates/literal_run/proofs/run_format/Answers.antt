@@ -1,8 +1,0 @@
--- A room larger than the output is turned away, so the part that is lent lies in it.
--- The bytes to be shown are compared with the output as well: no promise of `fmt_literal` is needed.
-use mathlib.Core.Path.{sym}
-use lib.Seq.{length-take-le}
-use Rattle.literal_run.proofs.run_format.Goals as goal
-
-pub slice_bounds-fmt_literal-end-2 : goal.slice_bounds-fmt_literal-end-2
-slice_bounds-fmt_literal-end-2 c = sym (length-take-le _ _ c.if-out-room.false)

@@ -1,5 +1,0 @@
-use native.Mathlib.Numerals.{add-one}
-use Rattle.steps.proofs.inner.transitions.moves.grow.Goals as goal
-
-pub returns : goal.returns
-returns c = rw (add-one c.args.n) at c.go.ensures

@@ -1,9 +1,0 @@
-use mathlib.Core.Path.{sym}
-use Rattle.text.proofs.Hexes.{digit_low, digit_high}
-use Rattle.text.proofs.inner.digits.hex_digit.Goals as goal
-
-pub returns-then-d-lt10 : goal.returns-then-d-lt10
-returns-then-d-lt10 c = sym (digit_low _ c.if-d-lt10.true)
-
-pub returns : goal.returns
-returns c = sym (digit_high _ c.if-d-lt10.false)
