@@ -20,12 +20,3 @@ pub enum Act {
     Repeat(usize, u32, Option<u32>),
     Unfit,
 }
-
-// Tables, nodes and names that can be run, or what is refused of them.
-#[derive(Clone, Copy)]
-pub enum Ready {
-    Yes,
-    FalseTables,
-    Unfit(usize),
-    NoRule,
-}

@@ -1,5 +1,5 @@
 -- Laws of the answers: what a line's run gives, and what a call gives once its tables were asked about.
-use Rattle.std.specs.Prelude.{ℕ, Option, Some, None}
+use Rattle.std.specs.Prelude.{ℕ, Option, Some, None, Result, Ok, Err}
 use mathlib.Core.List.{List}
 use mathlib.Core.Path.{◌≡◌, sym, ap, ◌∙◌, subst}
 use Prim.Native.Nat.{ℕ, ◌-◌, ◌<◌}
@@ -11,10 +11,9 @@ use Rattle.table.specs.Check.{Valid}
 use Rattle.table.proofs.Tables.{sound_at}
 use Rattle.links.specs.declared.Act.{Act}
 use Rattle.matcher.specs.declared.Outcome.{Outcome}
-use Rattle.links.specs.declared.Ready.{Ready}
 use Rattle.replies.specs.declared.Answer.{Answer}
 use Rattle.replies.specs.declared.Answer.TheVariants.{Matched, NoMatch, FalseTables, Unfit, NoRule, NotUtf8, Over}
-use Rattle.replies.specs.declared.Lines.{Lines}
+use Rattle.replies.specs.declared.RunError.{RunError}
 use Rattle.links.specs.Program.{program, linked_at, Linked, Runnable}
 use Rattle.matcher.specs.Match.{visit}
 use Rattle.matcher.specs.Answers.{max_visits, reply, line_by, line_of, answer_by, match_of}
@@ -62,11 +61,11 @@ module _ (prog : ℕ → Act) (st line : List ℕ) (d k i at : ℕ) {x : Outcome
 
 -- ---- a call
 
-module _ (ns rs st : List ℕ) (start : ℕ) {r : Ready} (e : r ≡ ready_of ns rs st start) where
-  pub call_there : r ≡ Ready.Yes → start < rules_in rs
+module _ (ns rs st : List ℕ) (start : ℕ) {r : Result (Unit {0}) RunError} (e : r ≡ ready_of ns rs st start) where
+  pub call_there : r ≡ Ok tt → start < rules_in rs
   call_there q = (ready_allows ns rs st start e q).there
 
-  module _ (q : r ≡ Ready.Yes) (ls : List ℕ) (l : Linked ns rs st ls) where
+  module _ (q : r ≡ Ok tt) (ls : List ℕ) (l : Linked ns rs st ls) where
     valid : Valid ns rs st
     valid = (ready_allows ns rs st start e q).valid
 
@@ -80,47 +79,41 @@ module _ (ns rs st : List ℕ) (start : ℕ) {r : Ready} (e : r ≡ ready_of ns 
     same_program = linked_program ns rs st ls valid.whole_nodes l
 
   module _ (line : List ℕ) (allowance : ℕ) where
-    answered : {z : Ready} → r ≡ z → match_of ns rs st start line allowance ≡ answer_by z (λ u. line_of (program ns rs st) st (root_at rs start) allowance line)
+    answered : {z : Result (Unit {0}) RunError} → r ≡ z → match_of ns rs st start line allowance ≡ answer_by z (λ u. line_of (program ns rs st) st (root_at rs start) allowance line)
     unfolding match_of
     answered q = ap (λ z. answer_by z (λ u. line_of (program ns rs st) st (root_at rs start) allowance line)) (sym e ∙ q)
 
-    pub answer_yes : (q : r ≡ Ready.Yes) (ls : List ℕ) → Linked ns rs st ls → {root : ℕ} {x : Answer} → root ≡ root_at rs start → x ≡ line_of (linked_at ns ls) st root allowance line → x ≡ match_of ns rs st start line allowance
+    pub answer_yes : (q : r ≡ Ok tt) (ls : List ℕ) → Linked ns rs st ls → {root : ℕ} {x : Answer} → root ≡ root_at rs start → x ≡ line_of (linked_at ns ls) st root allowance line → x ≡ match_of ns rs st start line allowance
     answer_yes q ls l {root} {x} g w =
         w ∙ ap (λ p. line_of p st root allowance line) (same_program q ls l) ∙ ap (λ k. line_of (program ns rs st) st k allowance line) g ∙ sym (answered q)
 
-    pub answer_false : r ≡ Ready.FalseTables → FalseTables ≡ match_of ns rs st start line allowance
+    pub answer_false : r ≡ Err RunError.FalseTables → FalseTables ≡ match_of ns rs st start line allowance
     answer_false q = sym (answered q)
 
-    pub answer_unfit : {i : ℕ} → r ≡ Ready.Unfit i → Unfit i ≡ match_of ns rs st start line allowance
+    pub answer_unfit : {i : ℕ} → r ≡ Err (RunError.Unfit i) → Unfit i ≡ match_of ns rs st start line allowance
     answer_unfit q = sym (answered q)
 
-    pub answer_none : r ≡ Ready.NoRule → NoRule ≡ match_of ns rs st start line allowance
+    pub answer_none : r ≡ Err RunError.NoRule → NoRule ≡ match_of ns rs st start line allowance
     answer_none q = sym (answered q)
 
   module _ (text : List ℕ) (allowance : ℕ) (o : List ℕ) where
-    ran_is : {z : Ready} → r ≡ z → lines_of ns rs st start text (length o) ≡ lines_by z (λ u. ran_over text (length o))
+    ran_is : {z : Result (Unit {0}) RunError} → r ≡ z → lines_of ns rs st start text (length o) ≡ lines_by z (λ u. ran_over text (length o))
     unfolding lines_of
     ran_is q = ap (λ z. lines_by z (λ u. ran_over text (length o))) (sym e ∙ q)
 
     abbrev by_lines : List ℕ
     by_lines = recorded (line_of (program ns rs st) st (root_at rs start) allowance) text o
 
-    left_is : {z : Ready} → r ≡ z → records_of ns rs st start text allowance o ≡ records_by z (λ u. by_lines) o
+    left_is : {z : Result (Unit {0}) RunError} → r ≡ z → records_of ns rs st start text allowance o ≡ records_by z (λ u. by_lines) o
     unfolding records_of
     left_is q = ap (λ z. records_by z (λ u. by_lines) o) (sym e ∙ q)
 
-    pub lines_yes : (q : r ≡ Ready.Yes) (ls : List ℕ) → Linked ns rs st ls → {root : ℕ} {x : Lines} {o' : List ℕ} → root ≡ root_at rs start → x ≡ ran_over text (length o) → o' ≡ recorded (line_of (linked_at ns ls) st root allowance) text o
+    pub lines_yes : (q : r ≡ Ok tt) (ls : List ℕ) → Linked ns rs st ls → {root : ℕ} {x : Result (ℕ × ℕ) RunError} {o' : List ℕ} → root ≡ root_at rs start → x ≡ ran_over text (length o) → o' ≡ recorded (line_of (linked_at ns ls) st root allowance) text o
         → (x ≡ lines_of ns rs st start text (length o)) × (o' ≡ records_of ns rs st start text allowance o)
     lines_yes q ls l {root} {x} {o'} g w v = (
       w ∙ sym (ran_is q),
       v ∙ ap (λ p. recorded (line_of p st root allowance) text o) (same_program q ls l) ∙ ap (λ k. recorded (line_of (program ns rs st) st k allowance) text o) g ∙ sym (left_is q),
     )
 
-    pub lines_false : r ≡ Ready.FalseTables → (Lines.FalseTables ≡ lines_of ns rs st start text (length o)) × (o ≡ records_of ns rs st start text allowance o)
-    lines_false q = (sym (ran_is q), sym (left_is q))
-
-    pub lines_unfit : {i : ℕ} → r ≡ Ready.Unfit i → (Lines.Unfit i ≡ lines_of ns rs st start text (length o)) × (o ≡ records_of ns rs st start text allowance o)
-    lines_unfit q = (sym (ran_is q), sym (left_is q))
-
-    pub lines_none : r ≡ Ready.NoRule → (Lines.NoRule ≡ lines_of ns rs st start text (length o)) × (o ≡ records_of ns rs st start text allowance o)
-    lines_none q = (sym (ran_is q), sym (left_is q))
+    pub lines_refused : {x : RunError} → r ≡ Err x → (Err x ≡ lines_of ns rs st start text (length o)) × (o ≡ records_of ns rs st start text allowance o)
+    lines_refused q = (sym (ran_is q), sym (left_is q))

@@ -1,6 +1,6 @@
 -- What a call's answer means, over the definition without allowance: a length or a none is given exactly where a run of the starting rule's
 -- root comes to it within the allowance, and 34 exactly where no run does.
-use Rattle.std.specs.Prelude.{None}
+use Rattle.std.specs.Prelude.{None, Ok}
 use mathlib.Core.List.{List}
 use mathlib.Core.Path.{◌≡◌, refl, sym, ap, ◌∙◌}
 use Prim.Native.Nat.{ℕ, ◌+◌, ◌-◌, ◌≤◌, ◌<◌}
@@ -9,7 +9,7 @@ use Rattle.table.specs.Characters.{first_bad}
 use Rattle.table.specs.Record.{root_at}
 use Rattle.links.specs.declared.Act.{Act}
 use Rattle.matcher.specs.declared.Outcome.{Outcome}
-use Rattle.links.specs.declared.Ready.{Ready}
+use Rattle.replies.specs.declared.RunError.{RunError}
 use Rattle.replies.specs.declared.Answer.{Answer}
 use Rattle.replies.specs.declared.Answer.TheVariants.{Matched, NoMatch, Over}
 use Rattle.links.specs.Program.{program}
@@ -53,7 +53,7 @@ over_given k (Outcome.Missed l) q = let z : ◌≡◌ {A = ℕ} 0 1 = cc in absu
 over_given k Outcome.Over q = refl
 
 -- for tables and lines of which none of 30 to 33 is given
-module _ (ns rs st : List ℕ) (start : ℕ) (line : List ℕ) (ready : ready_of ns rs st start ≡ Ready.Yes) (utf8 : first_bad line ≡ None) where
+module _ (ns rs st : List ℕ) (start : ℕ) (line : List ℕ) (ready : ready_of ns rs st start ≡ Ok tt) (utf8 : first_bad line ≡ None) where
   abbrev prog : ℕ → Act
   prog = program ns rs st
 

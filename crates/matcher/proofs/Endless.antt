@@ -1,6 +1,6 @@
 -- An endless repetition comes to nothing: where its child matches and takes nothing, each round is followed by the same round, so that no run
 -- is ever complete, and a call that comes to it answers 34 at every allowance.
-use Rattle.std.specs.Prelude.{ℕ, Option, Some, None}
+use Rattle.std.specs.Prelude.{ℕ, Option, Some, None, Ok}
 use mathlib.Core.Bool.{true}
 use mathlib.Core.List.{List}
 use mathlib.Core.Path.{◌≡◌, refl, subst}
@@ -10,7 +10,6 @@ use Rattle.table.specs.Characters.{first_bad}
 use Rattle.table.specs.Record.{root_at}
 use Rattle.links.specs.declared.Act.{Act}
 use Rattle.links.specs.declared.Act.TheVariants.{Repeat}
-use Rattle.links.specs.declared.Ready.TheVariants.{Yes}
 use Rattle.replies.specs.declared.Answer.TheVariants.{Over}
 use Rattle.links.specs.Program.{program}
 use Rattle.matcher.specs.Match.{full}
@@ -76,7 +75,7 @@ module _ (prog : ℕ → Act) (st line : List ℕ) where
   endless {d = d} {c = c} {lo = lo} {at = at} {m = m} h r = stuck d c lo at m h r (refl, refl) refl
 
 -- a rule that is such a repetition is 34 at every allowance
-pub endless_over : (ns rs st : List ℕ) (start : ℕ) (line : List ℕ) → ready_of ns rs st start ≡ Yes → first_bad line ≡ None → {c lo m : ℕ} → program ns rs st (root_at rs start) ≡ Repeat c lo None
+pub endless_over : (ns rs st : List ℕ) (start : ℕ) (line : List ℕ) → ready_of ns rs st start ≡ Ok tt → first_bad line ≡ None → {c lo m : ℕ} → program ns rs st (root_at rs start) ≡ Repeat c lo None
     → Runs (program ns rs st) st line 1023 (node c) 0 (up_to 0) m → (a : ℕ) → match_of ns rs st start line a ≡ Over
 endless_over ns rs st start line y u {c = c} {lo = lo} {m = m} w h a =
     over_exactly_if ns rs st start line y u a (λ v n r. absurd (stuck (program ns rs st) st line 1023 c lo 0 m h r (refl, w) refl))

@@ -1,5 +1,6 @@
 -- Laws of lines and their records. The first line of a text is its first bytes up to LF or CRLF, and the others are the lines behind that
 -- end; so what is left to be done after k lines is the same work over the rest of the text.
+use Rattle.std.specs.Prelude.{Ok}
 use mathlib.Core.Bool.{Bool, true, false}
 use mathlib.Core.Path.{◌≡◌, refl, sym, ap, ◌∙◌, subst}
 use mathlib.Core.List.{List, [], ◌∷◌, ◌++◌}
@@ -14,7 +15,6 @@ use Rattle.table.proofs.Booleans.{and_right, choose_false, choose_true}
 use Rattle.table.specs.Characters.{choose, and, or, next_is, fronted}
 use Rattle.replies.specs.declared.Answer.{Answer}
 use Rattle.replies.specs.declared.Row.{Row}
-use Rattle.replies.specs.declared.Lines.TheVariants.{Ran}
 use Rattle.replies.specs.Replies.{numbered}
 use Rattle.matcher.specs.Lines.{onto, lines, past, row_size, fields, rows, ran_over, recorded, body_size, line_size}
 
@@ -351,7 +351,7 @@ module _ (f : List ℕ → Answer) where
         e ∙ front_sets o₀ (rows f (take m (lines t))) fits
         ∙ ap (λ k. rows f (take k (lines t)) ++ drop (length (rows f (take k (lines t)))) o₀) d.room
 
-    all_ran : {n : ℕ} → n ≡ length (take m (lines t)) → at ≡ past m t → Ran n at ≡ ran_over t (length o₀)
+    all_ran : {n : ℕ} → n ≡ length (take m (lines t)) → at ≡ past m t → Ok (n, at) ≡ ran_over t (length o₀)
     unfolding ran_over
     all_ran e g = rw (sym d.room) (cc)
 
@@ -359,7 +359,7 @@ module _ (f : List ℕ → Answer) where
       end-text : drop at t ≡ []
       end-text = drop_all t at h
 
-      pub done_text : Ran k at ≡ ran_over t (length o₀)
+      pub done_text : Ok (k, at) ≡ ran_over t (length o₀)
       done_text = all_ran (omega (arith, d.count, none_left)) (omega (arith, d.place, ap (past (m - k)) end-text, past_none (m - k)))
         where
           none_left : length (take (m - k) (lines (drop at t))) ≡ 0
@@ -372,7 +372,7 @@ module _ (f : List ℕ → Answer) where
       full-up : m - k ≡ 0
       full-up = omega arith
 
-      pub done_full : Ran m at ≡ ran_over t (length o₀)
+      pub done_full : Ok (m, at) ≡ ran_over t (length o₀)
       done_full = all_ran (omega (arith, d.count, d.some, ap (λ z. length (take z (lines (drop at t)))) full-up)) (omega (arith, d.place, ap (λ z. past z (drop at t)) full-up, past_zero (drop at t)))
 
       pub now_full : o ≡ recorded f t o₀

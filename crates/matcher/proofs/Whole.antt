@@ -1,6 +1,6 @@
 -- A matched length parts the line between two characters. Every visit that begins at such a place ends at one: texts of the store are UTF-8,
 -- and so are bytes of the line that differ from them in ASCII case at most; ANY and ranges take whole characters.
-use Rattle.std.specs.Prelude.{ℕ, Option, Some, None}
+use Rattle.std.specs.Prelude.{ℕ, Option, Some, None, Ok}
 use mathlib.Core.Bool.{Bool, true, false}
 use mathlib.Core.Path.{◌≡◌, refl, sym, ap, ◌∙◌, subst}
 use mathlib.Core.List.{List, [], ◌∷◌, map}
@@ -26,7 +26,6 @@ use Rattle.table.proofs.Texts.{leaf_inside_lem, leaf_fine, utf8_is}
 use Rattle.table.proofs.Characters.{Edge, edge_first, edge_more, edge_char, Keeps, good_map}
 use Rattle.links.specs.declared.Act.{Act}
 use Rattle.links.specs.declared.Act.TheVariants.{Text, Range, Any, Call, PosPred, NegPred, Seq, Choice, Repeat, Unfit}
-use Rattle.links.specs.declared.Ready.TheVariants.{Yes}
 use Rattle.replies.specs.declared.Answer.TheVariants.{Matched}
 use Rattle.links.specs.Program.{linked, unary_act, act_of, link_at, number, program}
 use Rattle.matcher.specs.Match.{lower, starts, any_character}
@@ -187,7 +186,7 @@ module _ (prog : ℕ → Act) (st line : List ℕ) (fine : (i : ℕ) → Fine st
   lands (ended {lo = lo} {k = k} {at = at} f r) g t = lands_test (leb lo k) at (λ h. t)
 
 -- a matched length is at most the line's, and what stands before it and behind it is UTF-8
-pub whole : (ns rs st : List ℕ) (start : ℕ) (line : List ℕ) (a e n : ℕ) → ready_of ns rs st start ≡ Yes → first_bad line ≡ None → match_of ns rs st start line a ≡ Matched e n
+pub whole : (ns rs st : List ℕ) (start : ℕ) (line : List ℕ) (a e n : ℕ) → ready_of ns rs st start ≡ Ok tt → first_bad line ≡ None → match_of ns rs st start line a ≡ Matched e n
     → (e ≤ length line) × (first_bad (take e line) ≡ None) × (first_bad (drop e line) ≡ None)
 whole ns rs st start line a e n y u q =
     let w = ready_allows ns rs st start (sym y) refl in

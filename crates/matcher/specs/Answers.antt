@@ -1,10 +1,10 @@
 -- The answers: refusals in their order, then what a run gives. Numbers 30 to 34.
-use Rattle.std.specs.Prelude.{List, ℕ, ◌-◌, Option, Some, None}
+use Rattle.std.specs.Prelude.{List, ℕ, ◌-◌, Option, Some, None, Result, Ok, Err}
 use Rattle.table.specs.Characters.{first_bad}
 use Rattle.table.specs.Record.{root_at}
 use Rattle.links.specs.declared.Act.{Act}
 use Rattle.matcher.specs.declared.Outcome.{Outcome}
-use Rattle.links.specs.declared.Ready.{Ready}
+use Rattle.replies.specs.declared.RunError.{RunError}
 use Rattle.replies.specs.declared.Answer.{Answer}
 use Rattle.replies.specs.declared.Answer.TheVariants.{Matched, NoMatch, FalseTables, Unfit, NoRule, NotUtf8, Over}
 use Rattle.links.specs.Program.{program}
@@ -31,11 +31,11 @@ unfoldable pub line_of : (ℕ → Act) → List ℕ → ℕ → ℕ → List ℕ
 line_of prog st root allowance line =
     line_by (first_bad line) (λ u. reply allowance (visit prog st line max_visits allowance root 0))
 
-abbrev pub answer_by : Ready → (Unit {0} → Answer) → Answer
-answer_by Ready.Yes f = f tt
-answer_by Ready.FalseTables f = FalseTables
-answer_by (Ready.Unfit i) f = Unfit i
-answer_by Ready.NoRule f = NoRule
+abbrev pub answer_by : Result (Unit {0}) RunError → (Unit {0} → Answer) → Answer
+answer_by (Ok _) f = f tt
+answer_by (Err RunError.FalseTables) f = FalseTables
+answer_by (Err (RunError.Unfit i)) f = Unfit i
+answer_by (Err RunError.NoRule) f = NoRule
 
 -- the answer to a call, for all tables, lines and allowances
 unfoldable pub match_of : List ℕ → List ℕ → List ℕ → ℕ → List ℕ → ℕ → Answer

@@ -1,12 +1,10 @@
 -- The lines of a text, and an answer for each.
-use Rattle.std.specs.Prelude.{List, [], ◌∷◌, ◌++◌, ℕ, zero, suc, ◌/◌, eqb, length, take}
+use Rattle.std.specs.Prelude.{List, [], ◌∷◌, ◌++◌, ℕ, zero, suc, ◌/◌, eqb, length, take, Result, Ok, Err}
 use Rattle.table.specs.Characters.{choose, and, or, next_is, fronted}
 use Rattle.table.specs.Record.{root_at}
-use Rattle.links.specs.declared.Ready.{Ready}
 use Rattle.replies.specs.declared.Answer.{Answer}
 use Rattle.replies.specs.declared.Row.{Row}
-use Rattle.replies.specs.declared.Lines.{Lines}
-use Rattle.replies.specs.declared.Lines.TheVariants.{Ran, FalseTables, Unfit, NoRule}
+use Rattle.replies.specs.declared.RunError.{RunError}
 use Rattle.links.specs.Program.{program}
 use Rattle.matcher.specs.Answers.{line_of}
 use Rattle.replies.specs.Replies.{numbered}
@@ -41,28 +39,24 @@ unfoldable pub rows : (List ℕ → Answer) → List (List ℕ) → List ℕ
 rows f [] = []
 rows f (l ∷ ls) = fields (numbered (f l)) ++ rows f ls
 
-abbrev pub lines_by : Ready → (Unit {0} → Lines) → Lines
-lines_by Ready.Yes f = f tt
-lines_by Ready.FalseTables f = FalseTables
-lines_by (Ready.Unfit i) f = Unfit i
-lines_by Ready.NoRule f = NoRule
+abbrev pub lines_by : Result (Unit {0}) RunError → (Unit {0} → Result (ℕ × ℕ) RunError) → Result (ℕ × ℕ) RunError
+lines_by (Ok _) f = f tt
+lines_by (Err e) f = Err e
 
 -- as many lines as there is room for: how many that are, and where the first of the others begins
-unfoldable pub ran_over : List ℕ → ℕ → Lines
-ran_over text room = Ran (length (take (room / row_size) (lines text))) (past (room / row_size) text)
+unfoldable pub ran_over : List ℕ → ℕ → Result (ℕ × ℕ) RunError
+ran_over text room = Ok (length (take (room / row_size) (lines text)), past (room / row_size) text)
 
-unfoldable pub lines_of : List ℕ → List ℕ → List ℕ → ℕ → List ℕ → ℕ → Lines
+unfoldable pub lines_of : List ℕ → List ℕ → List ℕ → ℕ → List ℕ → ℕ → Result (ℕ × ℕ) RunError
 lines_of ns rs st start text room = lines_by (ready_of ns rs st start) (λ u. ran_over text room)
 
 -- what the lent records hold afterwards: those lines' records in front, the rest as it was
 unfoldable pub recorded : (List ℕ → Answer) → List ℕ → List ℕ → List ℕ
 recorded f text o = fronted (rows f (take (length o / row_size) (lines text))) o
 
-abbrev pub records_by : Ready → (Unit {0} → List ℕ) → List ℕ → List ℕ
-records_by Ready.Yes f o = f tt
-records_by Ready.FalseTables f o = o
-records_by (Ready.Unfit i) f o = o
-records_by Ready.NoRule f o = o
+abbrev pub records_by : Result (Unit {0}) RunError → (Unit {0} → List ℕ) → List ℕ → List ℕ
+records_by (Ok _) f o = f tt
+records_by (Err e) f o = o
 
 unfoldable pub records_of : List ℕ → List ℕ → List ℕ → ℕ → List ℕ → ℕ → List ℕ → List ℕ
 records_of ns rs st start text allowance o =

@@ -12,9 +12,8 @@ ghost use Rattle.matcher.specs.Answers.{match_of};
 ghost use Rattle.matcher.specs.Lines.{lines_of, records_of};
 ghost use Rattle.matcher.specs.Sought.{found_of};
 
-use links::Ready;
-use replies::{Answer, Found, Lines};
-use table::{TableCheck, limits};
+use replies::{Answer, FindError, RunError};
+use table::{TableError, limits};
 
 // What a visit gives: the place after the match and the steps left, or the steps left where nothing
 // matched.
@@ -46,13 +45,13 @@ pub fn match_line(
     let mut links = [0u16; limits::NODES];
     let ready = links::inner::ready::prepare(nodes, rules, store, start, &mut links);
     match ready {
-        Ready::Yes => {
+        Ok(()) => {
             let root = links::inner::ready::root_of(rules, start);
             inner::visits::run_line(nodes, &links, store, root, allowance, line)
         }
-        Ready::FalseTables => Answer::FalseTables,
-        Ready::Unfit(i) => Answer::Unfit(i),
-        Ready::NoRule => Answer::NoRule,
+        Err(RunError::FalseTables) => Answer::FalseTables,
+        Err(RunError::Unfit(i)) => Answer::Unfit(i),
+        Err(RunError::NoRule) => Answer::NoRule,
     }
 }
 
@@ -70,34 +69,32 @@ pub fn match_lines(
     text: &[u8],
     allowance: u64,
     records: &mut [u64],
-) -> Lines
+) -> Result<(usize, usize), RunError>
     ensures value { result ≡ lines_of nodes.now rules.now store.now start text.now (length records.old) }
     ensures records_after { records.new ≡ records_of nodes.now rules.now store.now start text.now allowance records.old }
 {
     let mut links = [0u16; limits::NODES];
-    let ready = links::inner::ready::prepare(nodes, rules, store, start, &mut links);
-    match ready {
-        Ready::Yes => {
-            let root = links::inner::ready::root_of(rules, start);
-            inner::lines::run_lines(nodes, &links, store, root, allowance, text, records)
-        }
-        Ready::FalseTables => Lines::FalseTables,
-        Ready::Unfit(i) => Lines::Unfit(i),
-        Ready::NoRule => Lines::NoRule,
-    }
+    links::inner::ready::prepare(nodes, rules, store, start, &mut links)?;
+    let root = links::inner::ready::root_of(rules, start);
+    inner::lines::run_lines(nodes, &links, store, root, allowance, text, records)
 }
 
 // The lowest rule of a name, for callers that know a rule by its name. It asks about the whole tables first;
 // whether they can be run is asked by the call that runs them.
-pub fn rule_named(nodes: &[u32], rules: &[u32], store: &[u8], name: &[u8]) -> Found
+pub fn rule_named(
+    nodes: &[u32],
+    rules: &[u32],
+    store: &[u8],
+    name: &[u8],
+) -> Result<usize, FindError>
     ensures { result ≡ found_of nodes.now rules.now store.now name.now }
 {
-    let TableCheck::Good = table::check_tables(nodes, rules, store) else {
-        return Found::FalseTables;
+    let Ok(()) = table::check_tables(nodes, rules, store) else {
+        return Err(FindError::FalseTables);
     };
     let named = table::inner::names::rule_named(rules, store, name);
     match named {
-        Some(k) => Found::Rule(k),
-        None => Found::NoRule,
+        Some(k) => Ok(k),
+        None => Err(FindError::NoRule),
     }
 }

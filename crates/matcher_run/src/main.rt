@@ -2,7 +2,7 @@
 // numbers: the refusal's number and place, 1 for a match, its length, the steps.
 #![tactic(auto)]
 
-use replies::{Answer, Found, Lines};
+use replies::{Answer, FindError, RunError};
 use table::inner::layout::NODE_SIZE;
 
 // The numbers of a string under one `!` more than visits may nest.
@@ -13,12 +13,12 @@ fn tell(answer: Answer) {
     vectors::write_numbers(&[row.number, row.place, row.matched, row.length, row.steps]);
 }
 
-fn tell_lines(lines: Lines) {
+fn tell_lines(lines: Result<(usize, usize), RunError>) {
     let tally = replies::tally_of(lines);
     vectors::write_numbers(&[tally.number, tally.place, tally.lines, tally.next]);
 }
 
-fn tell_found(found: Found) {
+fn tell_found(found: Result<usize, FindError>) {
     let finding = replies::finding_of(found);
     vectors::write_numbers(&[finding.number, finding.place, finding.rule]);
 }

@@ -8,11 +8,11 @@ ghost use Rattle.reader.specs.Read.{numbered as readNumbered};
 ghost use Rattle.matcher.specs.Lines.{fields};
 ghost use Rattle.numbers.specs.Numbers.{level_of, edition_of, read_numbers, print_numbers, token_numbers, tally_numbers, finding_numbers, call_numbers, feed_numbers, feed_from};
 
-use printer::Printed;
-use reader::{Reading, number_of};
+use printer::PrintError;
+use reader::number_of;
 use replies::{Finding, Row, Tally};
 use states::{Call, Feed};
-use structure::{Edition, Level};
+use structure::{Edition, Level, Refusal};
 use token::Listed;
 
 // The level that a number names: 0 is plain, every other is tagged.
@@ -38,12 +38,12 @@ pub fn edition_of(edition: u32) -> Edition
 }
 
 // What the reader answers, in numbers.
-pub fn read_numbers(reading: Reading) -> [u64; 5]
+pub fn read_numbers(reading: Result<(usize, usize, usize), Refusal>) -> [u64; 5]
     ensures { result ≡ read_numbers (readNumbered reading) }
 {
     match reading {
-        Reading::Read(n, r, b) => [0, 0, n as u64, r as u64, b as u64],
-        Reading::Refused(refusal) => {
+        Ok((n, r, b)) => [0, 0, n as u64, r as u64, b as u64],
+        Err(refusal) => {
             let why = refusal.why;
             [number_of(why), refusal.place as u64, 0, 0, 0]
         }
@@ -51,15 +51,15 @@ pub fn read_numbers(reading: Reading) -> [u64; 5]
 }
 
 // What the printer answers, in numbers.
-pub fn printed_numbers(printed: Printed) -> [u64; 3]
+pub fn printed_numbers(printed: Result<usize, PrintError>) -> [u64; 3]
     ensures { result ≡ print_numbers (printNumbered printed) }
 {
     match printed {
-        Printed::Used(n) => [0, 0, n as u64],
-        Printed::Shape => [20, 0, 0],
-        Printed::Node(i) => [21, i as u64, 0],
-        Printed::Rule(k) => [22, k as u64, 0],
-        Printed::NoRoom => [23, 0, 0],
+        Ok(n) => [0, 0, n as u64],
+        Err(PrintError::Shape) => [20, 0, 0],
+        Err(PrintError::Node(i)) => [21, i as u64, 0],
+        Err(PrintError::Rule(k)) => [22, k as u64, 0],
+        Err(PrintError::NoRoom) => [23, 0, 0],
     }
 }
 

@@ -1,5 +1,6 @@
 -- Demand 3 of a pass: its answer is the definition's, and the theorems of `promises` say what that is for printable tables whose numbers
 -- are of 32 bits.
+use Rattle.std.specs.Prelude.{ℕ, Result, Ok, Err}
 use Prim.Native.Nat.{ℕ, ◌≤◌}
 use mathlib.Core.Path.{◌≡◌, sym, ap, ◌∙◌}
 use mathlib.Core.Bool.{true, false}
@@ -15,7 +16,7 @@ use Rattle.structure.specs.declared.Level.TheVariants.{Tagged, Plain}
 use Rattle.structure.specs.declared.Why.TheVariants.{NotPlain}
 use Rattle.printer.specs.Answers.{table_text, room_of, print_of}
 use Rattle.printer.specs.Bounds.{Narrow}
-use Rattle.reader.specs.declared.Reading.{Reading}
+use Rattle.structure.specs.declared.Refusal.{Refusal}
 use Rattle.reader.specs.Read.{room_for_nodes, room_for_rules, refused_by, read_of, left_in}
 use Rattle.promises.specs.Round.{Ordered, Printable, ReadAs}
 use Rattle.promises.proofs.Styles.{marked_asides}
@@ -24,9 +25,9 @@ use Rattle.pass.specs.declared.Passed.{Passed}
 use Rattle.pass.specs.Pass.{back_by, pass_of, new_in, Passes, barred, rules_back, pushes_at, Demand}
 
 -- only a reading is passed on as one
-back_read : (m : ℕ) (a : Reading) {k n r b : ℕ} → back_by m a ≡ Passed.Read k n r b → a ≡ Reading.Read n r b
-back_read m (Reading.Read x y z) e = cc
-back_read m (Reading.Refused f) e = let z : ◌≡◌ {A = ℕ} 0 1 = cc in absurd (omega arith)
+back_read : (m : ℕ) (a : Result (ℕ × ℕ × ℕ) Refusal) {k n r b : ℕ} → back_by m a ≡ Passed.Read k n r b → a ≡ Ok (n, r, b)
+back_read m (Ok (x, y, z)) e = cc
+back_read m (Err f) e = let z : ◌≡◌ {A = ℕ} 0 1 = cc in absurd (omega arith)
 
 module _ (style : Style) (ns rs st : List ℕ) (w : Narrow ns) (p : Printable style ns rs st) (edition : Edition) (q : Ordered edition (rules_of ns rs st)) where
   reads_back : (level : Level) → barred level (rules_of ns rs st) ≡ false → ReadAs edition level (table_text style ns rs st) (rules_back style level ns rs st)

@@ -1,5 +1,5 @@
 -- What a pass answers, what it leaves in the lent buffers, and what demand 3 says of it.
-use Rattle.std.specs.Prelude.{ℕ, ◌≤◌, ◌≡◌, Bool, true, false, List, map, length}
+use Rattle.std.specs.Prelude.{ℕ, ◌≤◌, ◌≡◌, Bool, true, false, List, map, length, Result, Ok, Err}
 use Rattle.text.specs.Splice.{fronted}
 use Rattle.table.specs.Tree.{Rule, Nowhere, aside_rule, counts, rules_stored, Same}
 use Rattle.table.specs.Record.{rules_of}
@@ -10,10 +10,10 @@ use Rattle.structure.specs.declared.Level.{Level}
 use Rattle.structure.specs.declared.Level.TheVariants.{Tagged, Plain}
 use Rattle.structure.specs.declared.Why.TheVariants.{NotPlain}
 use Rattle.structure.specs.Refusals.{because}
-use Rattle.printer.specs.declared.Printed.{Printed}
+use Rattle.printer.specs.declared.PrintError.{PrintError}
 use Rattle.printer.specs.Answers as Printer
 use Rattle.printer.specs.Answers.{table_text, print_of, print_in}
-use Rattle.reader.specs.declared.Reading.{Reading}
+use Rattle.structure.specs.declared.Refusal.{Refusal}
 use Rattle.reader.specs.Read as Reader
 use Rattle.reader.specs.Read.{room_for_nodes, room_for_rules, room_by, read_of}
 use Rattle.reader.specs.Lines.{line_in}
@@ -24,17 +24,17 @@ use Rattle.promises.specs.Round.{Ordered, holds_push_literal, seen, rules_left, 
 use Rattle.pass.specs.declared.Passed.{Passed}
 
 -- what the reader says of a text of k bytes
-abbrev pub back_by : ℕ → Reading → Passed
-back_by k (Reading.Read n r b) = Passed.Read k n r b
-back_by k (Reading.Refused f) = Passed.Unread k f
+abbrev pub back_by : ℕ → Result (ℕ × ℕ × ℕ) Refusal → Passed
+back_by k (Ok (n, r, b)) = Passed.Read k n r b
+back_by k (Err f) = Passed.Unread k f
 
 -- what the printer says, and where it printed, what the reader does
-abbrev pub pass_by : Printed → Reading → Passed
-pass_by (Printed.Used k) a = back_by k a
-pass_by Printed.Shape a = Passed.Shape
-pass_by (Printed.Node i) a = Passed.Node i
-pass_by (Printed.Rule i) a = Passed.Rule i
-pass_by Printed.NoRoom a = Passed.NoRoom
+abbrev pub pass_by : Result ℕ PrintError → Result (ℕ × ℕ × ℕ) Refusal → Passed
+pass_by (Ok k) a = back_by k a
+pass_by (Err PrintError.Shape) a = Passed.Shape
+pass_by (Err (PrintError.Node i)) a = Passed.Node i
+pass_by (Err (PrintError.Rule i)) a = Passed.Rule i
+pass_by (Err PrintError.NoRoom) a = Passed.NoRoom
 
 -- the answer for a text of at most m bytes and room for n nodes, r rules and b store bytes
 unfoldable pub pass_of : Style → Edition → Level → List ℕ → List ℕ → List ℕ → ℕ → ℕ → ℕ → ℕ → Passed
@@ -70,12 +70,12 @@ abbrev pub of_reader : ℕ → Reader.Numbered → Numbered
 of_reader k x = record { number = x.number; place = x.place; text = k; nodes = x.nodes; rules = x.rules; store = x.store }
 
 unfoldable pub numbered : Passed → Numbered
-numbered (Passed.Read k n r b) = of_reader k (Reader.numbered (Reading.Read n r b))
-numbered (Passed.Unread k f) = of_reader k (Reader.numbered (Reading.Refused f))
-numbered Passed.Shape = of_printer (Printer.numbered Printed.Shape)
-numbered (Passed.Node i) = of_printer (Printer.numbered (Printed.Node i))
-numbered (Passed.Rule i) = of_printer (Printer.numbered (Printed.Rule i))
-numbered Passed.NoRoom = of_printer (Printer.numbered Printed.NoRoom)
+numbered (Passed.Read k n r b) = of_reader k (Reader.numbered (Ok (n, r, b)))
+numbered (Passed.Unread k f) = of_reader k (Reader.numbered (Err f))
+numbered Passed.Shape = of_printer (Printer.numbered (Err PrintError.Shape))
+numbered (Passed.Node i) = of_printer (Printer.numbered (Err (PrintError.Node i)))
+numbered (Passed.Rule i) = of_printer (Printer.numbered (Err (PrintError.Rule i)))
+numbered Passed.NoRoom = of_printer (Printer.numbered (Err PrintError.NoRoom))
 
 -- what is to be answered, in those numbers
 unfoldable pub reported : Style → Edition → Level → List ℕ → List ℕ → List ℕ → ℕ → ℕ → ℕ → ℕ → Numbered
@@ -106,7 +106,7 @@ abbrev pub pushes_at : Style → List ℕ → List ℕ → List ℕ → ℕ
 pushes_at style ns rs st = first_push_literal (rules_pieces (marked_rules style (rules_of ns rs st)))
 
 -- the room that rules want, in three buffers
-abbrev pub room_in : {P : Type 0} → List (Rule P) → List ℕ → List ℕ → List ℕ → Reading
+abbrev pub room_in : {P : Type 0} → List (Rule P) → List ℕ → List ℕ → List ℕ → Result (ℕ × ℕ × ℕ) Refusal
 room_in us ns rs st = room_by (length us) (counts us) (length (rules_stored us)) (room_for_nodes ns) (room_for_rules rs) (length st)
 
 -- what comes back of tables. Unless the level bars them: their text is read as those rules; the answer is that of those rules, whatever room

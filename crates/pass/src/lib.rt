@@ -7,8 +7,7 @@
 ghost use Rattle.pass.specs.Pass.{Passes, Demand};
 
 use forms::Style;
-use printer::Printed;
-use reader::Reading;
+use printer::PrintError;
 use structure::{Edition, Level, Refusal};
 
 // The bytes of the text, and the nodes, rules and store bytes that were read from it; or the bytes of a text that was printed, and why
@@ -41,16 +40,16 @@ pub fn pass(
 {
     let printed = printer::print(style, nodes, rules, store, text);
     match printed {
-        Printed::Used(n) => {
+        Ok(n) => {
             let reading = reader::read(&text[..n], edition, level, new_nodes, new_rules, new_store);
             match reading {
-                Reading::Read(x, y, z) => Passed::Read(n, x, y, z),
-                Reading::Refused(refusal) => Passed::Unread(n, refusal),
+                Ok((x, y, z)) => Passed::Read(n, x, y, z),
+                Err(refusal) => Passed::Unread(n, refusal),
             }
         }
-        Printed::Shape => Passed::Shape,
-        Printed::Node(i) => Passed::Node(i),
-        Printed::Rule(k) => Passed::Rule(k),
-        Printed::NoRoom => Passed::NoRoom,
+        Err(PrintError::Shape) => Passed::Shape,
+        Err(PrintError::Node(i)) => Passed::Node(i),
+        Err(PrintError::Rule(k)) => Passed::Rule(k),
+        Err(PrintError::NoRoom) => Passed::NoRoom,
     }
 }

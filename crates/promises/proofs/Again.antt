@@ -1,6 +1,6 @@
 -- What was read prints, and its text is read again, unless that is too long or nests too deep: the rules of a reading are fine, their numbers are in
 -- bounds, in the order that the edition asks, and they fit the limits; so they come back from their text (Round).
-use Rattle.std.specs.Prelude.{None}
+use Rattle.std.specs.Prelude.{None, Ok}
 use Prim.Native.Nat.{ℕ, ◌≤◌, ◌<◌}
 use mathlib.Core.Path.{◌≡◌, refl, sym, ap, ◌∙◌}
 use mathlib.Core.Bool.{Bool, true, false}
@@ -38,7 +38,7 @@ use Rattle.structure.specs.Held.{Value, lower, most, pushes, unary_values, wrap_
 use Rattle.structure.proofs.Judged.{each_right}
 use Rattle.reader.specs.Lines.{line_in}
 use Rattle.build.specs.Rules.{rules_read}
-use Rattle.reader.specs.declared.Reading.{Reading}
+use Rattle.structure.specs.declared.Refusal.{Refusal}
 use Rattle.reader.specs.Read.{refused_by, read_of, listed_of, judged_of}
 use Rattle.reader.proofs.Counts.{read_counts}
 use Rattle.reader.proofs.Firsts.{read_counted}
@@ -155,7 +155,7 @@ pub nothing_read : (edition : Edition) (level : Level) (n r b : ℕ) → read_of
 unfolding read_of listed_of judged_of first_bad sought tokens_of tokens_from tokens_in token_at token_of grammar docs_in
 nothing_read edition level n r b = refl
 
-module _ (edition : Edition) (level : Level) (s : List ℕ) (n r b : ℕ) {x y z : ℕ} (e : read_of edition level s n r b ≡ Reading.Read x y z) (h : n ≤ max_nodes) (l : r ≤ max_rules) (v : Style) where
+module _ (edition : Edition) (level : Level) (s : List ℕ) (n r b : ℕ) {x y z : ℕ} (e : read_of edition level s n r b ≡ Ok (x, y, z)) (h : n ≤ max_nodes) (l : r ≤ max_rules) (v : Style) where
   -- what was read prints, at either level and in either style: 20, 21 and 22 are never answered
   pub read_prints : (m : ℕ) → print_of v (nodes_of (line_in s) (rules_read level s)) (records_of (rules_read level s)) (rules_stored (rules_read level s)) m ≡ room_of (printed_text v level s) m
   unfolding print_of
@@ -193,7 +193,7 @@ module _ (edition : Edition) (level : Level) (s : List ℕ) (n r b : ℕ) {x y z
     again_tagged o q = rw (sym (is_printed v level s)) (rules_tagged v (read_rules level s) sayable o (ordered_asides o (rules_read level s) q))
 
 -- the reader of its own level and of an edition reads it again: a text holding a rule, whose text is within the limits
-pub again_by : (edition : Edition) (level : Level) (s : List ℕ) (n r b : ℕ) {x y z : ℕ} → read_of edition level s n r b ≡ Reading.Read x y z → n ≤ max_nodes → r ≤ max_rules → (v : Style) → 1 ≤ y
+pub again_by : (edition : Edition) (level : Level) (s : List ℕ) (n r b : ℕ) {x y z : ℕ} → read_of edition level s n r b ≡ Ok (x, y, z) → n ≤ max_nodes → r ≤ max_rules → (v : Style) → 1 ≤ y
     → length (printed_text v level s) ≤ max_text → most_open (printed_text v level s) ≤ max_open → (o : Edition) → Ordered o (rules_read level s) → ReadAs o level (printed_text v level s) (seen v level (read_rules level s))
 again_by edition Tagged s n r b e h l v some short shallow o q = again_tagged edition Tagged s n r b e h l v some short shallow o q
 again_by edition Plain s n r b e h l v some short shallow o q =
@@ -203,6 +203,6 @@ again_by edition Plain s n r b e h l v some short shallow o q =
     (rules_plain v (read_rules Plain s) (sayable edition Plain s n r b e h l v some short shallow) o (ordered_asides o us q) (pushing_asides us ∙ none_pushed edition s us c.read c.sound))
 
 -- and that of its own edition asks no more
-pub again : (edition : Edition) (level : Level) (s : List ℕ) (n r b : ℕ) {x y z : ℕ} → read_of edition level s n r b ≡ Reading.Read x y z → n ≤ max_nodes → r ≤ max_rules → (v : Style) → 1 ≤ y
+pub again : (edition : Edition) (level : Level) (s : List ℕ) (n r b : ℕ) {x y z : ℕ} → read_of edition level s n r b ≡ Ok (x, y, z) → n ≤ max_nodes → r ≤ max_rules → (v : Style) → 1 ≤ y
     → length (printed_text v level s) ≤ max_text → most_open (printed_text v level s) ≤ max_open → ReadAs edition level (printed_text v level s) (seen v level (read_rules level s))
 again edition level s n r b e h l v some short shallow = again_by edition level s n r b e h l v some short shallow edition (read_ordered edition level s n r b e h l v)

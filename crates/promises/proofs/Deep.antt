@@ -1,6 +1,6 @@
 -- The reader answers 9 on a printed text exactly if more of its brackets are open at once than the limit.
 -- Too deep, its rules are refused (Sinks); else they are read, and values or room refuse for other reasons.
-use Rattle.std.specs.Prelude.{Option, Some, None}
+use Rattle.std.specs.Prelude.{Option, Some, None, ℕ, Result, Ok, Err}
 use Prim.Native.Nat.{ℕ, ◌≤◌}
 use mathlib.Core.Path.{◌≡◌, refl, sym, ◌∙◌}
 use mathlib.Core.Bool.{true}
@@ -18,7 +18,7 @@ use Rattle.token.specs.Table.{toks}
 use Rattle.table.specs.Tree.{Span, Rule}
 use Rattle.table.specs.Record.{rules_in, rules_of}
 use Rattle.table.specs.Check.{fine_rules, tables, Valid}
-use Rattle.table.specs.declared.TableCheck.TheVariants as Table
+use Rattle.table.specs.declared.TableError.{TableError}
 use Rattle.table.proofs.Rules.{rules_many}
 use Rattle.table.proofs.Tables.{tables_valid, valid_fine}
 use Rattle.forms.specs.declared.Style.{Style}
@@ -33,7 +33,6 @@ use Rattle.structure.specs.declared.Why.TheVariants.{TooDeep}
 use Rattle.structure.specs.Structure.{rules, unruled, grammar}
 use Rattle.structure.specs.Values.{faults}
 use Rattle.structure.proofs.Reasons.{OfValues, faults_why}
-use Rattle.reader.specs.declared.Reading.{Reading}
 use Rattle.reader.specs.Read.{room_by, faulty, judged_of, listed_of, read_of}
 use Rattle.promises.specs.Open.{most_open, Limited}
 use Rattle.promises.specs.Styled.{marked_rule, marked_rules}
@@ -49,9 +48,9 @@ use Rattle.promises.proofs.Styles.{rules_fit, marked_rules_fine, marked_rules_co
 
 -- ---- past structure nothing is refused as too deep
 
-abbrev NotDeep : Reading → Type 0
-NotDeep (Reading.Read n r b) = Unit {0}
-NotDeep (Reading.Refused r) = r.why ≡ TooDeep → ⊥
+abbrev NotDeep : Result (ℕ × ℕ × ℕ) Refusal → Type 0
+NotDeep (Ok (n, r, b)) = Unit {0}
+NotDeep (Err r) = r.why ≡ TooDeep → ⊥
 
 by_values : (edition : Edition) (w : Why) → OfValues edition w → w ≡ TooDeep → ⊥
 by_values edition w (inl a) q = let z : ◌≡◌ {A = ℕ} 0 1 = cc in omega arith
@@ -61,7 +60,7 @@ by_values edition w (inr (inr (inr (inl a)))) q = let z : ◌≡◌ {A = ℕ} 0 
 by_values edition w (inr (inr (inr (inr (inl a))))) q = let z : ◌≡◌ {A = ℕ} 0 1 = cc in omega arith
 by_values edition w (inr (inr (inr (inr (inr (o, a)))))) q = let z : ◌≡◌ {A = ℕ} 0 1 = cc in omega arith
 
-by_fault : (edition : Edition) (f : Option Refusal) (g : Unit {0} → Reading) → ((r : Refusal) → f ≡ Some r → OfValues edition r.why) → NotDeep (g tt) → NotDeep (faulty f g)
+by_fault : (edition : Edition) (f : Option Refusal) (g : Unit {0} → Result (ℕ × ℕ × ℕ) Refusal) → ((r : Refusal) → f ≡ Some r → OfValues edition r.why) → NotDeep (g tt) → NotDeep (faulty f g)
 by_fault edition None g h x = x
 by_fault edition (Some r) g h x = by_values edition r.why (h r refl)
 
@@ -78,7 +77,7 @@ module _ (edition : Edition) (level : Level) (s : List ℕ) (n r b : ℕ) where
   unfolding judged_of
   judged_rules us e = rw e (by_fault edition (faults edition level s) _ (faults_why edition level s) (by_room _ _ _ n r b))
 
-  judged_unruled : (x : Refusal) → grammar level s ≡ unruled x → judged_of edition level s n r b ≡ Reading.Refused x
+  judged_unruled : (x : Refusal) → grammar level s ≡ unruled x → judged_of edition level s n r b ≡ Err x
   unfolding judged_of
   judged_unruled x e = rw e
 
@@ -116,7 +115,7 @@ module _ {P : Type 0} (v : Style) (us : List (Rule P)) (f : fine_rules us ≡ tr
 
 -- ---- tables that the printer accepts, without a zero exact count or maximum
 
-module _ (v : Style) (ns rs st : List ℕ) (g : tables ns rs st ≡ Table.Good) (w : Narrow ns) (z : nonzero_rules (rules_of ns rs st) ≡ true) where
+module _ (v : Style) (ns rs st : List ℕ) (g : tables ns rs st ≡ Ok tt) (w : Narrow ns) (z : nonzero_rules (rules_of ns rs st) ≡ true) where
   valid : Valid ns rs st
   valid = tables_valid ns rs st g
 

@@ -1,5 +1,5 @@
 -- Where the reader's 3 stands: only the list of tokens gives one, and its place is known.
-use Rattle.std.specs.Prelude.{ℕ, Option, Some, None}
+use Rattle.std.specs.Prelude.{ℕ, Option, Some, None, Result}
 use Prim.Native.Nat.{ℕ, ◌≤◌}
 use mathlib.Core.Path.{◌≡◌, refl, ap}
 use mathlib.Core.Logic.{inl, inr, ⊎_elim}
@@ -20,7 +20,7 @@ use Rattle.structure.specs.declared.Why.{Why}
 use Rattle.structure.specs.declared.Why.TheVariants.{NotUtf8, NoToken}
 use Rattle.structure.specs.Refusals.{because}
 use Rattle.structure.proofs.Reasons.{OfStructure, OfValues}
-use Rattle.reader.specs.declared.Reading.{Reading}
+use Rattle.structure.specs.declared.Refusal.{Refusal}
 use Rattle.reader.specs.Read.{number_of, numbered, refused_by, checked_by, judged_of, listed_of, read_of}
 use Rattle.reader.proofs.Reasons.{OfRoom, judged_why}
 
@@ -50,21 +50,21 @@ module _ (edition : Edition) (level : Level) (s : List ℕ) (n r b : ℕ) where
   module _ (p : ℕ) where
     by_list : (c : Option ℕ) → checked_by c (refused_by NoToken) (λ u. judged_of edition level s n r b) ≡ refused_by NoToken p → c ≡ Some p
     unfolding numbered
-    by_list (Some q) e = ap (λ (x : Reading). Some (numbered x).place) e
+    by_list (Some q) e = ap (λ (x : Result (ℕ × ℕ × ℕ) Refusal). Some (numbered x).place) e
     by_list None e = absurd (not_judged p e)
 
     by_utf8 : (c : Option ℕ) → checked_by c (refused_by NotUtf8) (λ u. listed_of edition level s n r b) ≡ refused_by NoToken p → (tokens_of s).fault ≡ Some p
     unfolding listed_of numbered number_of
     by_utf8 None e = by_list (tokens_of s).fault e
-    by_utf8 (Some q) e = let z : ◌≡◌ {A = ℕ} 2 3 = ap (λ (x : Reading). (numbered x).number) e in absurd (omega arith)
+    by_utf8 (Some q) e = let z : ◌≡◌ {A = ℕ} 2 3 = ap (λ (x : Result (ℕ × ℕ × ℕ) Refusal). (numbered x).number) e in absurd (omega arith)
 
     -- the reader's 3 is that of the text's list of tokens
     pub reader_3 : read_of edition level s n r b ≡ refused_by NoToken p → (tokens_of s).fault ≡ Some p
     unfolding read_of numbered number_of
     reader_3 =
-        choose_by (λ (x : Reading). x ≡ refused_by NoToken p → (tokens_of s).fault ≡ Some p) (leb (length s) max_text) _ _ (λ _ e. by_utf8 (first_bad s) e)
+        choose_by (λ (x : Result (ℕ × ℕ × ℕ) Refusal). x ≡ refused_by NoToken p → (tokens_of s).fault ≡ Some p) (leb (length s) max_text) _ _ (λ _ e. by_utf8 (first_bad s) e)
         (λ _ e.
-        let z : ◌≡◌ {A = ℕ} 1 3 = ap (λ (x : Reading). (numbered x).number) e in
+        let z : ◌≡◌ {A = ℕ} 1 3 = ap (λ (x : Result (ℕ × ℕ × ℕ) Refusal). (numbered x).number) e in
         absurd (omega arith))
 
     -- and stands where what follows the last token begins, or at its bad escape

@@ -1,4 +1,5 @@
 -- The promises leave no choice: a program that meets them gives what the definitions give, and the definitions are such a program.
+use Rattle.std.specs.Prelude.{ℕ, Result}
 use Prim.Native.Nat.{ℕ}
 use mathlib.Core.Path.{◌≡◌, refl, ap, ◌∙◌}
 use mathlib.Core.List.{List, []}
@@ -7,7 +8,7 @@ use Rattle.std.specs.Borrow.{Bor, MutBor}
 use Rattle.structure.specs.declared.Edition.{Edition}
 use Rattle.structure.specs.declared.Level.{Level}
 use Rattle.forms.specs.declared.Style.{Style}
-use Rattle.reader.specs.declared.Reading.{Reading}
+use Rattle.structure.specs.declared.Refusal.{Refusal}
 use Rattle.reader.specs.Read.{reported, left_in}
 use Rattle.printer.specs.Answers.{print_in}
 use Rattle.printer.proofs.Answers.{print_reported}
@@ -44,9 +45,9 @@ module _ (p : Program) (m : Meets p) where
       let h = m.reads edition level (lend s) (lend_all_mut t) lifetimes in
       let us = tables_of (line_in s) (rules_read level s) in
       let e = h.0 in
-      let n = h.1.1.0 ∙ ap (λ (r : Reading). left_in r us.nodes t.nodes) e in
-      let r = h.1.1.1.0 ∙ ap (λ (r : Reading). left_in r us.rules t.rules) e in
-      let b = h.1.1.1.1 ∙ ap (λ (r : Reading). left_in r us.store t.store) e in
+      let n = h.1.1.0 ∙ ap (λ (r : Result (ℕ × ℕ × ℕ) Refusal). left_in r us.nodes t.nodes) e in
+      let r = h.1.1.1.0 ∙ ap (λ (r : Result (ℕ × ℕ × ℕ) Refusal). left_in r us.rules t.rules) e in
+      let b = h.1.1.1.1 ∙ ap (λ (r : Result (ℕ × ℕ × ℕ) Refusal). left_in r us.store t.store) e in
       (λ i. record { answer = e i; left = record { nodes = n i; rules = r i; store = b i } })
 
   pub print_as : (style : Style) (t : Tables) (o : List ℕ) → p.print style t o ≡ defined.print style t o

@@ -1,5 +1,6 @@
 -- Readings: the buffers that one leaves stand for the rules read (`rules_left_lem`), whatever the text. What a text that is read as
 -- some rules answers with enough room and with too little, and that it is read as all rules that are the same.
+use Rattle.std.specs.Prelude.{ℕ, Result, Ok, Err}
 use Prim.Native.Nat.{ℕ, ◌*◌, ◌≤◌}
 use mathlib.Core.Path.{◌≡◌, refl, sym, ap, ◌∙◌}
 use mathlib.Core.Logic.{inl, inr, ⊎_elim}
@@ -22,7 +23,6 @@ use Rattle.structure.specs.declared.Refusal.{Refusal}
 use Rattle.structure.specs.declared.Why.TheVariants.{NotPlain}
 use Rattle.reader.specs.Lines.{line_in}
 use Rattle.build.specs.Rules.{rules_read}
-use Rattle.reader.specs.declared.Reading.{Reading}
 use Rattle.reader.specs.Read.{room_by, read_of, left_in, Leaves}
 use Rattle.reader.proofs.Counts.{read_counts}
 use Rattle.reader.proofs.Reasons.{OfRoom}
@@ -35,9 +35,9 @@ front_used : (x o o' : List ℕ) (k : ℕ) → o' ≡ fronted x o → k ≡ leng
 unfolding fronted
 front_used x o o' k e h = ap (take k) e ∙ take_at x (drop (length x) o) k (sym h)
 
-module _ (edition : Edition) (level : Level) (s : List ℕ) (n r b : ℕ) {x y z : ℕ} (e : read_of edition level s n r b ≡ Reading.Read x y z) where
+module _ (edition : Edition) (level : Level) (s : List ℕ) (n r b : ℕ) {x y z : ℕ} (e : read_of edition level s n r b ≡ Ok (x, y, z)) where
   -- the used parts of the buffers that a reading leaves stand for exactly the rules read
-  pub rules_left_lem : {ns rs st ns' rs' st' : List ℕ} → Leaves level s (Reading.Read x y z) ns rs st ns' rs' st' → rules_left x y z ns' rs' st' ≡ rules_read level s
+  pub rules_left_lem : {ns rs st ns' rs' st' : List ℕ} → Leaves level s (Ok (x, y, z)) ns rs st ns' rs' st' → rules_left x y z ns' rs' st' ≡ rules_read level s
   unfolding left_in
   rules_left_lem {ns} {rs} {st} {ns'} {rs'} {st'} l =
       let us = rules_read level s in
@@ -89,9 +89,9 @@ module _ {P Q : Type 0} (us : List (Rule P)) (ws : List (Rule Q)) (e : Same us w
 -- ---- room
 
 -- what room can refuse by
-abbrev Roomed : Reading → Type 0
-Roomed (Reading.Read n r b) = Unit {0}
-Roomed (Reading.Refused r) = OfRoom r.why
+abbrev Roomed : Result (ℕ × ℕ × ℕ) Refusal → Type 0
+Roomed (Ok (n, r, b)) = Unit {0}
+Roomed (Err r) = OfRoom r.why
 
 by_room : (k c z n r b : ℕ) → Roomed (room_by k c z n r b)
 unfolding room_by
@@ -102,15 +102,15 @@ by_room k c z n r b =
 
 module _ {P : Type 0} {edition : Edition} {level : Level} {s : List ℕ} {us : List (Rule P)} (h : ReadAs edition level s us) (n r b : ℕ) where
   -- with enough room it is read, and has its own counts
-  pub room_enough : counts us ≤ n → length us ≤ r → length (rules_stored us) ≤ b → read_of edition level s n r b ≡ Reading.Read (counts us) (length us) (length (rules_stored us))
+  pub room_enough : counts us ≤ n → length us ≤ r → length (rules_stored us) ≤ b → read_of edition level s n r b ≡ Ok (counts us, length us, length (rules_stored us))
   unfolding room_by
   room_enough x y z = h.answer n r b ∙ rw (le-leb (length us) r y, le-leb (counts us) n x, le-leb (length (rules_stored us)) b z)
 
   -- with too little it is refused by 12, 10 or 11 and by nothing else
-  pub only_room : (x : Refusal) → read_of edition level s n r b ≡ Reading.Refused x → OfRoom x.why
+  pub only_room : (x : Refusal) → read_of edition level s n r b ≡ Err x → OfRoom x.why
   only_room x e = rw (sym (h.answer n r b) ∙ e) at (by_room (length us) (counts us) (length (rules_stored us)) n r b)
 
-  pub never_13 : (x : Refusal) → read_of edition level s n r b ≡ Reading.Refused x → x.why ≡ NotPlain → ⊥
+  pub never_13 : (x : Refusal) → read_of edition level s n r b ≡ Err x → x.why ≡ NotPlain → ⊥
   never_13 x e w = ⊎_elim
       (λ u. let z : ◌≡◌ {A = ℕ} 0 1 = cc in omega arith)
       (⊎_elim (λ u. let z : ◌≡◌ {A = ℕ} 0 1 = cc in omega arith) (λ u. let z : ◌≡◌ {A = ℕ} 0 1 = cc in omega arith))

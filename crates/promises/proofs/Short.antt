@@ -1,4 +1,5 @@
 -- The short text of tables: it is read as the very same rules, has the fewest brackets, and needs every pair.
+use Rattle.std.specs.Prelude.{Ok}
 use Prim.Native.Nat.{ℕ, ◌≤◌}
 use mathlib.Core.Path.{◌≡◌, refl, sym, ap, ◌∙◌}
 use mathlib.Core.Bool.{Bool, true, false}
@@ -18,7 +19,6 @@ use Rattle.structure.specs.declared.Edition.{Edition}
 use Rattle.structure.specs.declared.Level.{Level}
 use Rattle.structure.specs.declared.Level.TheVariants.{Tagged, Plain}
 use Rattle.build.specs.Rules.{rules_read}
-use Rattle.reader.specs.declared.Reading.TheVariants as Reading
 use Rattle.reader.specs.Read.{read_of}
 use Rattle.promises.specs.Pieces.{spelled, rules_pieces}
 use Rattle.promises.specs.Pairs.{Pair, cut}
@@ -119,6 +119,6 @@ module _ (ns rs st : List ℕ) (w : Narrow ns) (p : Printable Full ns rs st) (ed
 -- ---- a text that was read
 
 -- at either level: the tagged reader reads its short text as the very same rules
-pub short_again : (edition : Edition) (level : Level) (s : List ℕ) (n r b : ℕ) {x y z : ℕ} → read_of edition level s n r b ≡ Reading.Read x y z → n ≤ max_nodes → r ≤ max_rules → 1 ≤ y
+pub short_again : (edition : Edition) (level : Level) (s : List ℕ) (n r b : ℕ) {x y z : ℕ} → read_of edition level s n r b ≡ Ok (x, y, z) → n ≤ max_nodes → r ≤ max_rules → 1 ≤ y
     → length (printed_text Short level s) ≤ max_text → most_open (printed_text Short level s) ≤ max_open → (o : Edition) → Ordered o (rules_read level s) → ReadAs o Tagged (printed_text Short level s) (read_rules level s)
 short_again edition level s n r b e h l some short shallow o q = rw (same_rules (read_rules level s)) at (again_tagged edition level s n r b e h l Short some short shallow o q)

@@ -1,5 +1,5 @@
 -- A printed text is UTF-8, in either style, for all rules that are fine: it is made of bytes below 128, of words and decimals, and of literals.
-use Rattle.std.specs.Prelude.{ℕ, Option, Some, None}
+use Rattle.std.specs.Prelude.{ℕ, Option, Some, None, Result, Ok, Err}
 use Prim.Native.Nat.{ℕ, zero, suc, ◌-◌}
 use mathlib.Core.Path.{◌≡◌, refl}
 use mathlib.Core.Bool.{Bool, true, false}
@@ -24,8 +24,7 @@ use Rattle.literal.proofs.Pieces.{Over, over_none, over_append, over_good, over_
 use Rattle.literal.proofs.Back.{inside_utf8}
 use Rattle.token.specs.Blanks.{in_digits}
 use Rattle.token.proofs.Printed.{decimal_digits}
-use Rattle.table.specs.declared.TableCheck.{TableCheck}
-use Rattle.table.specs.declared.TableCheck.TheVariants as Table
+use Rattle.table.specs.declared.TableError.{TableError}
 use Rattle.table.specs.declared.Join.{Join}
 use Rattle.table.specs.declared.Join.TheVariants.{Seq, Choice}
 use Rattle.table.specs.declared.Unary.TheVariants.{PosPred, NegPred, Opt, Rep, RepOnce, RepExact, RepMin, RepMax, RepMinMax, Push}
@@ -41,7 +40,6 @@ use Rattle.forms.specs.declared.Place.{Place}
 use Rattle.forms.specs.declared.Place.TheVariants.{Alone}
 use Rattle.forms.specs.Printing.{enclosed, character, signed, end_text, sort_text, range_text, slice_text, atom_text, tag_text, before, after, separator, printed, mark_text, printed_rule, printed_rules}
 use Rattle.forms.proofs.Displays.{character_literal}
-use Rattle.printer.specs.declared.Printed.TheVariants.{Used}
 use Rattle.printer.specs.Answers.{table_text, answer_by, room_of, print_of, print_in}
 use Rattle.promises.proofs.Values.{name_parts, label_word}
 
@@ -238,19 +236,19 @@ module _ {P : Type 0} (v : Style) where
 
 module _ (v : Style) (ns rs st : List ℕ) where
   -- the text of tables that aren't false, with zero counts, without rules and of any length too
-  pub printed_utf8 : tables ns rs st ≡ Table.Good → first_bad (table_text v ns rs st) ≡ None
+  pub printed_utf8 : tables ns rs st ≡ Ok tt → first_bad (table_text v ns rs st) ≡ None
   unfolding table_text
   printed_utf8 e = rules_utf8 v (rules_of ns rs st) (valid_fine (tables_valid ns rs st e))
 
-  used_by : (k n : ℕ) (c : TableCheck) → answer_by c (λ u. room_of (table_text v ns rs st) k) ≡ Used n → (c ≡ Table.Good) × (length (table_text v ns rs st) ≡ n)
+  used_by : (k n : ℕ) (c : Result (Unit {0}) TableError) → answer_by c (λ u. room_of (table_text v ns rs st) k) ≡ Ok n → (c ≡ Ok tt) × (length (table_text v ns rs st) ≡ n)
   unfolding room_of
-  used_by k n Table.Good e = (refl, split (leb (length (table_text v ns rs st)) k) _ _ (λ t h. cc) (λ f h. let z : ◌≡◌ {A = ℕ} 0 1 = cc in absurd (omega arith)) e)
-  used_by k n Table.Shape e = let z : ◌≡◌ {A = ℕ} 0 1 = cc in absurd (omega arith)
-  used_by k n (Table.Node i) e = let z : ◌≡◌ {A = ℕ} 0 1 = cc in absurd (omega arith)
-  used_by k n (Table.Rule i) e = let z : ◌≡◌ {A = ℕ} 0 1 = cc in absurd (omega arith)
+  used_by k n (Ok _) e = (refl, split (leb (length (table_text v ns rs st)) k) _ _ (λ t h. cc) (λ f h. let z : ◌≡◌ {A = ℕ} 0 1 = cc in absurd (omega arith)) e)
+  used_by k n (Err TableError.Shape) e = let z : ◌≡◌ {A = ℕ} 0 1 = cc in absurd (omega arith)
+  used_by k n (Err (TableError.Node i)) e = let z : ◌≡◌ {A = ℕ} 0 1 = cc in absurd (omega arith)
+  used_by k n (Err (TableError.Rule i)) e = let z : ◌≡◌ {A = ℕ} 0 1 = cc in absurd (omega arith)
 
   -- where the printer answers that n bytes are used, the first n bytes of what it leaves in the output are UTF-8
-  pub print_utf8 : (k n : ℕ) (o : List ℕ) → print_of v ns rs st k ≡ Used n → first_bad (take n (print_in v ns rs st o (Used n))) ≡ None
+  pub print_utf8 : (k n : ℕ) (o : List ℕ) → print_of v ns rs st k ≡ Ok n → first_bad (take n (print_in v ns rs st o (Ok n))) ≡ None
   unfolding print_of print_in fronted
   print_utf8 k n o e =
       let (g, l) = used_by k n (tables ns rs st) e in

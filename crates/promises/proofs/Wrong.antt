@@ -1,5 +1,6 @@
 -- Wrong programs: none of them meets the promises. A program that does gives what the definitions give (`read_as`, `print_as`),
 -- and what those give for a few texts is computed.
+use Rattle.std.specs.Prelude.{Ok}
 use Prim.Native.Nat.{ℕ}
 use mathlib.Core.Path.{◌≡◌, refl, sym, ap, subst, ◌∙◌}
 use mathlib.Core.List.{List, [], ◌∷◌, map}
@@ -12,7 +13,6 @@ use Rattle.structure.specs.declared.Edition.{Edition}
 use Rattle.structure.specs.declared.Edition.TheVariants.{First, Second}
 use Rattle.structure.specs.declared.Level.{Level}
 use Rattle.structure.specs.declared.Level.TheVariants.{Tagged, Plain}
-use Rattle.reader.specs.declared.Reading.TheVariants as Reading
 use Rattle.reader.specs.Read.{room_for_nodes, room_for_rules, numbered}
 use Rattle.reader.proofs.Counts.{read_counts}
 use Rattle.reader.specs.Lines.{line_in}
@@ -155,7 +155,7 @@ module _ (p : Program) (m : Meets p) where
       omega arith
 
   -- a made_up number of used records: the counts are those of the defined rules
-  pub made_up : (edition : Edition) (level : Level) (s : List ℕ) (t : Tables) (x y z : ℕ) → (p.read edition level s t).answer ≡ Reading.Read x y z
+  pub made_up : (edition : Edition) (level : Level) (s : List ℕ) (t : Tables) (x y z : ℕ) → (p.read edition level s t).answer ≡ Ok (x, y, z)
       → (x ≡ counts (rules_read level s)) × (y ≡ length (rules_read level s)) × (z ≡ length (rules_stored (rules_read level s)))
   made_up edition level s t x y z e =
       let a = sym (ap (λ (o : Readout). o.answer) (read_as p m edition level s t)) ∙ e in

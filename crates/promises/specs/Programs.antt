@@ -1,5 +1,5 @@
 -- Programs that read and print, as functions of what they are lent, and what it is for one of them to meet the promises.
-use Rattle.std.specs.Prelude.{ℕ, ◌*◌, ◌≡◌, List, map, length, take}
+use Rattle.std.specs.Prelude.{ℕ, ◌*◌, ◌≡◌, List, map, length, take, Result}
 use contract.Lifetimes.{Lfts}
 use Rattle.std.specs.Borrow.{Bor, MutBor}
 use denote.Triple.Entry.{Args}
@@ -8,13 +8,13 @@ use Rattle.table.specs.Tree.{Span, Tree, Rule, Nowhere, aside, rules_stored}
 use Rattle.table.specs.Record.{node_size, rule_size, rules_of}
 use Rattle.table.specs.Flat.{nodes_of, records_of}
 use Rattle.forms.specs.declared.Style.{Style}
-use Rattle.printer.specs.declared.Printed.{Printed}
+use Rattle.printer.specs.declared.PrintError.{PrintError}
 use Rattle.printer.specs.Answers.{print_of, print_in}
 use Rattle.printer.specs.contracts.print.{ended as print-ended}
 use Rattle.printer.proofs.print.Reads.{Learnt as PrintLearnt}
 use Rattle.structure.specs.declared.Edition.{Edition}
 use Rattle.structure.specs.declared.Level.{Level}
-use Rattle.reader.specs.declared.Reading.{Reading}
+use Rattle.structure.specs.declared.Refusal.{Refusal}
 use Rattle.reader.specs.Read.{room_for_nodes, room_for_rules, read_of, left_in, numbered}
 use Rattle.reader.specs.contracts.read.{ended as read-ended}
 use Rattle.reader.proofs.read.Reads.{Learnt as ReadLearnt}
@@ -37,12 +37,12 @@ trees_in t = map (λ (r : Rule Span). aside r.tree) (rules_of t.nodes t.rules t.
 
 -- what a call of `read` gives: its answer, and the lent tables afterwards
 pub record Readout : Type 0 where
-  pub answer : Reading
+  pub answer : Result (ℕ × ℕ × ℕ) Refusal
   pub left : Tables
 
 -- what a call of `print` gives: its answer, and the lent output afterwards
 pub record Printout : Type 0 where
-  pub answer : Printed
+  pub answer : Result ℕ PrintError
   pub output : List ℕ
 
 -- a program: reading a text into lent tables, printing tables to a lent output

@@ -1,5 +1,5 @@
 -- The way back: what the premises of printing and reading back say.
-use Rattle.std.specs.Prelude.{ℕ, ◌*◌, ◌≤◌, ◌≡◌, Bool, true, false, not, List, [], ◌∷◌, map, leb, length, take}
+use Rattle.std.specs.Prelude.{ℕ, ◌*◌, ◌≤◌, ◌≡◌, Bool, true, false, not, List, [], ◌∷◌, map, leb, length, take, Ok}
 use Rattle.text.specs.Booleans.{and, or}
 use Rattle.text.specs.Limits.{max_nodes, max_rules, max_text, max_open}
 use Rattle.table.specs.declared.Unary.{Unary}
@@ -9,13 +9,12 @@ use Rattle.table.specs.Tree.{Span, Atom, text, range, peek_slice, Wrap, plain, n
 use Rattle.table.specs.Record.{node_size, rule_size, rules_in, rules_of}
 use Rattle.table.specs.Flat.{nodes_of, records_of}
 use Rattle.table.specs.Check.{tables, fine_rules}
-use Rattle.table.specs.declared.TableCheck.TheVariants as Table
+use Rattle.table.specs.declared.TableError.{TableError}
 use Rattle.forms.specs.declared.Style.{Style}
 use Rattle.forms.specs.declared.Style.TheVariants.{Full, Short}
 use Rattle.forms.specs.Printing.{printed_rules}
 use Rattle.printer.specs.Answers.{table_text}
 use Rattle.promises.specs.Open.{most_open}
-use Rattle.reader.specs.declared.Reading.TheVariants as Reading
 use Rattle.reader.specs.Read.{room_by, read_of, Leaves}
 use Rattle.reader.specs.Lines.{line_in}
 use Rattle.build.specs.Rules as Built
@@ -120,7 +119,7 @@ seen style level us = map (rule_by (λ t. sight level (read_back style t))) us
 -- tables that the printer accepts, holding a rule, no zero exact count or maximum, whose printed text is within the
 -- reader's limits
 pub record Printable (style : Style) (ns rs st : List ℕ) : Type 0 where
-  pub good : tables ns rs st ≡ Table.Good
+  pub good : tables ns rs st ≡ Ok tt
   pub some : 1 ≤ rules_in rs
   pub nonzeros : nonzero_rules (rules_of ns rs st) ≡ true
   pub short : length (table_text style ns rs st) ≤ max_text
@@ -135,7 +134,7 @@ rules_left n r b ns rs st = rules_of (take (node_size * n) ns) (take (rule_size 
 pub record ReadAs {P : Type 0} (edition : Edition) (level : Level) (s : List ℕ) (us : List (Rule P)) : Type 0 where
   pub rules : Same (Built.rules_read level s) us
   pub answer : (n r b : ℕ) → read_of edition level s n r b ≡ room_by (length us) (counts us) (length (rules_stored us)) n r b
-  pub tables : (n r b x y z : ℕ) → read_of edition level s n r b ≡ Reading.Read x y z → (ns rs st ns' rs' st' : List ℕ) → Leaves level s (Reading.Read x y z) ns rs st ns' rs' st' → Same (rules_left x y z ns' rs' st') us
+  pub tables : (n r b x y z : ℕ) → read_of edition level s n r b ≡ Ok (x, y, z) → (ns rs st ns' rs' st' : List ℕ) → Leaves level s (Ok (x, y, z)) ns rs st ns' rs' st' → Same (rules_left x y z ns' rs' st') us
   pub few_nodes : counts us ≤ max_nodes
   pub few_rules : length us ≤ max_rules
   pub short : length (rules_stored us) ≤ length s

@@ -40,7 +40,6 @@ use Rattle.token.specs.Table.{token_size, flat, room_of, toks, is, Lent}
 use Rattle.structure.proofs.Fine.{sound_characters}
 use Rattle.structure.proofs.Wants.{rule_counts}
 use Rattle.structure.proofs.Stores.{stored_fits}
-use Rattle.reader.specs.declared.Reading.{Reading}
 use Rattle.reader.proofs.Counts.{Counts, judged_counts}
 use Rattle.reader.proofs.Lines.{lines_fronted}
 use Rattle.reader.specs.Lines.{line_in, with_lines}
@@ -64,7 +63,7 @@ module _ (k c z n r b : ℕ) where
     unfolding room_by
     no_store_room g f = rw (le-leb k r h, le-leb c n g, lt-leb z b f)
 
-    pub room : c ≤ n → z ≤ b → Reading.Read c k z ≡ room_by k c z n r b
+    pub room : c ≤ n → z ≤ b → Ok (c, k, z) ≡ room_by k c z n r b
     unfolding room_by
     room g f = rw (le-leb k r h, le-leb c n g, le-leb z b f)
     -- what is read has room
@@ -85,7 +84,7 @@ counted_rules_lem (rules us) r a b c e q =
 counted_rules_lem (unruled y) r a b c e q = let z : ◌≡◌ {A = ℕ} 0 1 = cc in absurd (omega arith)
 
 module _ (edition : Edition) (level : Level) (s : List ℕ) (n r b : ℕ) (c : Result RuleCounts Refusal) (e : c ≡ summaries (grammar level s)) where
-  pub judge_refused : (x : Refusal) → c ≡ Err x → Reading.Refused x ≡ judged_of edition level s n r b
+  pub judge_refused : (x : Refusal) → c ≡ Err x → Err x ≡ judged_of edition level s n r b
   unfolding judged_of
   judge_refused x q = sym (ap (λ (m : Ruled). ruled_by m (λ us. faulty (faults edition level s) (λ u. room_by (length us) (counts us) (length (rules_stored us)) n r b))) (counted_refused (grammar level s) c x e q))
 
@@ -98,7 +97,7 @@ module _ (edition : Edition) (level : Level) (s : List ℕ) (n r b : ℕ) (c : R
         ∙ ap (λ (x : Option Refusal). faulty x (λ u. room_by (length us) (counts us) (length (rules_stored us)) n r b)) (sym g ∙ w)
         ∙ rw (e₁, e₂, e₃))
 
-    pub judge_room : f ≡ None → (y : Reading) → y ≡ room_by k l z n r b → y ≡ judged_of edition level s n r b
+    pub judge_room : f ≡ None → (y : Result (ℕ × ℕ × ℕ) Refusal) → y ≡ room_by k l z n r b → y ≡ judged_of edition level s n r b
     judge_room w y h = h ∙ judge_by None w
 
 -- ---- a text whose values are sound
@@ -114,7 +113,7 @@ module _ (edition : Edition) (level : Level) (s : List ℕ) where
 -- ---- what is read is built
 
 module _ (edition : Edition) (level : Level) (s ns rs st : List ℕ) where
-  pub build_ready : length s ≤ max_text → {x y z : ℕ} → judged_of edition level s (room_for_nodes ns) (room_for_rules rs) (length st) ≡ Reading.Read x y z
+  pub build_ready : length s ≤ max_text → {x y z : ℕ} → judged_of edition level s (room_for_nodes ns) (room_for_rules rs) (length st) ≡ Ok (x, y, z)
       → Scalars s × GrammarRoom (grammar level s) (rules_read level s) ns rs st
   build_ready h e =
       let c = judged_counts edition level s (room_for_nodes ns) (room_for_rules rs) (length st) e in
@@ -125,7 +124,7 @@ module _ (edition : Edition) (level : Level) (s ns rs st : List ℕ) where
 
 module _ (level : Level) (s ns rs st : List ℕ) where
   pub read_left : (x y z : ℕ) (ns₁ ns' rs' st' : List ℕ) → x ≡ counts (rules_read level s) → RulesBuilt (rules_read level s) ns rs st ns₁ rs' st'
-      → ns' ≡ with_lines (line_in s) ns₁ x → Leaves level s (Reading.Read x y z) ns rs st ns' rs' st'
+      → ns' ≡ with_lines (line_in s) ns₁ x → Leaves level s (Ok (x, y, z)) ns rs st ns' rs' st'
   unfolding left_in
   read_left x y z ns₁ ns' rs' st' e b l = record {
     nodes = l ∙ rw (b.nodes_is, e) (lines_fronted (line_in s) (rules_read level s) ns);
@@ -134,18 +133,18 @@ module _ (level : Level) (s ns rs st : List ℕ) where
   }
 
 -- a refusal changes nothing
-pub kept : (level : Level) (s ns rs st : List ℕ) (r : Refusal) → Leaves level s (Reading.Refused r) ns rs st ns rs st
+pub kept : (level : Level) (s ns rs st : List ℕ) (r : Refusal) → Leaves level s (Err r) ns rs st ns rs st
 unfolding left_in
 kept level s ns rs st r = record { nodes = refl; rules = refl; store = refl }
 
-module _ (edition : Edition) (level : Level) (s ns rs st : List ℕ) (x : Reading) (n r : ℕ) (e : x ≡ judged_of edition level s n r (length st)) (p : n ≡ room_for_nodes ns) (q : r ≡ room_for_rules rs) where
+module _ (edition : Edition) (level : Level) (s ns rs st : List ℕ) (x : Result (ℕ × ℕ × ℕ) Refusal) (n r : ℕ) (e : x ≡ judged_of edition level s n r (length st)) (p : n ≡ room_for_nodes ns) (q : r ≡ room_for_rules rs) where
   judged_is : x ≡ judged_of edition level s (room_for_nodes ns) (room_for_rules rs) (length st)
   judged_is = e ∙ ap (λ (k : ℕ). judged_of edition level s k r (length st)) p ∙ ap (λ (k : ℕ). judged_of edition level s (room_for_nodes ns) k (length st)) q
 
-  pub build_kept : (y : Refusal) → x ≡ Reading.Refused y → (x ≡ judged_of edition level s (room_for_nodes ns) (room_for_rules rs) (length st)) × Leaves level s x ns rs st ns rs st
+  pub build_kept : (y : Refusal) → x ≡ Err y → (x ≡ judged_of edition level s (room_for_nodes ns) (room_for_rules rs) (length st)) × Leaves level s x ns rs st ns rs st
   build_kept y w = (judged_is, rw w (kept level s ns rs st y))
 
-  module _ {a b c : ℕ} (w : x ≡ Reading.Read a b c) where
+  module _ {a b c : ℕ} (w : x ≡ Ok (a, b, c)) where
     pub build_room : length s ≤ max_text → Scalars s × GrammarRoom (grammar level s) (rules_read level s) ns rs st
     build_room h = build_ready edition level s ns rs st h (sym judged_is ∙ w)
 
@@ -162,7 +161,7 @@ module _ (edition : Edition) (level : Level) (s ns rs st : List ℕ) (x : Readin
         omega (arith, ap length d.nodes_is ∙ length_fronted (nodes_of no_line us) ns (omega arith))
 
     pub build_read : (ns₁ ns' rs' st' : List ℕ) → RulesBuilt (rules_read level s) ns rs st ns₁ rs' st' → ns' ≡ with_lines (line_in s) ns₁ a
-        → (Reading.Read a b c ≡ judged_of edition level s (room_for_nodes ns) (room_for_rules rs) (length st)) × Leaves level s (Reading.Read a b c) ns rs st ns' rs' st'
+        → (Ok (a, b, c) ≡ judged_of edition level s (room_for_nodes ns) (room_for_rules rs) (length st)) × Leaves level s (Ok (a, b, c)) ns rs st ns' rs' st'
     build_read ns₁ ns' rs' st' d l = (sym w ∙ judged_is, read_left level s ns rs st a b c ns₁ ns' rs' st' counted.nodes_are d l)
 
 -- ---- tokens in the table
@@ -177,7 +176,7 @@ module _ (m : ℕ) (edition : Edition) (level : Level) (s : List ℕ) (n r b : �
   tried_over h = rw (lt-leb (length (toks s)) m h)
 
   -- what was done is what the text gets
-  pub tried_done : {t : Option Reading} {x : Reading} → t ≡ attempt_of m edition level s n r b → t ≡ Some x → x ≡ listed_of edition level s n r b
+  pub tried_done : {t : Option (Result (ℕ × ℕ × ℕ) Refusal)} {x : Result (ℕ × ℕ × ℕ) Refusal} → t ≡ attempt_of m edition level s n r b → t ≡ Some x → x ≡ listed_of edition level s n r b
   tried_done {t} {x} e q =
       ⊎_elim
       (λ h.
@@ -190,7 +189,7 @@ module _ (m : ℕ) (edition : Edition) (level : Level) (s : List ℕ) (n r b : �
       (lt_or_ge m (length (toks s)))
 
   -- as many tokens as bytes are enough
-  pub tried_all : {t : Option Reading} → length s ≤ m → t ≡ attempt_of m edition level s n r b → t ≡ None → ⊥
+  pub tried_all : {t : Option (Result (ℕ × ℕ × ℕ) Refusal)} → length s ≤ m → t ≡ attempt_of m edition level s n r b → t ≡ None → ⊥
   tried_all {t} h e q =
       let l = few s in
       let w : None ≡ Some (listed_of edition level s n r b) = sym q ∙ e ∙ tried_fits (omega arith) in
@@ -201,7 +200,7 @@ module _ (s o₀ : List ℕ) (f : Result ℕ FillError) (e : f ≡ filled_of (ro
   pub list_and_read_full : (edition : Edition) (level : Level) (ns rs st : List ℕ) (n r b : ℕ) → f ≡ Err FillError.Full → (None ≡ attempt_of (room_of o₀) edition level s n r b) × AttemptLeaves level s None ns rs st ns rs st
   list_and_read_full edition level ns rs st n r b q = (sym (tried_over (room_of o₀) edition level s n r b (filled_over (room_of o₀) s (sym e ∙ q))), (refl, refl, refl))
 
-  pub list_and_read_stopped : (edition : Edition) (level : Level) (ns rs st : List ℕ) (n r b p : ℕ) → f ≡ Err (FillError.NoToken p) → (y : Reading) → y ≡ refused_by NoToken p
+  pub list_and_read_stopped : (edition : Edition) (level : Level) (ns rs st : List ℕ) (n r b p : ℕ) → f ≡ Err (FillError.NoToken p) → (y : Result (ℕ × ℕ × ℕ) Refusal) → y ≡ refused_by NoToken p
       → (Some y ≡ attempt_of (room_of o₀) edition level s n r b) × AttemptLeaves level s (Some y) ns rs st ns rs st
   unfolding listed_of
   list_and_read_stopped edition level ns rs st n r b p q y h =
@@ -213,7 +212,7 @@ module _ (s o₀ : List ℕ) (f : Result ℕ FillError) (e : f ≡ filled_of (ro
     all : (length (toks s) ≤ room_of o₀) × (n ≡ length (toks s)) × ((tokens_of s).fault ≡ None)
     all = filled_all (room_of o₀) s n (sym e ∙ q)
 
-    pub list_and_read_filled : (edition : Edition) (level : Level) (x : Reading) (k r b : ℕ) → x ≡ judged_of edition level s k r b → Some x ≡ attempt_of (room_of o₀) edition level s k r b
+    pub list_and_read_filled : (edition : Edition) (level : Level) (x : Result (ℕ × ℕ × ℕ) Refusal) (k r b : ℕ) → x ≡ judged_of edition level s k r b → Some x ≡ attempt_of (room_of o₀) edition level s k r b
     unfolding listed_of
     list_and_read_filled edition level x k r b h =
         let z : x ≡ listed_of edition level s k r b = h ∙ sym (ap (λ (y : Option ℕ). checked_by y (refused_by NoToken) (λ u. judged_of edition level s k r b)) all.2) in
@@ -250,17 +249,17 @@ module _ (s o₀ : List ℕ) (f : Result ℕ FillError) (e : f ≡ filled_of (ro
 -- ---- the whole
 
 -- what the promise of `read` says of an answer and of what the buffers hold afterwards
-pub record Meets (edition : Edition) (level : Level) (s ns rs st : List ℕ) (r : Reading) (ns' rs' st' : List ℕ) : Type 0 where
+pub record Meets (edition : Edition) (level : Level) (s ns rs st : List ℕ) (r : Result (ℕ × ℕ × ℕ) Refusal) (ns' rs' st' : List ℕ) : Type 0 where
   pub answer : r ≡ read_of edition level s (room_for_nodes ns) (room_for_rules rs) (length st)
   pub report : numbered r ≡ reported edition level s (room_for_nodes ns) (room_for_rules rs) (length st)
   pub left : Leaves level s r ns rs st ns' rs' st'
 
 module _ (edition : Edition) (level : Level) (s ns rs st : List ℕ) where
-  met : {r : Reading} {ns' rs' st' : List ℕ} → r ≡ read_of edition level s (room_for_nodes ns) (room_for_rules rs) (length st) → Leaves level s r ns rs st ns' rs' st' → Meets edition level s ns rs st r ns' rs' st'
+  met : {r : Result (ℕ × ℕ × ℕ) Refusal} {ns' rs' st' : List ℕ} → r ≡ read_of edition level s (room_for_nodes ns) (room_for_rules rs) (length st) → Leaves level s r ns rs st ns' rs' st' → Meets edition level s ns rs st r ns' rs' st'
   unfolding reported
   met e l = record { answer = e; report = ap numbered e; left = l }
 
-  pub read_long : max_text < length s → (y : Reading) → y ≡ refused_by TooLong 0 → Meets edition level s ns rs st y ns rs st
+  pub read_long : max_text < length s → (y : Result (ℕ × ℕ × ℕ) Refusal) → y ≡ refused_by TooLong 0 → Meets edition level s ns rs st y ns rs st
   unfolding read_of
   read_long h y w = met (w ∙ sym (choose_false (leb (length s) max_text) _ _ (lt-leb (length s) max_text h))) (rw w (kept level s ns rs st (because TooLong 0)))
 
@@ -272,10 +271,10 @@ module _ (edition : Edition) (level : Level) (s ns rs st : List ℕ) where
         sym (choose_true (leb (length s) max_text) _ _ (le-leb (length s) max_text h)
         ∙ ap (λ (x : Option ℕ). checked_by x (refused_by NotUtf8) (λ u. listed_of edition level s (room_for_nodes ns) (room_for_rules rs) (length st))) (sym e ∙ q))
 
-    pub read_bad : (p : ℕ) → c ≡ Some p → (y : Reading) → y ≡ refused_by NotUtf8 p → Meets edition level s ns rs st y ns rs st
+    pub read_bad : (p : ℕ) → c ≡ Some p → (y : Result (ℕ × ℕ × ℕ) Refusal) → y ≡ refused_by NotUtf8 p → Meets edition level s ns rs st y ns rs st
     read_bad p q y w = met (w ∙ by_check q) (rw w (kept level s ns rs st (because NotUtf8 p)))
 
-    pub read_good : c ≡ None → (r : Reading) (ns' rs' st' : List ℕ) → r ≡ listed_of edition level s (room_for_nodes ns) (room_for_rules rs) (length st) → Leaves level s r ns rs st ns' rs' st'
+    pub read_good : c ≡ None → (r : Result (ℕ × ℕ × ℕ) Refusal) (ns' rs' st' : List ℕ) → r ≡ listed_of edition level s (room_for_nodes ns) (room_for_rules rs) (length st) → Leaves level s r ns rs st ns' rs' st'
         → Meets edition level s ns rs st r ns' rs' st'
     read_good q r ns' rs' st' w l = met (w ∙ by_check q) l
 
@@ -312,13 +311,13 @@ why_back RulesRoom = (refl, refl)
 why_back NodesRoom = (refl, refl)
 why_back StoreRoom = (refl, refl)
 
-decoded : Numbered → Reading
-decoded x = choose (eqb x.number 0) (λ u. Reading.Read x.nodes x.rules x.store) (λ u. refused_by (why_of x.number) x.place)
+decoded : Numbered → Result (ℕ × ℕ × ℕ) Refusal
+decoded x = choose (eqb x.number 0) (λ u. Ok (x.nodes, x.rules, x.store)) (λ u. refused_by (why_of x.number) x.place)
 
-decode : (r : Reading) → decoded (numbered r) ≡ r
+decode : (r : Result (ℕ × ℕ × ℕ) Refusal) → decoded (numbered r) ≡ r
 unfolding decoded numbered
-decode (Reading.Read n r b) = refl
-decode (Reading.Refused r) = let e = why_back r.why in rw e.1 (ap (λ (w : Why). refused_by w r.place) e.0)
+decode (Ok (n, r, b)) = refl
+decode (Err r) = let e = why_back r.why in rw e.1 (ap (λ (w : Why). refused_by w r.place) e.0)
 
-pub numbered_one : (r s : Reading) → numbered r ≡ numbered s → r ≡ s
+pub numbered_one : (r s : Result (ℕ × ℕ × ℕ) Refusal) → numbered r ≡ numbered s → r ≡ s
 numbered_one r s e = sym (decode r) ∙ ap decoded e ∙ decode s

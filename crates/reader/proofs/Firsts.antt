@@ -1,6 +1,6 @@
 -- What a reading says of values: one that succeeded has numbers in their bounds, and one refused for a value is refused for the first of the trees that is wrong.
 -- No other phase gives the numbers of values, so the refusal is that of `faults`.
-use Rattle.std.specs.Prelude.{ℕ, Option, Some, None}
+use Rattle.std.specs.Prelude.{ℕ, Option, Some, None, Result, Ok, Err}
 use Prim.Native.Nat.{ℕ}
 use mathlib.Core.Path.{◌≡◌, refl, sym, ap, ◌∙◌}
 use mathlib.Core.Bool.{true, false}
@@ -28,7 +28,6 @@ use Rattle.structure.proofs.Reasons.{OfStructure, OfValues, grammar_why}
 use Rattle.structure.proofs.Judged.{first_wrong}
 use Rattle.structure.proofs.Fair.{sound_counted}
 use Rattle.build.specs.Rules.{ruled_of, rules_read}
-use Rattle.reader.specs.declared.Reading.{Reading}
 use Rattle.reader.specs.Read.{number_of, room_by, faulty, checked_by, refused_by, ruled_by, judged_of, listed_of, read_of}
 use Rattle.reader.proofs.Counts.{read_counts}
 
@@ -54,9 +53,9 @@ not_structure edition w (inl e) v = not_values edition w (rw e) v
 not_structure edition w (inr e) v = not_values edition w (rw e) v
 
 module _ (edition : Edition) (level : Level) (s : List ℕ) (n r b : ℕ) where
-  abbrev Told : Reading → Type 0
-  Told (Reading.Read x y z) = Unit {0}
-  Told (Reading.Refused x) = OfValues edition x.why → FirstWrong edition level s (rules_read level s) x
+  abbrev Told : Result (ℕ × ℕ × ℕ) Refusal → Type 0
+  Told (Ok (x, y, z)) = Unit {0}
+  Told (Err x) = OfValues edition x.why → FirstWrong edition level s (rules_read level s) x
 
   by_room : (k c z : ℕ) → Told (room_by k c z n r b)
   unfolding room_by number_of
@@ -64,15 +63,15 @@ module _ (edition : Edition) (level : Level) (s : List ℕ) (n r b : ℕ) where
       choose_by Told (leb k r) _ _
       (λ e. choose_by Told (leb c n) _ _ (λ e. choose_by Told (leb z b) _ _ (λ e. tt) (λ e. not_values edition StoreRoom refl)) (λ e. not_values edition NodesRoom refl)) (λ e. not_values edition RulesRoom refl)
 
-  by_fault : (us : List (Rule Span)) → grammar level s ≡ rules us → (f : Option Refusal) (g : Unit {0} → Reading) → faults edition level s ≡ f → Told (g tt) → Told (faulty f g)
+  by_fault : (us : List (Rule Span)) → grammar level s ≡ rules us → (f : Option Refusal) (g : Unit {0} → Result (ℕ × ℕ × ℕ) Refusal) → faults edition level s ≡ f → Told (g tt) → Told (faulty f g)
   by_fault us h None g e x = x
   by_fault us h (Some y) g e x = λ v. first_wrong edition level s (rules_read level s) y (h ∙ ap rules (sym (ap ruled_of h))) e
 
-  by_rules : (m : Ruled) (g : List (Rule Span) → Reading) → grammar level s ≡ m → ((us : List (Rule Span)) → grammar level s ≡ rules us → Told (g us)) → Told (ruled_by m g)
+  by_rules : (m : Ruled) (g : List (Rule Span) → Result (ℕ × ℕ × ℕ) Refusal) → grammar level s ≡ m → ((us : List (Rule Span)) → grammar level s ≡ rules us → Told (g us)) → Told (ruled_by m g)
   by_rules (rules us) g e x = x us e
   by_rules (unruled y) g e x = not_structure edition y.why (grammar_why s level y e)
 
-  by_check : (w : Why) (c : Option ℕ) (g : Unit {0} → Reading) → among (5 ∷ 6 ∷ 7 ∷ 8 ∷ 13 ∷ 15 ∷ []) (number_of w) ≡ false → Told (g tt) → Told (checked_by c (refused_by w) g)
+  by_check : (w : Why) (c : Option ℕ) (g : Unit {0} → Result (ℕ × ℕ × ℕ) Refusal) → among (5 ∷ 6 ∷ 7 ∷ 8 ∷ 13 ∷ 15 ∷ []) (number_of w) ≡ false → Told (g tt) → Told (checked_by c (refused_by w) g)
   by_check w (Some p) g e x = not_values edition w e
   by_check w None g e x = x
 
@@ -85,11 +84,11 @@ module _ (edition : Edition) (level : Level) (s : List ℕ) (n r b : ℕ) where
       (λ e. not_values edition TooLong refl)
 
   -- a text that is refused by 5, 6, 7, 8, 13 or 15
-  pub read_wrong : (x : Refusal) → read_of edition level s n r b ≡ Reading.Refused x → OfValues edition x.why → FirstWrong edition level s (rules_read level s) x
+  pub read_wrong : (x : Refusal) → read_of edition level s n r b ≡ Err x → OfValues edition x.why → FirstWrong edition level s (rules_read level s) x
   read_wrong x e = rw e at told
 
   -- a text that is read
-  pub read_counted : (x y z : ℕ) → read_of edition level s n r b ≡ Reading.Read x y z → counted_rules (rules_read level s) ≡ true
+  pub read_counted : (x y z : ℕ) → read_of edition level s n r b ≡ Ok (x, y, z) → counted_rules (rules_read level s) ≡ true
   read_counted x y z e =
       let c = read_counts edition level s n r b e in
       sound_counted edition level s (rules_read level s) c.read c.sound

@@ -1,5 +1,6 @@
 -- Lines from place to place: a byte more adds an LF or nothing, and past the text's end nothing is added.
 -- Tables: one record more gets its line, and records without lines that get them are those that have them.
+use Rattle.std.specs.Prelude.{Ok}
 use Prim.Native.Nat.{ℕ, zero, suc, ◌+◌, ◌*◌, ◌≤◌, ◌<◌}
 use mathlib.Core.Path.{◌≡◌, refl, sym, ap, ◌∙◌}
 use mathlib.Core.Bool.{Bool, true, false}
@@ -24,7 +25,6 @@ use Rattle.table.proofs.Rules.{length_nodes}
 use Rattle.structure.specs.declared.Edition.{Edition}
 use Rattle.structure.specs.declared.Level.{Level}
 use Rattle.build.specs.Rules.{rules_read}
-use Rattle.reader.specs.declared.Reading.TheVariants as Reading
 use Rattle.reader.specs.Lines.{feed, feeds, line_in, with_line, with_lines, Lined}
 use Rattle.reader.specs.Read.{room_for_nodes, room_for_rules, read_of, left_in, Leaves}
 use Rattle.reader.proofs.Counts.{read_counts}
@@ -211,7 +211,7 @@ lines_fronted line us o =
 -- ---- what is read
 
 -- the seventh number of every record that is used is one plus the LF bytes before the span's start
-module _ (edition : Edition) (level : Level) (s ns rs st ns' rs' st' : List ℕ) {x y z : ℕ} (e : read_of edition level s (room_for_nodes ns) (room_for_rules rs) (length st) ≡ Reading.Read x y z) (h : Leaves level s (Reading.Read x y z) ns rs st ns' rs' st') where
+module _ (edition : Edition) (level : Level) (s ns rs st ns' rs' st' : List ℕ) {x y z : ℕ} (e : read_of edition level s (room_for_nodes ns) (room_for_rules rs) (length st) ≡ Ok (x, y, z)) (h : Leaves level s (Ok (x, y, z)) ns rs st ns' rs' st') where
   pub read_lines : (k : ℕ) → k < x → get_or ns' (node_size * k + 6) 0 ≡ line_in s (get_or ns' (node_size * k + 1) 0)
   unfolding left_in
   read_lines k l =

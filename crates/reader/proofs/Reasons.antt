@@ -1,5 +1,5 @@
 -- Past the list of tokens a text is refused by structure, by a value or for want of room, and for nothing else.
-use Rattle.std.specs.Prelude.{ℕ, Option, Some, None}
+use Rattle.std.specs.Prelude.{ℕ, Option, Some, None, Result, Ok, Err}
 use Prim.Native.Nat.{ℕ, ◌≤◌}
 use mathlib.Core.Path.{◌≡◌, refl}
 use mathlib.Core.Logic.{◌⊎◌, inl, inr, ⊎_elim}
@@ -21,7 +21,6 @@ use Rattle.structure.specs.declared.Refusal.{Refusal}
 use Rattle.structure.specs.Values.{faults}
 use Rattle.structure.specs.Structure.{Ruled, rules, unruled, grammar}
 use Rattle.structure.proofs.Reasons.{OfStructure, OfValues, grammar_why, faults_why}
-use Rattle.reader.specs.declared.Reading.{Reading}
 use Rattle.reader.specs.Read.{room_by, faulty, checked_by, refused_by, ruled_by, judged_of, listed_of, read_of, number_of}
 
 -- 12, 10 and 11
@@ -29,9 +28,9 @@ abbrev pub OfRoom : Why → Type 0
 OfRoom w = (w ≡ RulesRoom) ⊎ (w ≡ NodesRoom) ⊎ (w ≡ StoreRoom)
 
 module _ (edition : Edition) where
-  abbrev Judged : Reading → Type 0
-  Judged (Reading.Read n r b) = Unit {0}
-  Judged (Reading.Refused r) = OfStructure r.why ⊎ OfValues edition r.why ⊎ OfRoom r.why
+  abbrev Judged : Result (ℕ × ℕ × ℕ) Refusal → Type 0
+  Judged (Ok (n, r, b)) = Unit {0}
+  Judged (Err r) = OfStructure r.why ⊎ OfValues edition r.why ⊎ OfRoom r.why
 
   by_room : (k c z n r b : ℕ) → Judged (room_by k c z n r b)
   unfolding room_by
@@ -41,11 +40,11 @@ module _ (edition : Edition) where
       (λ e. choose_by Judged (leb z b) _ _ (λ e. tt) (λ e. inr (inr (inr (inr refl))))) (λ e. inr (inr (inr (inl refl)))))
       (λ e. inr (inr (inl refl)))
 
-  by_fault : (f : Option Refusal) (g : Unit {0} → Reading) → ((r : Refusal) → f ≡ Some r → OfValues edition r.why) → Judged (g tt) → Judged (faulty f g)
+  by_fault : (f : Option Refusal) (g : Unit {0} → Result (ℕ × ℕ × ℕ) Refusal) → ((r : Refusal) → f ≡ Some r → OfValues edition r.why) → Judged (g tt) → Judged (faulty f g)
   by_fault None g h x = x
   by_fault (Some r) g h x = inr (inl (h r refl))
 
-  by_rules : (m : Ruled) (g : List (Rule Span) → Reading) → ((r : Refusal) → m ≡ unruled r → OfStructure r.why) → ((us : List (Rule Span)) → Judged (g us)) → Judged (ruled_by m g)
+  by_rules : (m : Ruled) (g : List (Rule Span) → Result (ℕ × ℕ × ℕ) Refusal) → ((r : Refusal) → m ≡ unruled r → OfStructure r.why) → ((us : List (Rule Span)) → Judged (g us)) → Judged (ruled_by m g)
   by_rules (rules us) g h x = x us
   by_rules (unruled r) g h x = inl (h r refl)
 
@@ -54,7 +53,7 @@ module _ (edition : Edition) where
     unfolding judged_of
     judged = by_rules (grammar level s) _ (grammar_why s level) (λ us. by_fault (faults edition level s) _ (faults_why edition level s) (by_room _ _ _ n r b))
 
-    pub judged_why : (x : Refusal) → judged_of edition level s n r b ≡ Reading.Refused x → OfStructure x.why ⊎ OfValues edition x.why ⊎ OfRoom x.why
+    pub judged_why : (x : Refusal) → judged_of edition level s n r b ≡ Err x → OfStructure x.why ⊎ OfValues edition x.why ⊎ OfRoom x.why
     judged_why x e = rw e at judged
 
 -- the numbers of reasons
@@ -100,18 +99,18 @@ low_room w (inl e) = rw e (omega arith)
 low_room w (inr (inl e)) = rw e (omega arith)
 low_room w (inr (inr e)) = rw e (omega arith)
 
-abbrev LowReading : Reading → Type 0
-LowReading (Reading.Read n r b) = Unit {0}
-LowReading (Reading.Refused x) = Low x.why
+abbrev LowReading : Result (ℕ × ℕ × ℕ) Refusal → Type 0
+LowReading (Ok (n, r, b)) = Unit {0}
+LowReading (Err x) = Low x.why
 
-low_check : (w : Why) (c : Option ℕ) (g : Unit {0} → Reading) → Low w → LowReading (g tt) → LowReading (checked_by c (refused_by w) g)
+low_check : (w : Why) (c : Option ℕ) (g : Unit {0} → Result (ℕ × ℕ × ℕ) Refusal) → Low w → LowReading (g tt) → LowReading (checked_by c (refused_by w) g)
 low_check w (Some p) g h x = h
 low_check w None g h x = x
 
 module _ (level : Level) (s : List ℕ) (n r b : ℕ) where
-  low_judged : (a : Reading) → judged_of First level s n r b ≡ a → LowReading a
-  low_judged (Reading.Read x y z) e = tt
-  low_judged (Reading.Refused x) e =
+  low_judged : (a : Result (ℕ × ℕ × ℕ) Refusal) → judged_of First level s n r b ≡ a → LowReading a
+  low_judged (Ok (x, y, z)) e = tt
+  low_judged (Err x) e =
       ⊎_elim (low_structure x.why) (λ h. ⊎_elim (low_values x.why) (low_room x.why) h) (judged_why First level s n r b x e)
 
   low_read : LowReading (read_of First level s n r b)
@@ -120,5 +119,5 @@ module _ (level : Level) (s : List ℕ) (n r b : ℕ) where
       choose_by LowReading (leb (length s) max_text) _ _
       (λ e. low_check NotUtf8 (first_bad s) _ (omega arith) (low_check NoToken (tokens_of s).fault _ (omega arith) (low_judged (judged_of First level s n r b) refl))) (λ e. omega arith)
 
-  pub first_numbers : (x : Refusal) → read_of First level s n r b ≡ Reading.Refused x → (1 ≤ number_of x.why) × (number_of x.why ≤ 13)
+  pub first_numbers : (x : Refusal) → read_of First level s n r b ≡ Err x → (1 ≤ number_of x.why) × (number_of x.why ≤ 13)
   first_numbers x e = ((number_range x.why).0, rw e at low_read)

@@ -1,5 +1,5 @@
 -- What the reader answers, and what it leaves in the lent buffers.
-use Rattle.std.specs.Prelude.{ℕ, min, ◌≡◌, List, leb, length, Option, Some, None}
+use Rattle.std.specs.Prelude.{ℕ, min, ◌≡◌, List, leb, length, Option, Some, None, Result, Ok, Err}
 use Rattle.text.specs.Booleans.{choose}
 use Rattle.text.specs.Splice.{fronted}
 use Rattle.text.specs.Utf8.{first_bad}
@@ -10,7 +10,7 @@ use Rattle.table.specs.Record.{nodes_in, rules_in}
 use Rattle.table.specs.Flat.{nodes_of, records_of}
 use Rattle.structure.specs.declared.Edition.{Edition}
 use Rattle.structure.specs.declared.Level.{Level}
-use Rattle.reader.specs.declared.Reading.{Reading}
+use Rattle.structure.specs.declared.Refusal.{Refusal}
 use Rattle.structure.specs.declared.Why.{Why}
 use Rattle.structure.specs.declared.Why.TheVariants.{TooLong, NotUtf8, NoToken, NotAllowed, TooDeep, Over, Zero, PeekRange, NotScalar, NotPlain, Above, RulesRoom, NodesRoom, StoreRoom}
 use Rattle.structure.specs.Refusals.{because}
@@ -18,11 +18,10 @@ use Rattle.structure.specs.Values.{faults}
 use Rattle.structure.specs.Structure.{Ruled, rules, unruled, grammar}
 use Rattle.build.specs.Rules.{rules_read}
 use Rattle.reader.specs.Lines.{line_in}
-use Rattle.structure.specs.declared.Refusal.{Refusal}
 
 -- a text that is refused
-abbrev pub refused_by : Why → ℕ → Reading
-refused_by w p = Reading.Refused (because w p)
+abbrev pub refused_by : Why → ℕ → Result (ℕ × ℕ × ℕ) Refusal
+refused_by w p = Err (because w p)
 
 -- room is the lower of what is lent and the limit; lent records are whole ones
 abbrev pub room_for_nodes : List ℕ → ℕ
@@ -32,48 +31,48 @@ abbrev pub room_for_rules : List ℕ → ℕ
 room_for_rules rs = min (rules_in rs) max_rules
 
 -- k rules of c nodes and z store bytes: 12, 10, 11; else the counts used
-unfoldable pub room_by : ℕ → ℕ → ℕ → ℕ → ℕ → ℕ → Reading
+unfoldable pub room_by : ℕ → ℕ → ℕ → ℕ → ℕ → ℕ → Result (ℕ × ℕ × ℕ) Refusal
 room_by k c z n r b =
     choose (leb k r)
-    (λ u. choose (leb c n) (λ u. choose (leb z b) (λ u. Reading.Read c k z) (λ u. refused_by StoreRoom 0)) (λ u. refused_by NodesRoom 0))
+    (λ u. choose (leb c n) (λ u. choose (leb z b) (λ u. Ok (c, k, z)) (λ u. refused_by StoreRoom 0)) (λ u. refused_by NodesRoom 0))
     (λ u. refused_by RulesRoom 0)
 
-abbrev pub room_for : List (Rule Span) → ℕ → ℕ → ℕ → Reading
+abbrev pub room_for : List (Rule Span) → ℕ → ℕ → ℕ → Result (ℕ × ℕ × ℕ) Refusal
 room_for us n r b = room_by (length us) (counts us) (length (rules_stored us)) n r b
 
-abbrev pub faulty : Option Refusal → (Unit {0} → Reading) → Reading
+abbrev pub faulty : Option Refusal → (Unit {0} → Result (ℕ × ℕ × ℕ) Refusal) → Result (ℕ × ℕ × ℕ) Refusal
 faulty None f = f tt
-faulty (Some r) f = Reading.Refused r
+faulty (Some r) f = Err r
 
-abbrev pub checked_by : Option ℕ → (ℕ → Reading) → (Unit {0} → Reading) → Reading
+abbrev pub checked_by : Option ℕ → (ℕ → Result (ℕ × ℕ × ℕ) Refusal) → (Unit {0} → Result (ℕ × ℕ × ℕ) Refusal) → Result (ℕ × ℕ × ℕ) Refusal
 checked_by (Some p) f g = f p
 checked_by None f g = g tt
 
-abbrev pub ruled_by : Ruled → (List (Rule Span) → Reading) → Reading
+abbrev pub ruled_by : Ruled → (List (Rule Span) → Result (ℕ × ℕ × ℕ) Refusal) → Result (ℕ × ℕ × ℕ) Refusal
 ruled_by (rules us) f = f us
-ruled_by (unruled r) f = Reading.Refused r
+ruled_by (unruled r) f = Err r
 
 -- 4 and 9; 5, 6, 7, 8, 13 and 15; 12, 10, 11
-unfoldable pub judged_of : Edition → Level → List ℕ → ℕ → ℕ → ℕ → Reading
+unfoldable pub judged_of : Edition → Level → List ℕ → ℕ → ℕ → ℕ → Result (ℕ × ℕ × ℕ) Refusal
 judged_of edition level s n r b = ruled_by (grammar level s) (λ us. faulty (faults edition level s) (λ u. room_for us n r b))
 
 -- 3 before those
-unfoldable pub listed_of : Edition → Level → List ℕ → ℕ → ℕ → ℕ → Reading
+unfoldable pub listed_of : Edition → Level → List ℕ → ℕ → ℕ → ℕ → Result (ℕ × ℕ × ℕ) Refusal
 listed_of edition level s n r b = checked_by (tokens_of s).fault (refused_by NoToken) (λ u. judged_of edition level s n r b)
 
 -- by a table of m tokens: it has to hold all before the first 3
-unfoldable pub attempt_of : ℕ → Edition → Level → List ℕ → ℕ → ℕ → ℕ → Option Reading
+unfoldable pub attempt_of : ℕ → Edition → Level → List ℕ → ℕ → ℕ → ℕ → Option (Result (ℕ × ℕ × ℕ) Refusal)
 attempt_of m edition level s n r b = choose (leb (length (tokens_of s).list) m) (λ u. Some (listed_of edition level s n r b)) (λ u. None)
 
 -- 1 and 2 before those; each phase covers the whole text first
-unfoldable pub read_of : Edition → Level → List ℕ → ℕ → ℕ → ℕ → Reading
+unfoldable pub read_of : Edition → Level → List ℕ → ℕ → ℕ → ℕ → Result (ℕ × ℕ × ℕ) Refusal
 read_of edition level s n r b =
     choose (leb (length s) max_text) (λ u. checked_by (first_bad s) (refused_by NotUtf8) (λ u. listed_of edition level s n r b)) (λ u. refused_by TooLong 0)
 
 -- a success changes only the used part, a refusal nothing
-unfoldable pub left_in : Reading → List ℕ → List ℕ → List ℕ
-left_in (Reading.Read n r b) x o = fronted x o
-left_in (Reading.Refused r) x o = o
+unfoldable pub left_in : Result (ℕ × ℕ × ℕ) Refusal → List ℕ → List ℕ → List ℕ
+left_in (Ok (n, r, b)) x o = fronted x o
+left_in (Err r) x o = o
 
 -- an answer in the paper's numbers: number, place, and the records and bytes used
 pub record Numbered : Type 0 where
@@ -103,21 +102,21 @@ number_of RulesRoom = 12
 number_of NodesRoom = 10
 number_of StoreRoom = 11
 
-unfoldable pub numbered : Reading → Numbered
-numbered (Reading.Read n r b) = record { number = 0; place = 0; nodes = n; rules = r; store = b }
-numbered (Reading.Refused r) = refusal (number_of r.why) r.place
+unfoldable pub numbered : Result (ℕ × ℕ × ℕ) Refusal → Numbered
+numbered (Ok (n, r, b)) = record { number = 0; place = 0; nodes = n; rules = r; store = b }
+numbered (Err r) = refusal (number_of r.why) r.place
 
 -- what is to be answered, in those numbers
 unfoldable pub reported : Edition → Level → List ℕ → ℕ → ℕ → ℕ → Numbered
 reported edition level s n r b = numbered (read_of edition level s n r b)
 
 -- the three buffers afterwards, by the answer
-pub record Leaves (level : Level) (s : List ℕ) (r : Reading) (ns rs st ns' rs' st' : List ℕ) : Type 0 where
+pub record Leaves (level : Level) (s : List ℕ) (r : Result (ℕ × ℕ × ℕ) Refusal) (ns rs st ns' rs' st' : List ℕ) : Type 0 where
   pub nodes : ns' ≡ left_in r (nodes_of (line_in s) (rules_read level s)) ns
   pub rules : rs' ≡ left_in r (records_of (rules_read level s)) rs
   pub store : st' ≡ left_in r (rules_stored (rules_read level s)) st
 
 -- a full table leaves all as it was
-abbrev pub AttemptLeaves : Level → List ℕ → Option Reading → List ℕ → List ℕ → List ℕ → List ℕ → List ℕ → List ℕ → Type 0
+abbrev pub AttemptLeaves : Level → List ℕ → Option (Result (ℕ × ℕ × ℕ) Refusal) → List ℕ → List ℕ → List ℕ → List ℕ → List ℕ → List ℕ → Type 0
 AttemptLeaves level s (Some r) ns rs st ns' rs' st' = Leaves level s r ns rs st ns' rs' st'
 AttemptLeaves level s None ns rs st ns' rs' st' = (ns' ≡ ns) × (rs' ≡ rs) × (st' ≡ st)

@@ -15,13 +15,6 @@ ghost use Rattle.build.specs.Rules.{rules_read};
 use structure::{Edition, Level, Refusal, Why};
 use text::limits;
 
-// The nodes, rules and store bytes used, or why nothing was read, and where.
-#[derive(Clone, Copy)]
-pub enum Reading {
-    Read(usize, usize, usize),
-    Refused(Refusal),
-}
-
 // A place in a text and its line.
 #[derive(Clone, Copy)]
 pub struct Mark {
@@ -59,7 +52,7 @@ pub fn read(
     nodes: &mut [u32],
     rules: &mut [u32],
     store: &mut [u8],
-) -> Reading
+) -> Result<(usize, usize, usize), Refusal>
     ensures answer { result ≡ read_of edition level text.now (room_for_nodes nodes.old) (room_for_rules rules.old) (length store.old) }
     ensures report { numbered result ≡ reported edition level text.now (room_for_nodes nodes.old) (room_for_rules rules.old) (length store.old) }
     ensures nodes { nodes.new ≡ left_in result (nodes_of (line_in text.now) (rules_read level text.now)) nodes.old }

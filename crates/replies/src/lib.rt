@@ -27,17 +27,16 @@ pub struct Row {
     pub steps: u64,
 }
 
-// Lines that were run and the place where the first of the others begins, or a refusal: 30, 31 at a node,
-// 32.
-#[derive(Clone, Copy)]
-pub enum Lines {
-    Ran(usize, usize),
+// Why nothing is run: 30, 31 at a node, 32.
+#[derive(Clone, Copy, Debug, PartialEq, Eq)]
+pub enum RunError {
     FalseTables,
     Unfit(usize),
     NoRule,
 }
 
-// The same in numbers: a refusal's number and place, the lines, the place of the next one.
+// What a call over lines gives, in numbers: a refusal's number and place, the lines that were run, the place
+// where the first of the others begins.
 #[derive(Clone, Copy)]
 pub struct Tally {
     pub number: u64,
@@ -46,15 +45,14 @@ pub struct Tally {
     pub next: u64,
 }
 
-// The lowest rule of a name, by its index, or a refusal: 30, 32.
-#[derive(Clone, Copy)]
-pub enum Found {
-    Rule(usize),
+// Why no rule of a name was found: 30, 32.
+#[derive(Clone, Copy, Debug, PartialEq, Eq)]
+pub enum FindError {
     FalseTables,
     NoRule,
 }
 
-// The same in numbers: a refusal's number and place, the index.
+// The rule of a name, in numbers: a refusal's number and place, the rule's index.
 #[derive(Clone, Copy)]
 pub struct Finding {
     pub number: u64,
@@ -104,19 +102,19 @@ fn refused_as(answer: Answer) -> Tally
 }
 
 // What a call over lines gives, in numbers.
-pub fn tally_of(lines: Lines) -> Tally
+pub fn tally_of(lines: Result<(usize, usize), RunError>) -> Tally
     ensures { result ≡ tallied lines }
 {
     match lines {
-        Lines::Ran(k, p) => Tally {
+        Ok((k, p)) => Tally {
             number: 0,
             place: 0,
             lines: k as u64,
             next: p as u64,
         },
-        Lines::FalseTables => refused_as(Answer::FalseTables),
-        Lines::Unfit(i) => refused_as(Answer::Unfit(i)),
-        Lines::NoRule => refused_as(Answer::NoRule),
+        Err(RunError::FalseTables) => refused_as(Answer::FalseTables),
+        Err(RunError::Unfit(i)) => refused_as(Answer::Unfit(i)),
+        Err(RunError::NoRule) => refused_as(Answer::NoRule),
     }
 }
 
@@ -133,16 +131,16 @@ fn missed_as(answer: Answer) -> Finding
 }
 
 // The rule of a name, in numbers.
-pub fn finding_of(found: Found) -> Finding
+pub fn finding_of(found: Result<usize, FindError>) -> Finding
     ensures { result ≡ finding found }
 {
     match found {
-        Found::Rule(k) => Finding {
+        Ok(k) => Finding {
             number: 0,
             place: 0,
             rule: k as u64,
         },
-        Found::FalseTables => missed_as(Answer::FalseTables),
-        Found::NoRule => missed_as(Answer::NoRule),
+        Err(FindError::FalseTables) => missed_as(Answer::FalseTables),
+        Err(FindError::NoRule) => missed_as(Answer::NoRule),
     }
 }

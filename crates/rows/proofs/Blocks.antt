@@ -1,4 +1,5 @@
 -- A block of camera lines: the lines of their records are the answers' lines; and an input in blocks is answered as a whole.
+use Rattle.std.specs.Prelude.{ℕ, Result, Ok, Err}
 use Prim.Native.Nat.{ℕ, zero, suc, ◌+◌, ◌*◌, ◌/◌, ◌≤◌, ◌<◌}
 use mathlib.Core.Path.{◌≡◌, refl, sym, ap, subst, ◌∙◌}
 use mathlib.Core.Bool.{Bool, true, false}
@@ -13,10 +14,8 @@ use Rattle.text.specs.Splice.{Wrote, fronted}
 use Rattle.text.proofs.Splices.{wrote_front}
 use Rattle.table.specs.Record.{root_at}
 use Rattle.replies.specs.declared.Answer.{Answer}
-use Rattle.links.specs.declared.Ready.{Ready}
+use Rattle.replies.specs.declared.RunError.{RunError}
 use Rattle.replies.specs.declared.Row.{Row}
-use Rattle.replies.specs.declared.Lines.{Lines}
-use Rattle.replies.specs.declared.Lines.TheVariants as Ran
 use Rattle.links.specs.Program.{program}
 use Rattle.matcher.specs.Answers.{line_of}
 use Rattle.replies.specs.Replies.{numbered}
@@ -28,6 +27,11 @@ use Rattle.rows.specs.Rows.{row_line, row_refused, longest_line, row_from, recor
 use Rattle.rows.specs.Block.{answer_lines, refused_lines, most_lines, block_room, ran_block, refused_block, block_by, block_of, left_in, block_in, Inside, whole_size}
 
 -- ---- records of lines
+
+-- the lines that were run, and the place of the next one
+abbrev ran : Result (ℕ × ℕ) RunError → ℕ × ℕ
+ran (Ok z) = z
+ran (Err e) = (0, 0)
 
 module _ (f : List ℕ → Answer) where
   lines_are : (ls : List (List ℕ)) (z : List ℕ) → record_lines (length ls) (rows f ls ++ z) ≡ answer_lines f ls
@@ -43,31 +47,31 @@ module _ (f : List ℕ → Answer) where
 -- ---- a block
 
 -- a call that ran was ready
-ran_ready : (x : Ready) (y : Unit {0} → Lines) {k p : ℕ} → Ran.Ran k p ≡ lines_by x y → x ≡ Ready.Yes
-ran_ready Ready.Yes y e = refl
-ran_ready Ready.FalseTables y e = let z : ◌≡◌ {A = ℕ} 0 1 = cc in absurd (omega arith)
-ran_ready (Ready.Unfit i) y e = let z : ◌≡◌ {A = ℕ} 0 1 = cc in absurd (omega arith)
-ran_ready Ready.NoRule y e = let z : ◌≡◌ {A = ℕ} 0 1 = cc in absurd (omega arith)
+ran_ready : (x : Result (Unit {0}) RunError) (y : Unit {0} → Result (ℕ × ℕ) RunError) {k p : ℕ} → Ok (k, p) ≡ lines_by x y → x ≡ Ok tt
+ran_ready (Ok _) y e = refl
+ran_ready (Err RunError.FalseTables) y e = let z : ◌≡◌ {A = ℕ} 0 1 = cc in absurd (omega arith)
+ran_ready (Err (RunError.Unfit i)) y e = let z : ◌≡◌ {A = ℕ} 0 1 = cc in absurd (omega arith)
+ran_ready (Err RunError.NoRule) y e = let z : ◌≡◌ {A = ℕ} 0 1 = cc in absurd (omega arith)
 
-false_ready : (x : Ready) (y : Unit {0} → Lines) → ((u : Unit {0}) → (k : ℕ) × (p : ℕ) × (y u ≡ Ran.Ran k p)) → Ran.FalseTables ≡ lines_by x y → x ≡ Ready.FalseTables
-false_ready Ready.Yes y h e = let (k, p, g) = h tt in let z : ◌≡◌ {A = ℕ} 0 1 = cc in absurd (omega arith)
-false_ready Ready.FalseTables y h e = refl
-false_ready (Ready.Unfit i) y h e = let z : ◌≡◌ {A = ℕ} 0 1 = cc in absurd (omega arith)
-false_ready Ready.NoRule y h e = let z : ◌≡◌ {A = ℕ} 0 1 = cc in absurd (omega arith)
+false_ready : (x : Result (Unit {0}) RunError) (y : Unit {0} → Result (ℕ × ℕ) RunError) → ((u : Unit {0}) → (k : ℕ) × (p : ℕ) × (y u ≡ Ok (k, p))) → Err RunError.FalseTables ≡ lines_by x y → x ≡ Err RunError.FalseTables
+false_ready (Ok _) y h e = let (k, p, g) = h tt in let z : ◌≡◌ {A = ℕ} 0 1 = cc in absurd (omega arith)
+false_ready (Err RunError.FalseTables) y h e = refl
+false_ready (Err (RunError.Unfit i)) y h e = let z : ◌≡◌ {A = ℕ} 0 1 = cc in absurd (omega arith)
+false_ready (Err RunError.NoRule) y h e = let z : ◌≡◌ {A = ℕ} 0 1 = cc in absurd (omega arith)
 
-unfit_ready : (x : Ready) (y : Unit {0} → Lines) {i : ℕ} → ((u : Unit {0}) → (k : ℕ) × (p : ℕ) × (y u ≡ Ran.Ran k p)) → Ran.Unfit i ≡ lines_by x y → x ≡ Ready.Unfit i
-unfit_ready Ready.Yes y h e = let (k, p, g) = h tt in let z : ◌≡◌ {A = ℕ} 0 1 = cc in absurd (omega arith)
-unfit_ready Ready.FalseTables y h e = let z : ◌≡◌ {A = ℕ} 0 1 = cc in absurd (omega arith)
-unfit_ready (Ready.Unfit i) y h e = cc
-unfit_ready Ready.NoRule y h e = let z : ◌≡◌ {A = ℕ} 0 1 = cc in absurd (omega arith)
+unfit_ready : (x : Result (Unit {0}) RunError) (y : Unit {0} → Result (ℕ × ℕ) RunError) {i : ℕ} → ((u : Unit {0}) → (k : ℕ) × (p : ℕ) × (y u ≡ Ok (k, p))) → Err (RunError.Unfit i) ≡ lines_by x y → x ≡ Err (RunError.Unfit i)
+unfit_ready (Ok _) y h e = let (k, p, g) = h tt in let z : ◌≡◌ {A = ℕ} 0 1 = cc in absurd (omega arith)
+unfit_ready (Err RunError.FalseTables) y h e = let z : ◌≡◌ {A = ℕ} 0 1 = cc in absurd (omega arith)
+unfit_ready (Err (RunError.Unfit i)) y h e = cc
+unfit_ready (Err RunError.NoRule) y h e = let z : ◌≡◌ {A = ℕ} 0 1 = cc in absurd (omega arith)
 
-none_ready : (x : Ready) (y : Unit {0} → Lines) → ((u : Unit {0}) → (k : ℕ) × (p : ℕ) × (y u ≡ Ran.Ran k p)) → Ran.NoRule ≡ lines_by x y → x ≡ Ready.NoRule
-none_ready Ready.Yes y h e = let (k, p, g) = h tt in let z : ◌≡◌ {A = ℕ} 0 1 = cc in absurd (omega arith)
-none_ready Ready.FalseTables y h e = let z : ◌≡◌ {A = ℕ} 0 1 = cc in absurd (omega arith)
-none_ready (Ready.Unfit i) y h e = let z : ◌≡◌ {A = ℕ} 0 1 = cc in absurd (omega arith)
-none_ready Ready.NoRule y h e = refl
+none_ready : (x : Result (Unit {0}) RunError) (y : Unit {0} → Result (ℕ × ℕ) RunError) → ((u : Unit {0}) → (k : ℕ) × (p : ℕ) × (y u ≡ Ok (k, p))) → Err RunError.NoRule ≡ lines_by x y → x ≡ Err RunError.NoRule
+none_ready (Ok _) y h e = let (k, p, g) = h tt in let z : ◌≡◌ {A = ℕ} 0 1 = cc in absurd (omega arith)
+none_ready (Err RunError.FalseTables) y h e = let z : ◌≡◌ {A = ℕ} 0 1 = cc in absurd (omega arith)
+none_ready (Err (RunError.Unfit i)) y h e = let z : ◌≡◌ {A = ℕ} 0 1 = cc in absurd (omega arith)
+none_ready (Err RunError.NoRule) y h e = refl
 
-ran_over_lem : (text : List ℕ) (room : ℕ) → (k : ℕ) × (p : ℕ) × (ran_over text room ≡ Ran.Ran k p)
+ran_over_lem : (text : List ℕ) (room : ℕ) → (k : ℕ) × (p : ℕ) × (ran_over text room ≡ Ok (k, p))
 unfolding ran_over
 ran_over_lem text room = (length (take (room / row_size) (lines text)), past (room / row_size) text, refl)
 
@@ -85,8 +89,8 @@ module _ (ns rs st : List ℕ) (start : ℕ) (text : List ℕ) (allowance : ℕ)
   unfolding block_of block_in
   no_room h = (rw (lt-leb block_room (length o) h), (rw (lt-leb block_room (length o) h), tt))
 
-  module _ (h : block_room ≤ length o) {x : Lines} (e : x ≡ lines_of ns rs st start text (length (replicate {A = ℕ} 5120 0))) where
-    by_ready : {z : Ready} {r : Block} {o' : List ℕ} → ready_of ns rs st start ≡ z
+  module _ (h : block_room ≤ length o) {x : Result (ℕ × ℕ) RunError} (e : x ≡ lines_of ns rs st start text (length (replicate {A = ℕ} 5120 0))) where
+    by_ready : {z : Result (Unit {0}) RunError} {r : Block} {o' : List ℕ} → ready_of ns rs st start ≡ z
         → r ≡ block_by z (λ u. ran_block (line_of (program ns rs st) st (root_at rs start) allowance) text)
         → o' ≡ left_in z (λ u. fronted (answer_lines (line_of (program ns rs st) st (root_at rs start) allowance) (take most_lines (lines text))) o) o
         → Inside r (length o) (length text)
@@ -94,21 +98,21 @@ module _ (ns rs st : List ℕ) (start : ℕ) (text : List ℕ) (allowance : ℕ)
     unfolding block_of block_in
     by_ready q a b i = (a ∙ sym (rw (le-leb block_room (length o) h, q)), (b ∙ sym (rw (le-leb block_room (length o) h, q)), i))
 
-    told : {z : Lines} → x ≡ z → z ≡ lines_by (ready_of ns rs st start) (λ u. ran_over text (length (replicate {A = ℕ} 5120 0)))
+    told : {z : Result (ℕ × ℕ) RunError} → x ≡ z → z ≡ lines_by (ready_of ns rs st start) (λ u. ran_over text (length (replicate {A = ℕ} 5120 0)))
     unfolding lines_of
     told q = sym q ∙ e
 
-    pub block_false : {r : Block} → x ≡ Ran.FalseTables → r ≡ refused_block (numbered Answer.FalseTables) → Answers ns rs st start text allowance o r o
+    pub block_false : {r : Block} → x ≡ Err RunError.FalseTables → r ≡ refused_block (numbered Answer.FalseTables) → Answers ns rs st start text allowance o r o
     block_false q a = by_ready (false_ready _ _ (λ u. ran_over_lem text _) (told q)) a refl (refused_inside _ (length o) (length text) a)
 
-    pub block_unfit : {i : ℕ} {r : Block} → x ≡ Ran.Unfit i → r ≡ refused_block (numbered (Answer.Unfit i)) → Answers ns rs st start text allowance o r o
+    pub block_unfit : {i : ℕ} {r : Block} → x ≡ Err (RunError.Unfit i) → r ≡ refused_block (numbered (Answer.Unfit i)) → Answers ns rs st start text allowance o r o
     block_unfit q a = by_ready (unfit_ready _ _ (λ u. ran_over_lem text _) (told q)) a refl (refused_inside _ (length o) (length text) a)
 
-    pub block_none : {r : Block} → x ≡ Ran.NoRule → r ≡ refused_block (numbered Answer.NoRule) → Answers ns rs st start text allowance o r o
+    pub block_none : {r : Block} → x ≡ Err RunError.NoRule → r ≡ refused_block (numbered Answer.NoRule) → Answers ns rs st start text allowance o r o
     block_none q a = by_ready (none_ready _ _ (λ u. ran_over_lem text _) (told q)) a refl (refused_inside _ (length o) (length text) a)
 
-    module _ {k p : ℕ} (q : x ≡ Ran.Ran k p) where
-      ready : ready_of ns rs st start ≡ Ready.Yes
+    module _ {k p : ℕ} (q : x ≡ Ok (k, p)) where
+      ready : ready_of ns rs st start ≡ Ok tt
       ready = ran_ready _ _ (told q)
 
       room_is : length (replicate {A = ℕ} 5120 0) / row_size ≡ most_lines
@@ -117,10 +121,10 @@ module _ (ns rs st : List ℕ) (start : ℕ) (text : List ℕ) (allowance : ℕ)
       counts : (k ≡ length (take most_lines (lines text))) × (p ≡ past most_lines text)
       unfolding ran_over
       counts =
-          let z : Ran.Ran k p ≡ Ran.Ran (length (take most_lines (lines text))) (past most_lines text) =
+          let z : ◌≡◌ {A = Result (ℕ × ℕ) RunError} (Ok (k, p)) (Ok (length (take most_lines (lines text)), past most_lines text)) =
           told q ∙ ap (λ y. lines_by y (λ u. ran_over text (length (replicate {A = ℕ} 5120 0)))) ready
-          ∙ ap (λ m. Ran.Ran (length (take m (lines text))) (past m text)) room_is in
-          (cc, cc)
+          ∙ ap {B = Result (ℕ × ℕ) RunError} (λ m. Ok (length (take m (lines text)), past m text)) room_is in
+          (ap (λ r. (ran r).0) z, ap (λ r. (ran r).1) z)
 
       pub block_few : k ≤ most_lines
       block_few = omega (arith, counts.0, length-take most_lines (lines text))

@@ -1,10 +1,10 @@
 -- What the program for camera lines writes of a block of them.
-use Rattle.std.specs.Prelude.{ℕ, zero, suc, ◌+◌, ◌≤◌, List, [], ◌∷◌, ◌++◌, leb, eqb, length, take}
+use Rattle.std.specs.Prelude.{ℕ, zero, suc, ◌+◌, ◌≤◌, List, [], ◌∷◌, ◌++◌, leb, eqb, length, take, Result, Ok, Err}
 use Rattle.text.specs.Booleans.{choose}
 use Rattle.text.specs.Splice.{fronted}
 use Rattle.table.specs.Record.{root_at}
 use Rattle.replies.specs.declared.Answer.{Answer}
-use Rattle.links.specs.declared.Ready.{Ready}
+use Rattle.replies.specs.declared.RunError.{RunError}
 use Rattle.replies.specs.declared.Row.{Row}
 use Rattle.links.specs.Program.{program}
 use Rattle.matcher.specs.Answers.{line_of}
@@ -41,11 +41,11 @@ ran_block f t = Lines (length (answer_lines f (take most_lines (lines t)))) (pas
 unfoldable pub refused_block : Row → Block
 refused_block r = Refused r.number r.place
 
-abbrev pub block_by : Ready → (Unit {0} → Block) → Block
-block_by Ready.Yes f = f tt
-block_by Ready.FalseTables f = refused_block (numbered Answer.FalseTables)
-block_by (Ready.Unfit i) f = refused_block (numbered (Answer.Unfit i))
-block_by Ready.NoRule f = refused_block (numbered Answer.NoRule)
+abbrev pub block_by : Result (Unit {0}) RunError → (Unit {0} → Block) → Block
+block_by (Ok _) f = f tt
+block_by (Err RunError.FalseTables) f = refused_block (numbered Answer.FalseTables)
+block_by (Err (RunError.Unfit i)) f = refused_block (numbered (Answer.Unfit i))
+block_by (Err RunError.NoRule) f = refused_block (numbered Answer.NoRule)
 
 -- the answer to a block, for an output of m bytes
 unfoldable pub block_of : List ℕ → List ℕ → List ℕ → ℕ → List ℕ → ℕ → ℕ → Block
@@ -54,11 +54,11 @@ block_of ns rs st start text allowance m =
     (λ u. block_by (ready_of ns rs st start) (λ u. ran_block (line_of (program ns rs st) st (root_at rs start) allowance) text)) (λ u. NoRoom)
 
 -- what it leaves in the output: the answers at its front
-abbrev pub left_in : Ready → (Unit {0} → List ℕ) → List ℕ → List ℕ
-left_in Ready.Yes f o = f tt
-left_in Ready.FalseTables f o = o
-left_in (Ready.Unfit i) f o = o
-left_in Ready.NoRule f o = o
+abbrev pub left_in : Result (Unit {0}) RunError → (Unit {0} → List ℕ) → List ℕ → List ℕ
+left_in (Ok _) f o = f tt
+left_in (Err RunError.FalseTables) f o = o
+left_in (Err (RunError.Unfit i)) f o = o
+left_in (Err RunError.NoRule) f o = o
 
 unfoldable pub block_in : List ℕ → List ℕ → List ℕ → ℕ → List ℕ → ℕ → List ℕ → List ℕ
 block_in ns rs st start text allowance o =

@@ -14,7 +14,7 @@ ghost use Rattle.rows.specs.Rows.{row_put, row_in};
 ghost use Rattle.rows.specs.Block.{refused_block, block_of, block_in, Inside, whole_size};
 ghost use Rattle.rows.specs.Tokens.{tokens_put, tokens_in};
 
-use replies::{Lines, Row};
+use replies::{Row, RunError};
 
 // The bytes of records' lines, and how many of the records are refusals.
 #[derive(Clone, Copy)]
@@ -95,7 +95,7 @@ pub fn answer_block(
     let mut records = [0u64; 5120];
     let ran = matcher::match_lines(nodes, rules, store, start, text, allowance, &mut records);
     match ran {
-        Lines::Ran(k, next) => {
+        Ok((k, next)) => {
             let rows = row::put_rows(&records, k, out);
             Block::Lines {
                 size: rows.size,
@@ -103,9 +103,9 @@ pub fn answer_block(
                 refused: rows.refused,
             }
         }
-        Lines::FalseTables => refused_block(replies::Answer::FalseTables),
-        Lines::Unfit(i) => refused_block(replies::Answer::Unfit(i)),
-        Lines::NoRule => refused_block(replies::Answer::NoRule),
+        Err(RunError::FalseTables) => refused_block(replies::Answer::FalseTables),
+        Err(RunError::Unfit(i)) => refused_block(replies::Answer::Unfit(i)),
+        Err(RunError::NoRule) => refused_block(replies::Answer::NoRule),
     }
 }
 

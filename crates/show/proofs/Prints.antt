@@ -1,5 +1,5 @@
 -- What was read prints. The tables of a reading that succeeded are good, so the printer gives their text, or 23 where it is longer than the output.
-use Rattle.std.specs.Prelude.{ℕ, Option, Some, None}
+use Rattle.std.specs.Prelude.{ℕ, Option, Some, None, Result, Ok, Err}
 use Prim.Native.Nat.{ℕ, ◌≤◌, ◌<◌}
 use mathlib.Core.Path.{◌≡◌, refl, sym, ap, ◌∙◌}
 use mathlib.Core.Bool.{Bool, true, false}
@@ -19,7 +19,7 @@ use Rattle.table.specs.Names.{rule_named}
 use Rattle.structure.specs.declared.Edition.TheVariants.{First}
 use Rattle.structure.specs.declared.Level.TheVariants.{Tagged}
 use Rattle.build.specs.Rules.{rules_read}
-use Rattle.reader.specs.declared.Reading.{Reading}
+use Rattle.structure.specs.declared.Refusal.{Refusal}
 use Rattle.reader.specs.Read as Read
 use Rattle.reader.proofs.Good.{read_good}
 use Rattle.reader.proofs.Reasons.{first_numbers}
@@ -45,26 +45,26 @@ by_room true k = refl
 by_room false k = refl
 
 module _ (style : Style) (s : List ℕ) where
-  put_by : {x y z : ℕ} (m : ℕ) → Read.read_of First Tagged s 2048 max_rules max_store ≡ Reading.Read x y z → answer_of style s m ≡ Put (printed_text style s) m
+  put_by : {x y z : ℕ} (m : ℕ) → Read.read_of First Tagged s 2048 max_rules max_store ≡ Ok (x, y, z) → answer_of style s m ≡ Put (printed_text style s) m
   unfolding answer_of reading Read.reported printing Printer.reported printed_text
   put_by m e =
       by_read _ Answer.Refused e ∙ rw (read_good First Tagged s 2048 max_rules max_store e (omega arith) (omega arith)) (by_room (leb (length (printed_text style s)) m) (length (printed_text style s)))
 
-  answer_by_lem : (a : Reading) (m : ℕ) → Read.read_of First Tagged s 2048 max_rules max_store ≡ a → {n p : ℕ} → answer_of style s m ≡ Answer.Refused n p → Tellable n
+  answer_by_lem : (a : Result (ℕ × ℕ × ℕ) Refusal) (m : ℕ) → Read.read_of First Tagged s 2048 max_rules max_store ≡ a → {n p : ℕ} → answer_of style s m ≡ Answer.Refused n p → Tellable n
   unfolding answer_of reading Read.reported
-  answer_by_lem (Reading.Read x y z) m e q =
+  answer_by_lem (Ok (x, y, z)) m e q =
       split (leb (length (printed_text style s)) m) _ _ (λ b w. let z : ◌≡◌ {A = ℕ} 0 1 = cc in absurd (omega arith)) (λ b w. inr (cc)) (sym (put_by m e) ∙ q)
-  answer_by_lem (Reading.Refused r) m e {n} q =
+  answer_by_lem (Err r) m e {n} q =
       let w = sym (by_refused _ Answer.Refused e) ∙ q in
       let z : Read.number_of r.why ≡ n = cc in
       let l = first_numbers Tagged s 2048 max_rules max_store r e in
       inl (omega arith, omega arith)
 
-  read_by : (a : Reading) → Read.read_of First Tagged s 2048 max_rules max_store ≡ a → (reading s).number ≡ 0 → (m : ℕ) → answer_of style s m ≡ Put (printed_text style s) m
+  read_by : (a : Result (ℕ × ℕ × ℕ) Refusal) → Read.read_of First Tagged s 2048 max_rules max_store ≡ a → (reading s).number ≡ 0 → (m : ℕ) → answer_of style s m ≡ Put (printed_text style s) m
   unfolding reading Read.reported Read.numbered
-  read_by (Reading.Read x y z) e h m = put_by m e
-  read_by (Reading.Refused r) e h m =
-      let w : Read.number_of r.why ≡ 0 = ap (λ (x : Reading). (Read.numbered x).number) (sym e) ∙ h in
+  read_by (Ok (x, y, z)) e h m = put_by m e
+  read_by (Err r) e h m =
+      let w : Read.number_of r.why ≡ 0 = ap (λ (x : Result (ℕ × ℕ × ℕ) Refusal). (Read.numbered x).number) (sym e) ∙ h in
       let l = first_numbers Tagged s 2048 max_rules max_store r e in
       absurd (omega arith)
 
@@ -99,12 +99,12 @@ module _ (s name : List ℕ) (n r b : ℕ) (h : n ≤ max_nodes) (l : r ≤ max_
   found_none x y z (Some j) e = let z : ◌≡◌ {A = ℕ} 0 1 = cc in omega arith
   found_none x y z None e = let z : ◌≡◌ {A = ℕ} 0 1 = cc in omega arith
 
-  layout_by_lem : (a : Reading) → Read.read_of First Tagged s n r b ≡ a → layout_of s name n r b ≡ Layout.Refused k p → (1 ≤ k) × (k ≤ 13)
+  layout_by_lem : (a : Result (ℕ × ℕ × ℕ) Refusal) → Read.read_of First Tagged s n r b ≡ a → layout_of s name n r b ≡ Layout.Refused k p → (1 ≤ k) × (k ≤ 13)
   unfolding layout_of layout_in found_of Read.reported
-  layout_by_lem (Reading.Read x y z) e q =
+  layout_by_lem (Ok (x, y, z)) e q =
       let us = rules_read Tagged s in
       absurd (found_none _ _ _ (rule_named (records_of us) (rules_stored us) name) (rw (read_good First Tagged s n r b e h l) at (sym (by_read _ Layout.Refused e) ∙ q)))
-  layout_by_lem (Reading.Refused x) e q =
+  layout_by_lem (Err x) e q =
       let w = sym (by_refused _ Layout.Refused e) ∙ q in
       let z : Read.number_of x.why ≡ k = cc in
       let l = first_numbers Tagged s n r b x e in

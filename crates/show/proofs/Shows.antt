@@ -1,5 +1,5 @@
 -- What is shown lies in the output: the printed text as its report says, the refusal's line as it was put.
-use Rattle.std.specs.Prelude.{ℕ, Option, Some, None}
+use Rattle.std.specs.Prelude.{ℕ, Option, Some, None, Result, Ok, Err}
 use Prim.Native.Nat.{ℕ, ◌≤◌}
 use mathlib.Core.Path.{◌≡◌, refl, sym, subst, ◌∙◌}
 use mathlib.Core.Bool.{Bool, true, false}
@@ -10,8 +10,7 @@ use lib.ListN.{length}
 use borrow.Author.Tests.{leb-true}
 use Rattle.text.specs.Booleans.{choose}
 use Rattle.table.specs.Tree.{rules_stored}
-use Rattle.table.specs.declared.TableCheck.{TableCheck}
-use Rattle.table.specs.declared.TableCheck.TheVariants as Table
+use Rattle.table.specs.declared.TableError.{TableError}
 use Rattle.table.specs.Flat.{nodes_of, records_of}
 use Rattle.table.specs.Check.{tables}
 use Rattle.structure.specs.declared.Level.TheVariants.{Tagged}
@@ -52,11 +51,11 @@ text_fits {k = k} e h = subst (λ (y : Shown). Fits y k) e h
 pub line_fits : {x : Shown} {n k : ℕ} → x ≡ Refused n → Fits x k → n ≤ k
 line_fits {k = k} e h = subst (λ (y : Shown). Fits y k) e h
 
-by_tables : (x : TableCheck) (f : Unit {0} → Printer.Numbered) (n : ℕ) → (f tt).used ≤ n → (Printer.report_by x f).used ≤ n
-by_tables Table.Good f n h = h
-by_tables Table.Shape f n h = omega arith
-by_tables (Table.Node i) f n h = omega arith
-by_tables (Table.Rule i) f n h = omega arith
+by_tables : (x : Result (Unit {0}) TableError) (f : Unit {0} → Printer.Numbered) (n : ℕ) → (f tt).used ≤ n → (Printer.report_by x f).used ≤ n
+by_tables (Ok _) f n h = h
+by_tables (Err TableError.Shape) f n h = omega arith
+by_tables (Err (TableError.Node i)) f n h = omega arith
+by_tables (Err (TableError.Rule i)) f n h = omega arith
 
 room_fits : (b : Bool) (k n : ℕ) → (b ≡ true → k ≤ n) → (choose {A = Printer.Numbered} b (λ u. record { number = 0; place = 0; used = k }) (λ u. record { number = 23; place = 0; used = 0 })).used ≤ n
 room_fits true k n h = h refl

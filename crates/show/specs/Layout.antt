@@ -1,5 +1,5 @@
 -- A layout as the program for camera lines takes it: its tables, and the rule of a name.
-use Rattle.std.specs.Prelude.{ℕ, List, eqb, length}
+use Rattle.std.specs.Prelude.{ℕ, List, eqb, length, Result, Ok, Err}
 use Rattle.text.specs.Booleans.{choose}
 use Rattle.table.specs.Tree.{rules_stored}
 use Rattle.table.specs.Flat.{nodes_of, records_of}
@@ -10,7 +10,7 @@ use Rattle.reader.specs.Lines.{line_in}
 use Rattle.build.specs.Rules as Built
 use Rattle.replies.specs.declared.Answer.TheVariants as Answer
 use Rattle.replies.specs.declared.Row.{Row}
-use Rattle.replies.specs.declared.Found.{Found}
+use Rattle.replies.specs.declared.FindError.{FindError}
 use Rattle.replies.specs.Replies.{numbered}
 use Rattle.matcher.specs.Sought.{found_of}
 use Rattle.show.specs.declared.Layout.{Layout}
@@ -20,10 +20,10 @@ unfoldable pub refused_layout : Row → Layout
 refused_layout r = Refused r.number r.place
 
 -- tables of these lengths and the rule's index
-unfoldable pub layout_by : ℕ → ℕ → ℕ → Found → Layout
-layout_by n r b (Found.Rule k) = Tables n r b k
-layout_by n r b Found.FalseTables = refused_layout (numbered Answer.FalseTables)
-layout_by n r b Found.NoRule = NoRule
+unfoldable pub layout_by : ℕ → ℕ → ℕ → Result ℕ FindError → Layout
+layout_by n r b (Ok k) = Tables n r b k
+layout_by n r b (Err FindError.FalseTables) = refused_layout (numbered Answer.FalseTables)
+layout_by n r b (Err FindError.NoRule) = NoRule
 
 -- tables, and the lowest rule of the name
 unfoldable pub layout_in : List ℕ → List ℕ → List ℕ → List ℕ → Layout

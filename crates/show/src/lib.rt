@@ -13,9 +13,8 @@ ghost use Rattle.replies.specs.Replies.{numbered};
 ghost use Rattle.show.specs.Layout.{refused_layout, layout_in, layout_of};
 
 use forms::Style;
-use printer::Printed;
-use reader::Reading;
-use replies::Found;
+use printer::PrintError;
+use replies::FindError;
 use structure::{Edition, Level};
 use table::inner::layout::{NODE_SIZE, RULE_SIZE};
 use text::limits;
@@ -54,21 +53,21 @@ pub enum Layout {
 
 // What the printer answers, as the desk's answer.
 #[tactic(auto, unfolding(printer::specs::Answers::numbered, crate::specs::Desk::printed))]
-fn answer_of(printed: Printed) -> Answer
+fn answer_of(printed: Result<usize, PrintError>) -> Answer
     ensures { result ≡ answered (printNumbered printed) }
 {
     let number = printer::number_of(printed);
     match printed {
-        Printed::Used(n) => Answer::Printed(n),
-        Printed::Node(i) => Answer::Refused {
+        Ok(n) => Answer::Printed(n),
+        Err(PrintError::Node(i)) => Answer::Refused {
             number,
             place: i as u64,
         },
-        Printed::Rule(k) => Answer::Refused {
+        Err(PrintError::Rule(k)) => Answer::Refused {
             number,
             place: k as u64,
         },
-        Printed::Shape | Printed::NoRoom => Answer::Refused { number, place: 0 },
+        Err(PrintError::Shape) | Err(PrintError::NoRoom) => Answer::Refused { number, place: 0 },
     }
 }
 
@@ -89,12 +88,12 @@ fn print_back(style: Style, text: &[u8], out: &mut [u8]) -> Answer
         &mut store,
     );
     match reading {
-        Reading::Read(n, r, b) => {
+        Ok((n, r, b)) => {
             let n = NODE_SIZE * n;
             let r = RULE_SIZE * r;
             answer_of(printer::print(style, &nodes[..n], &rules[..r], &store[..b], out))
         }
-        Reading::Refused(refusal) => {
+        Err(refusal) => {
             let why = refusal.why;
             Answer::Refused {
                 number: reader::number_of(why),
@@ -146,14 +145,14 @@ fn layout_in(nodes: &[u32], rules: &[u32], store: &[u8], name: &[u8]) -> Layout
 {
     let found = matcher::rule_named(nodes, rules, store, name);
     match found {
-        Found::Rule(start) => Layout::Tables {
+        Ok(start) => Layout::Tables {
             nodes: nodes.len(),
             rules: rules.len(),
             store: store.len(),
             start,
         },
-        Found::FalseTables => refused_layout(replies::Answer::FalseTables),
-        Found::NoRule => Layout::NoRule,
+        Err(FindError::FalseTables) => refused_layout(replies::Answer::FalseTables),
+        Err(FindError::NoRule) => Layout::NoRule,
     }
 }
 
@@ -170,12 +169,12 @@ pub fn read_layout(
 {
     let reading = reader::read(text, Edition::First, Level::Tagged, nodes, rules, store);
     match reading {
-        Reading::Read(n, r, b) => {
+        Ok((n, r, b)) => {
             let n = NODE_SIZE * n;
             let r = RULE_SIZE * r;
             layout_in(&nodes[..n], &rules[..r], &store[..b], name)
         }
-        Reading::Refused(refusal) => {
+        Err(refusal) => {
             let why = refusal.why;
             Layout::Refused {
                 number: reader::number_of(why),

@@ -1,5 +1,5 @@
 -- Tables that aren't false: what a good check gives its callers.
-use Rattle.std.specs.Prelude.{ℕ, Option, Some, None}
+use Rattle.std.specs.Prelude.{ℕ, Option, Some, None, Result, Ok, Err}
 use mathlib.Core.Path.{◌≡◌, refl, sym, ap, ◌∙◌}
 use mathlib.Core.Bool.{Bool, true, false}
 use mathlib.Core.List.{List}
@@ -19,8 +19,7 @@ use Rattle.table.proofs.Rules.{length_nodes, length_records, rules_many, nodes_a
 use Rattle.text.specs.Booleans.{choose}
 use Rattle.text.proofs.Booleans.{and_both, and_true, choose_false, choose_true}
 use Rattle.text.specs.Limits.{max_nodes, max_rules, max_store}
-use Rattle.table.specs.declared.TableCheck.{TableCheck}
-use Rattle.table.specs.declared.TableCheck.TheVariants as Table
+use Rattle.table.specs.declared.TableError.{TableError}
 
 -- what a rule that isn't false says
 pub record RuleSound (ns rs st : List ℕ) (k : ℕ) : Type 0 where
@@ -134,47 +133,47 @@ shaped_short ns rs st e =
     leb-true (length st) max_store (and_true (leb (rules_in rs) max_rules) _ c.1).1
 
 module _ (ns rs st : List ℕ) where
-  pub tables_shape : shaped ns rs st ≡ false → tables ns rs st ≡ Table.Shape
+  pub tables_shape : shaped ns rs st ≡ false → tables ns rs st ≡ Err TableError.Shape
   unfolding tables
   tables_shape e = choose_false (shaped ns rs st) _ _ e
 
   module _ (e : shaped ns rs st ≡ true) where
-    past_shape : tables ns rs st ≡ or_else (lowest (good_at ns st) (nodes_in ns)) Table.Node
-        (λ u. or_else (lowest (good_rule ns rs st) (rules_in rs)) Table.Rule (λ u. left_over ns rs))
+    past_shape : tables ns rs st ≡ or_else (lowest (good_at ns st) (nodes_in ns)) (λ i. Err (TableError.Node i))
+        (λ u. or_else (lowest (good_rule ns rs st) (rules_in rs)) (λ i. Err (TableError.Rule i)) (λ u. left_over ns rs))
     unfolding tables
     past_shape = choose_true (shaped ns rs st) _ _ e
 
-    pub tables_node : {i : ℕ} → lowest (good_at ns st) (nodes_in ns) ≡ Some i → tables ns rs st ≡ Table.Node i
+    pub tables_node : {i : ℕ} → lowest (good_at ns st) (nodes_in ns) ≡ Some i → tables ns rs st ≡ Err (TableError.Node i)
     tables_node h = past_shape ∙ rw h
 
     module _ (g : lowest (good_at ns st) (nodes_in ns) ≡ None) where
-      past_nodes : tables ns rs st ≡ or_else (lowest (good_rule ns rs st) (rules_in rs)) Table.Rule (λ u. left_over ns rs)
+      past_nodes : tables ns rs st ≡ or_else (lowest (good_rule ns rs st) (rules_in rs)) (λ i. Err (TableError.Rule i)) (λ u. left_over ns rs)
       past_nodes = past_shape ∙ rw g
 
-      pub tables_rule : {i : ℕ} → lowest (good_rule ns rs st) (rules_in rs) ≡ Some i → tables ns rs st ≡ Table.Rule i
+      pub tables_rule : {i : ℕ} → lowest (good_rule ns rs st) (rules_in rs) ≡ Some i → tables ns rs st ≡ Err (TableError.Rule i)
       tables_rule h = past_nodes ∙ rw h
 
       module _ (h : lowest (good_rule ns rs st) (rules_in rs) ≡ None) where
         past_rules : tables ns rs st ≡ left_over ns rs
         past_rules = past_nodes ∙ rw h
 
-        pub tables_left : (begin_at rs (rules_in rs) ≡ nodes_in ns → ⊥) → tables ns rs st ≡ Table.Rule (rules_in rs)
+        pub tables_left : (begin_at rs (rules_in rs) ≡ nodes_in ns → ⊥) → tables ns rs st ≡ Err (TableError.Rule (rules_in rs))
         tables_left f = past_rules ∙ choose_false (eqb (begin_at rs (rules_in rs)) (nodes_in ns)) _ _ (ne_eqb (begin_at rs (rules_in rs)) (nodes_in ns) f)
 
-        pub tables_good : begin_at rs (rules_in rs) ≡ nodes_in ns → tables ns rs st ≡ Table.Good
+        pub tables_good : begin_at rs (rules_in rs) ≡ nodes_in ns → tables ns rs st ≡ Ok tt
         tables_good f = past_rules ∙ choose_true (eqb (begin_at rs (rules_in rs)) (nodes_in ns)) _ _ (eq-eqb (begin_at rs (rules_in rs)) (nodes_in ns) f)
 
 -- ---- a good check is what makes tables valid
 
-or_else_good : (c : Option ℕ) (f : ℕ → TableCheck) (g : Unit {0} → TableCheck) → ((i : ℕ) → f i ≡ Table.Good → ⊥) → or_else c f g ≡ Table.Good → (c ≡ None) × (g tt ≡ Table.Good)
+or_else_good : (c : Option ℕ) (f : ℕ → Result (Unit {0}) TableError) (g : Unit {0} → Result (Unit {0}) TableError) → ((i : ℕ) → f i ≡ Ok tt → ⊥) → or_else c f g ≡ Ok tt → (c ≡ None) × (g tt ≡ Ok tt)
 or_else_good None f g n e = (refl, e)
 or_else_good (Some i) f g n e = absurd (n i e)
 
-choose_good : (b : Bool) (x y : TableCheck) → (y ≡ Table.Good → ⊥) → choose b (λ u. x) (λ u. y) ≡ Table.Good → (b ≡ true) × (x ≡ Table.Good)
+choose_good : (b : Bool) (x y : Result (Unit {0}) TableError) → (y ≡ Ok tt → ⊥) → choose b (λ u. x) (λ u. y) ≡ Ok tt → (b ≡ true) × (x ≡ Ok tt)
 choose_good true x y n e = (refl, e)
 choose_good false x y n e = absurd (n e)
 
-pub tables_valid : (ns rs st : List ℕ) → tables ns rs st ≡ Table.Good → Valid ns rs st
+pub tables_valid : (ns rs st : List ℕ) → tables ns rs st ≡ Ok tt → Valid ns rs st
 unfolding tables shaped
 tables_valid ns rs st e =
     let s = choose_good (shaped ns rs st) _ _ (λ w. let z : ◌≡◌ {A = ℕ} 0 1 = cc in omega arith) e in
@@ -206,31 +205,31 @@ valid_shaped ns rs st v =
     (and_both _ _ (le-leb (nodes_in ns) max_nodes v.few_nodes)
     (and_both _ _ (le-leb (rules_in rs) max_rules v.few_rules) (le-leb (length st) max_store v.short))))
 
-pub valid_tables : (ns rs st : List ℕ) → Valid ns rs st → tables ns rs st ≡ Table.Good
+pub valid_tables : (ns rs st : List ℕ) → Valid ns rs st → tables ns rs st ≡ Ok tt
 valid_tables ns rs st v =
     tables_good ns rs st (valid_shaped ns rs st v) (lowest_all (good_at ns st) (nodes_in ns) v.nodes.good) (lowest_all (good_rule ns rs st) (rules_in rs) v.rules) v.all
 
 -- the tables of fine rules within the limits pass the check
 pub flat_passes : (line : ℕ → ℕ) (us : List (Rule Span)) → fine_rules us ≡ true → counts us ≤ max_nodes → length us ≤ max_rules → length (rules_stored us) ≤ max_store
-    → tables (nodes_of line us) (records_of us) (rules_stored us) ≡ Table.Good
+    → tables (nodes_of line us) (records_of us) (rules_stored us) ≡ Ok tt
 flat_passes line us f n m s = valid_tables (nodes_of line us) (records_of us) (rules_stored us) (flat_valid line us f n m s)
 
 -- number and place decide the answer
-pub numbered_one : (x y : TableCheck) → numbered x ≡ numbered y → x ≡ y
+pub numbered_one : (x y : Result (Unit {0}) TableError) → numbered x ≡ numbered y → x ≡ y
 unfolding numbered
-numbered_one Table.Good Table.Good e = refl
-numbered_one Table.Good Table.Shape e = cc (ap (λ (n : Numbered). n.number) e)
-numbered_one Table.Good (Table.Node i) e = cc (ap (λ (n : Numbered). n.number) e)
-numbered_one Table.Good (Table.Rule i) e = cc (ap (λ (n : Numbered). n.number) e)
-numbered_one Table.Shape Table.Good e = cc (ap (λ (n : Numbered). n.number) e)
-numbered_one Table.Shape Table.Shape e = refl
-numbered_one Table.Shape (Table.Node i) e = cc (ap (λ (n : Numbered). n.number) e)
-numbered_one Table.Shape (Table.Rule i) e = cc (ap (λ (n : Numbered). n.number) e)
-numbered_one (Table.Node i) Table.Good e = cc (ap (λ (n : Numbered). n.number) e)
-numbered_one (Table.Node i) Table.Shape e = cc (ap (λ (n : Numbered). n.number) e)
-numbered_one (Table.Node i) (Table.Node j) e = ap Table.Node (ap (λ (n : Numbered). n.place) e)
-numbered_one (Table.Node i) (Table.Rule j) e = cc (ap (λ (n : Numbered). n.number) e)
-numbered_one (Table.Rule i) Table.Good e = cc (ap (λ (n : Numbered). n.number) e)
-numbered_one (Table.Rule i) Table.Shape e = cc (ap (λ (n : Numbered). n.number) e)
-numbered_one (Table.Rule i) (Table.Node j) e = cc (ap (λ (n : Numbered). n.number) e)
-numbered_one (Table.Rule i) (Table.Rule j) e = ap Table.Rule (ap (λ (n : Numbered). n.place) e)
+numbered_one (Ok _) (Ok _) e = refl
+numbered_one (Ok _) (Err TableError.Shape) e = cc (ap (λ (n : Numbered). n.number) e)
+numbered_one (Ok _) (Err (TableError.Node i)) e = cc (ap (λ (n : Numbered). n.number) e)
+numbered_one (Ok _) (Err (TableError.Rule i)) e = cc (ap (λ (n : Numbered). n.number) e)
+numbered_one (Err TableError.Shape) (Ok _) e = cc (ap (λ (n : Numbered). n.number) e)
+numbered_one (Err TableError.Shape) (Err TableError.Shape) e = refl
+numbered_one (Err TableError.Shape) (Err (TableError.Node i)) e = cc (ap (λ (n : Numbered). n.number) e)
+numbered_one (Err TableError.Shape) (Err (TableError.Rule i)) e = cc (ap (λ (n : Numbered). n.number) e)
+numbered_one (Err (TableError.Node i)) (Ok _) e = cc (ap (λ (n : Numbered). n.number) e)
+numbered_one (Err (TableError.Node i)) (Err TableError.Shape) e = cc (ap (λ (n : Numbered). n.number) e)
+numbered_one (Err (TableError.Node i)) (Err (TableError.Node j)) e = ap (λ i. Err (TableError.Node i)) (ap (λ (n : Numbered). n.place) e)
+numbered_one (Err (TableError.Node i)) (Err (TableError.Rule j)) e = cc (ap (λ (n : Numbered). n.number) e)
+numbered_one (Err (TableError.Rule i)) (Ok _) e = cc (ap (λ (n : Numbered). n.number) e)
+numbered_one (Err (TableError.Rule i)) (Err TableError.Shape) e = cc (ap (λ (n : Numbered). n.number) e)
+numbered_one (Err (TableError.Rule i)) (Err (TableError.Node j)) e = cc (ap (λ (n : Numbered). n.number) e)
+numbered_one (Err (TableError.Rule i)) (Err (TableError.Rule j)) e = ap (λ i. Err (TableError.Rule i)) (ap (λ (n : Numbered). n.place) e)

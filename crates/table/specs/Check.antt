@@ -1,5 +1,5 @@
 -- What makes a table false: numbers 20, 21 and 22.
-use Rattle.std.specs.Prelude.{ℕ, zero, suc, ◌+◌, ◌*◌, ◌%◌, ◌≤◌, ◌<◌, ◌≡◌, Bool, true, false, List, [], ◌∷◌, leb, ltb, eqb, length, get_or, Option, Some, None}
+use Rattle.std.specs.Prelude.{ℕ, zero, suc, ◌+◌, ◌*◌, ◌%◌, ◌≤◌, ◌<◌, ◌≡◌, Bool, true, false, List, [], ◌∷◌, leb, ltb, eqb, length, get_or, Option, Some, None, Result, Ok, Err}
 use Rattle.text.specs.Booleans.{choose, and}
 use Rattle.text.specs.Utf8.{scalar, first_bad}
 use Rattle.text.specs.Words.{word_of}
@@ -13,8 +13,7 @@ use Rattle.table.specs.declared.Op.{Op}
 use Rattle.table.specs.declared.Op.TheVariants.{Plain, NodeTag}
 use Rattle.table.specs.declared.Node.{Node}
 use Rattle.table.specs.declared.Node.TheVariants.{Tip, One, Two, Unknown}
-use Rattle.table.specs.declared.TableCheck.{TableCheck}
-use Rattle.table.specs.declared.TableCheck.TheVariants as Table
+use Rattle.table.specs.declared.TableError.{TableError}
 use Rattle.table.specs.Tree.{Atom, text, range, peek_slice, Wrap, plain, node_tag, Tree, leaf, one, two, Rule}
 use Rattle.table.specs.Record.{node_size, rule_size, nodes_in, rules_in, node_at, atom_of, wrap_of, first_at, name_offset, name_length, name_at, mark_at, root_at}
 
@@ -126,32 +125,32 @@ unfoldable pub lowest : (ℕ → Bool) → ℕ → Option ℕ
 lowest f zero = None
 lowest f (suc i) = lowest_by (lowest f i) (f i) i
 
-abbrev pub or_else : Option ℕ → (ℕ → TableCheck) → (Unit {0} → TableCheck) → TableCheck
+abbrev pub or_else : Option ℕ → (ℕ → Result (Unit {0}) TableError) → (Unit {0} → Result (Unit {0}) TableError) → Result (Unit {0}) TableError
 or_else (Some i) f g = f i
 or_else None f g = g tt
 
 -- nodes left over are a fault at the number of rules
-abbrev pub left_over : List ℕ → List ℕ → TableCheck
-left_over ns rs = choose (eqb (begin_at rs (rules_in rs)) (nodes_in ns)) (λ u. Table.Good) (λ u. Table.Rule (rules_in rs))
+abbrev pub left_over : List ℕ → List ℕ → Result (Unit {0}) TableError
+left_over ns rs = choose (eqb (begin_at rs (rules_in rs)) (nodes_in ns)) (λ u. Ok tt) (λ u. Err (TableError.Rule (rules_in rs)))
 
 -- the check of whole tables: their shape, then all nodes, then the rules, the lowest index first
-unfoldable pub tables : List ℕ → List ℕ → List ℕ → TableCheck
+unfoldable pub tables : List ℕ → List ℕ → List ℕ → Result (Unit {0}) TableError
 tables ns rs st =
     choose (shaped ns rs st)
-    (λ u. or_else (lowest (good_at ns st) (nodes_in ns)) Table.Node
-    (λ u. or_else (lowest (good_rule ns rs st) (rules_in rs)) Table.Rule (λ u. left_over ns rs)))
-    (λ u. Table.Shape)
+    (λ u. or_else (lowest (good_at ns st) (nodes_in ns)) (λ i. Err (TableError.Node i))
+    (λ u. or_else (lowest (good_rule ns rs st) (rules_in rs)) (λ i. Err (TableError.Rule i)) (λ u. left_over ns rs)))
+    (λ u. Err TableError.Shape)
 
 -- an answer's number and place
 pub record Numbered : Type 0 where
   pub number : ℕ
   pub place : ℕ
 
-unfoldable pub numbered : TableCheck → Numbered
-numbered Table.Good = record { number = 0; place = 0 }
-numbered Table.Shape = record { number = 20; place = 0 }
-numbered (Table.Node i) = record { number = 21; place = i }
-numbered (Table.Rule i) = record { number = 22; place = i }
+unfoldable pub numbered : Result (Unit {0}) TableError → Numbered
+numbered (Ok _) = record { number = 0; place = 0 }
+numbered (Err TableError.Shape) = record { number = 20; place = 0 }
+numbered (Err (TableError.Node i)) = record { number = 21; place = i }
+numbered (Err (TableError.Rule i)) = record { number = 22; place = i }
 
 -- a node's first node, unless the node is false
 unfoldable pub verdict : List ℕ → List ℕ → ℕ → Option ℕ

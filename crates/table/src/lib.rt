@@ -70,11 +70,10 @@ pub enum Node {
     Unknown,
 }
 
-// Tables that are not false; or no whole records, too many, or too long a store; or the lowest false
+// Why tables are false: no whole records, too many, or too long a store; or the lowest false
 // node; or the lowest false rule.
-#[derive(Clone, Copy)]
-pub enum TableCheck {
-    Good,
+#[derive(Clone, Copy, Debug, PartialEq, Eq)]
+pub enum TableError {
     Shape,
     Node(usize),
     Rule(usize),
@@ -91,7 +90,12 @@ pub struct Head {
 
 // The check of tables of good shape, with room for the first node of each.
 #[tactic(auto, using(crate::proofs::Tables::shaped_few, crate::proofs::Tables::shaped_short, crate::proofs::Tables::tables_node, crate::proofs::Tables::tables_rule, crate::proofs::Tables::tables_left, crate::proofs::Tables::tables_good))]
-fn check_by(nodes: &[u32], rules: &[u32], store: &[u8], firsts: &mut [u16]) -> TableCheck
+fn check_by(
+    nodes: &[u32],
+    rules: &[u32],
+    store: &[u8],
+    firsts: &mut [u16],
+) -> Result<(), TableError>
     requires store_value { shaped nodes.now rules.now store.now ≡ true }
     requires nodes_in_bounds { nodes_in nodes.now ≤ length firsts.old }
     ensures { result ≡ tables nodes.now rules.now store.now }
@@ -99,7 +103,7 @@ fn check_by(nodes: &[u32], rules: &[u32], store: &[u8], firsts: &mut [u16]) -> T
     let t = text::inner::classes::classes();
     let texts = inner::texts::Scanned { t: &t, store };
     if let Some(i) = inner::light::lowest_node(&texts, nodes, firsts) {
-        return TableCheck::Node(i);
+        return Err(TableError::Node(i));
     }
     let all = inner::checks::Rules {
         nodes,
@@ -107,17 +111,17 @@ fn check_by(nodes: &[u32], rules: &[u32], store: &[u8], firsts: &mut [u16]) -> T
         firsts,
     };
     if let Some(k) = inner::light::lowest_rule(&texts, &all) {
-        return TableCheck::Rule(k);
+        return Err(TableError::Rule(k));
     }
     let m = rules.len() / inner::layout::RULE_SIZE;
     if inner::checks::begin_at(rules, m) == nodes.len() / inner::layout::NODE_SIZE {
-        return TableCheck::Good;
+        return Ok(());
     }
-    TableCheck::Rule(m)
+    Err(TableError::Rule(m))
 }
 
 // Room for N first nodes: of two sizes, since a local array is cleared at each call.
-fn check_sized<const N: usize>(nodes: &[u32], rules: &[u32], store: &[u8]) -> TableCheck
+fn check_sized<const N: usize>(nodes: &[u32], rules: &[u32], store: &[u8]) -> Result<(), TableError>
     requires store_value { shaped nodes.now rules.now store.now ≡ true }
     requires nodes_bound { nodes_in nodes.now ≤ N }
     requires room { N ≤ max_nodes }
@@ -129,11 +133,11 @@ fn check_sized<const N: usize>(nodes: &[u32], rules: &[u32], store: &[u8]) -> Ta
 
 // The check of whole tables: their shape, then all nodes, then the rules, the lowest index first.
 #[tactic(auto, using(crate::proofs::Tables::shaped_few, crate::proofs::Tables::tables_shape))]
-pub fn check_tables(nodes: &[u32], rules: &[u32], store: &[u8]) -> TableCheck
+pub fn check_tables(nodes: &[u32], rules: &[u32], store: &[u8]) -> Result<(), TableError>
     ensures { result ≡ tables nodes.now rules.now store.now }
 {
     if !inner::checks::is_shaped(nodes, rules, store) {
-        return TableCheck::Shape;
+        return Err(TableError::Shape);
     }
     if nodes.len() / inner::layout::NODE_SIZE <= 256 {
         return check_sized::<256>(nodes, rules, store);

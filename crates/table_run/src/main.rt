@@ -2,7 +2,7 @@
 // rule can be false. It writes each vector with the answer's number and place.
 #![tactic(auto)]
 
-use table::TableCheck;
+use table::TableError;
 use table::inner::layout::{NODE_SIZE, RULE_SIZE};
 
 // The numbers of tables with one node, or one rule, too many.
@@ -37,10 +37,10 @@ fn tell(n: usize, place: usize) {
 fn answer(nodes: &[u32], rules: &[u32], store: &[u8]) {
     let r = table::check_tables(nodes, rules, store);
     match r {
-        TableCheck::Good => tell(0, 0),
-        TableCheck::Shape => tell(20, 0),
-        TableCheck::Node(i) => tell(21, i),
-        TableCheck::Rule(k) => tell(22, k),
+        Ok(()) => tell(0, 0),
+        Err(TableError::Shape) => tell(20, 0),
+        Err(TableError::Node(i)) => tell(21, i),
+        Err(TableError::Rule(k)) => tell(22, k),
     }
 }
 

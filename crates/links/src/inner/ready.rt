@@ -1,18 +1,17 @@
 // What is asked of the tables before any line: 30, 31 and 32. Names are looked up here, once a call.
-ghost use Rattle.std.specs.Prelude.{◌≡◌, true, ◌<◌, length};
+ghost use Rattle.std.specs.Prelude.{◌≡◌, true, ◌<◌, length, Ok};
 ghost use Rattle.table.specs.Characters.{max_nodes};
 ghost use Rattle.table.specs.Record.{nodes_in, rules_in, root_at};
 ghost use Rattle.table.specs.Check.{is_through, lowest, Valid};
 ghost use Rattle.table.specs.Names.{same_text, NamesInside};
-ghost use Rattle.links.specs.declared.Ready.TheVariants.{Yes};
 ghost use Rattle.links.specs.Program.{any_name, fit_at, own_at, link_for, mention_link, known_at, Linked, Rooted, Inside};
 ghost use Rattle.links.specs.Ready.{ready_of};
 
 use super::nodes::{is_fit, mention_of};
-use crate::Ready;
+use replies::RunError;
 use table::inner::layout::{NODE_SIZE, RULE_SIZE, head_at, node_at};
 use table::inner::names::{rule_named, same_text};
-use table::{TableCheck, limits};
+use table::{TableError, limits};
 
 // The lowest node that can't be run.
 fn first_unfit(nodes: &[u32]) -> Option<usize>
@@ -124,22 +123,22 @@ pub fn prepare(
     store: &[u8],
     start: usize,
     links: &mut [u16; limits::NODES],
-) -> Ready
+) -> Result<(), RunError>
     requires { length links.old ≡ max_nodes }
     ensures value { result ≡ ready_of nodes.now rules.now store.now start }
-    ensures linked { result ≡ Yes → Linked nodes.now rules.now store.now links.new }
+    ensures linked { result ≡ Ok tt → Linked nodes.now rules.now store.now links.new }
 {
-    let TableCheck::Good = table::check_tables(nodes, rules, store) else {
-        return Ready::FalseTables;
+    let Ok(()) = table::check_tables(nodes, rules, store) else {
+        return Err(RunError::FalseTables);
     };
     if let Some(i) = first_unfit(nodes) {
-        return Ready::Unfit(i);
+        return Err(RunError::Unfit(i));
     }
     if rules.len() / RULE_SIZE <= start
         || !own_names(rules, store)
         || !link_names(nodes, rules, store, links)
     {
-        return Ready::NoRule;
+        return Err(RunError::NoRule);
     }
-    Ready::Yes
+    Ok(())
 }

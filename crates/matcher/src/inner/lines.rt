@@ -8,7 +8,7 @@ ghost use Rattle.matcher.specs.Lines.{body_size, line_size, row_size, fields, ra
 
 use super::visits::run_line;
 use crate::Line;
-use replies::{Lines, Row, row_of};
+use replies::{Row, RunError, row_of};
 use table::limits;
 
 // The numbers in a line's record.
@@ -55,7 +55,7 @@ pub(crate) fn run_lines(
     allowance: u64,
     text: &[u8],
     records: &mut [u64],
-) -> Lines
+) -> Result<(usize, usize), RunError>
     requires runnable { Runnable nodes.now links.now store.now }
     requires root_bound { root < nodes_in nodes.now }
     ensures value { result ≡ ran_over text.now (length records.old) }
@@ -66,7 +66,7 @@ pub(crate) fn run_lines(
     let mut at = 0;
     for k in 0..m {
         if n <= at {
-            return Lines::Ran(k, at);
+            return Ok((k, at));
         }
         let line = line_at(text, at);
         let end = line.end;
@@ -74,5 +74,5 @@ pub(crate) fn run_lines(
         put_row(row_of(answer), records, k * ROW_SIZE);
         at = line.next;
     }
-    Lines::Ran(m, at)
+    Ok((m, at))
 }

@@ -8,7 +8,7 @@ ghost use Rattle.forms.specs.Printing.{printed, mark_text, printed_rule};
 ghost use Rattle.printer.specs.Answers.{table_text, room_of, print_in};
 
 use super::bounds::table_most;
-use crate::Printed;
+use crate::PrintError;
 use forms::inner::{brackets, leaves, unary};
 use forms::{Over, Place, Style};
 use table::Node;
@@ -244,15 +244,15 @@ fn print_measured(
     rules: &[u32],
     store: &[u8],
     out: &mut [u8],
-) -> Printed
+) -> Result<usize, PrintError>
     requires { Valid nodes.now rules.now store.now }
     ensures value { result ≡ room_of (table_text style nodes.now rules.now store.now) (length out.old) }
     ensures out_after { out.new ≡ print_in style nodes.now rules.now store.now out.old result }
 {
     if measure_rules(style, nodes, rules, store, out.len() + 1) == 0 {
-        return Printed::NoRoom;
+        return Err(PrintError::NoRoom);
     }
-    Printed::Used(print_fitting(style, nodes, rules, store, out))
+    Ok(print_fitting(style, nodes, rules, store, out))
 }
 
 // Writes the text to a stash that has room for it, and copies it from there where it fits: that costs less than to
@@ -264,7 +264,7 @@ fn print_by(
     store: &[u8],
     stash: &mut [u8],
     out: &mut [u8],
-) -> Printed
+) -> Result<usize, PrintError>
     requires valid { Valid nodes.now rules.now store.now }
     requires store_in_bounds { length (table_text style nodes.now rules.now store.now) ≤ length stash.old }
     ensures value { result ≡ room_of (table_text style nodes.now rules.now store.now) (length out.old) }
@@ -272,9 +272,9 @@ fn print_by(
 {
     let n = print_fitting(style, nodes, rules, store, stash);
     if out.len() < n {
-        return Printed::NoRoom;
+        return Err(PrintError::NoRoom);
     }
-    Printed::Used(put(&stash[..n], out, 0))
+    Ok(put(&stash[..n], out, 0))
 }
 
 // A stash of N bytes: of four sizes, since a local array is cleared at each call.
@@ -284,7 +284,7 @@ fn print_stashed<const N: usize>(
     rules: &[u32],
     store: &[u8],
     out: &mut [u8],
-) -> Printed
+) -> Result<usize, PrintError>
     requires valid { Valid nodes.now rules.now store.now }
     requires stash_size { N ≤ 65536 }
     requires store_len_bound { length (table_text style nodes.now rules.now store.now) ≤ N }
@@ -303,7 +303,7 @@ fn print_tight(
     store: &[u8],
     out: &mut [u8],
     most: usize,
-) -> Printed
+) -> Result<usize, PrintError>
     requires valid { Valid nodes.now rules.now store.now }
     requires store_len_bound { length (table_text style nodes.now rules.now store.now) ≤ most }
     ensures value { result ≡ room_of (table_text style nodes.now rules.now store.now) (length out.old) }
@@ -331,14 +331,14 @@ pub fn print_valid(
     rules: &[u32],
     store: &[u8],
     out: &mut [u8],
-) -> Printed
+) -> Result<usize, PrintError>
     requires { Valid nodes.now rules.now store.now }
     ensures value { result ≡ room_of (table_text style nodes.now rules.now store.now) (length out.old) }
     ensures out_after { out.new ≡ print_in style nodes.now rules.now store.now out.old result }
 {
     let most = table_most(nodes, rules);
     if most <= out.len() {
-        return Printed::Used(print_fitting(style, nodes, rules, store, out));
+        return Ok(print_fitting(style, nodes, rules, store, out));
     }
     print_tight(style, nodes, rules, store, out, most)
 }

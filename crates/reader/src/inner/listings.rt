@@ -8,8 +8,7 @@ ghost use Rattle.token.specs.Table.{token_size};
 ghost use Rattle.reader.specs.Read.{room_for_nodes, room_for_rules, attempt_of, listed_of, Leaves, AttemptLeaves};
 
 use super::phases::{list_and_read, refused};
-use crate::Reading;
-use structure::{Edition, Level, Why};
+use structure::{Edition, Level, Refusal, Why};
 use text::limits;
 use token::inner::listing::TOKEN_SIZE;
 
@@ -32,7 +31,7 @@ fn try_listed<const NUMBERS: usize>(
     nodes: &mut [u32],
     rules: &mut [u32],
     store: &mut [u8],
-) -> Option<Reading>
+) -> Option<Result<(usize, usize, usize), Refusal>>
     requires t_value { t.now ≡ classes }
     requires text_len_bound { length text.now ≤ max_text }
     requires numbers_bound { NUMBERS ≤ token_size * max_text }
@@ -55,7 +54,7 @@ pub fn read_listed(
     rules: &mut [u32],
     store: &mut [u8],
     room: usize,
-) -> Reading
+) -> Result<(usize, usize, usize), Refusal>
     requires t_value { t.now ≡ classes }
     requires text_len_bound { length text.now ≤ max_text }
     ensures answer { result ≡ listed_of edition level text.now (room_for_nodes nodes.old) (room_for_rules rules.old) (length store.old) }

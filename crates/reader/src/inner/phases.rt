@@ -6,30 +6,21 @@ ghost use Rattle.token.specs.Table.{room_of, Lent};
 ghost use Rattle.reader.specs.Read.{refused_by, room_for_nodes, room_for_rules, room_by, judged_of, attempt_of, Leaves, AttemptLeaves};
 
 use super::lines::number_lines;
-use crate::Reading;
 use build::inner::rules::consume_rules_with_spans;
 use structure::inner::rules::check_grammar;
 use structure::inner::values::faults;
-use structure::{Edition, Level, Refusal, Why};
+use structure::{Counts, Edition, Level, Refusal, Why};
 use table::inner::layout::{NODE_SIZE, RULE_SIZE};
 use text::limits;
 use token::FillError;
 use token::inner::fill;
 use token::inner::listing::TOKEN_SIZE;
 
-// Counts of nodes, rules and store bytes: those that a text takes, or those that there is room for.
-#[derive(Clone, Copy)]
-struct Sizes {
-    nodes: usize,
-    rules: usize,
-    bytes: usize,
-}
-
 // A refusal as what is read.
-pub fn refused(why: Why, place: usize) -> Reading
+pub fn refused(why: Why, place: usize) -> Result<(usize, usize, usize), Refusal>
     ensures { result ≡ refused_by why place }
 {
-    Reading::Refused(Refusal { why, place })
+    Err(Refusal { why, place })
 }
 
 // How many whole records there may be: the lower of what is lent and a limit.
@@ -41,7 +32,7 @@ fn room_of(numbers: usize, size: usize, limit: usize) -> usize
 }
 
 // The counts of what was read, if there is room for it.
-fn room_for(taken: Sizes, room: Sizes) -> Reading
+fn room_for(taken: Counts, room: Counts) -> Result<(usize, usize, usize), Refusal>
     ensures { result ≡ room_by taken.rules taken.nodes taken.bytes room.nodes room.rules room.bytes }
 {
     if room.rules < taken.rules {
@@ -53,32 +44,25 @@ fn room_for(taken: Sizes, room: Sizes) -> Reading
     if room.bytes < taken.bytes {
         return refused(Why::StoreRoom, 0);
     }
-    Reading::Read(taken.nodes, taken.rules, taken.bytes)
+    Ok((taken.nodes, taken.rules, taken.bytes))
 }
 
 // What a text of tokens gets: structure, then values, then room.
-fn judge(text: &[u8], tokens: &[u32], edition: Edition, level: Level, room: Sizes) -> Reading
+fn judge(
+    text: &[u8],
+    tokens: &[u32],
+    edition: Edition,
+    level: Level,
+    room: Counts,
+) -> Result<(usize, usize, usize), Refusal>
     requires { Lent text.now tokens.now }
     ensures { result ≡ judged_of edition level text.now room.nodes room.rules room.bytes }
 {
-    let counted = check_grammar(text, tokens, level);
-    match counted {
-        Err(refusal) => Reading::Refused(refusal),
-        Ok(counts) => {
-            let fault = faults(text, tokens, edition, level);
-            match fault {
-                None => {
-                    let taken = Sizes {
-                        nodes: counts.nodes,
-                        rules: counts.rules,
-                        bytes: counts.bytes,
-                    };
-                    room_for(taken, room)
-                }
-                Some(refusal) => Reading::Refused(refusal),
-            }
-        }
+    let counts = check_grammar(text, tokens, level)?;
+    if let Some(refusal) = faults(text, tokens, edition, level) {
+        return Err(refusal);
     }
+    room_for(counts, room)
 }
 
 // Judges a text of tokens, and writes its rules if there is nothing to refuse.
@@ -90,18 +74,18 @@ fn judge_and_build(
     nodes: &mut [u32],
     rules: &mut [u32],
     store: &mut [u8],
-) -> Reading
+) -> Result<(usize, usize, usize), Refusal>
     requires { Lent text.now tokens.now }
     ensures answer { result ≡ judged_of edition level text.now (room_for_nodes nodes.old) (room_for_rules rules.old) (length store.old) }
     ensures left { Leaves level text.now result nodes.old rules.old store.old nodes.new rules.new store.new }
 {
-    let room = Sizes {
+    let room = Counts {
         nodes: room_of(nodes.len(), NODE_SIZE, limits::NODES),
         rules: room_of(rules.len(), RULE_SIZE, limits::RULES),
         bytes: store.len(),
     };
     let answer = judge(text, tokens, edition, level, room);
-    if let Reading::Read(used, _, _) = answer {
+    if let Ok((used, _, _)) = answer {
         consume_rules_with_spans(text, tokens, nodes, rules, store, level);
         number_lines(text, nodes, used);
     }
@@ -118,7 +102,7 @@ pub fn list_and_read(
     nodes: &mut [u32],
     rules: &mut [u32],
     store: &mut [u8],
-) -> Option<Reading>
+) -> Option<Result<(usize, usize, usize), Refusal>>
     requires t_value { t.now ≡ classes }
     requires text_len_bound { length text.now ≤ max_text }
     ensures answer { result ≡ attempt_of (room_of tokens.old) edition level text.now (room_for_nodes nodes.old) (room_for_rules rules.old) (length store.old) }

@@ -12,34 +12,34 @@ clauses_value_out_after h = record { value = h.0; out_after = h.1 }
 
 pub overflow_mul-n : goal.overflow_mul-n
 overflow_mul-n c =
-    let h = (fronts _ _ _ _ _ _ _ _ (c.read-reading.ensures.answer, (c.read-reading.ensures.report, (c.read-reading.ensures.nodes, (c.read-reading.ensures.rules, c.read-reading.ensures.store)))) c.in-Read.is).few_nodes in
+    let h = (fronts _ _ _ _ _ _ _ _ (c.read-reading.ensures.answer, (c.read-reading.ensures.report, (c.read-reading.ensures.nodes, (c.read-reading.ensures.rules, c.read-reading.ensures.store)))) c.in-Ok.is).few_nodes in
     omega arith
 
 pub overflow_mul-r : goal.overflow_mul-r
 overflow_mul-r c =
-    let h = (fronts _ _ _ _ _ _ _ _ (c.read-reading.ensures.answer, (c.read-reading.ensures.report, (c.read-reading.ensures.nodes, (c.read-reading.ensures.rules, c.read-reading.ensures.store)))) c.in-Read.is).few_rules in
+    let h = (fronts _ _ _ _ _ _ _ _ (c.read-reading.ensures.answer, (c.read-reading.ensures.report, (c.read-reading.ensures.nodes, (c.read-reading.ensures.rules, c.read-reading.ensures.store)))) c.in-Ok.is).few_rules in
     omega arith
 
 pub slice_bounds-nodes-end : goal.slice_bounds-nodes-end
-slice_bounds-nodes-end c = (fronts _ _ _ _ _ _ _ _ (c.read-reading.ensures.answer, (c.read-reading.ensures.report, (c.read-reading.ensures.nodes, (c.read-reading.ensures.rules, c.read-reading.ensures.store)))) c.in-Read.is).nodes.0
+slice_bounds-nodes-end c = (fronts _ _ _ _ _ _ _ _ (c.read-reading.ensures.answer, (c.read-reading.ensures.report, (c.read-reading.ensures.nodes, (c.read-reading.ensures.rules, c.read-reading.ensures.store)))) c.in-Ok.is).nodes.0
 
 pub slice_bounds-print-end : goal.slice_bounds-print-end
-slice_bounds-print-end c = sym (length-take-le _ _ (fronts _ _ _ _ _ _ _ _ (c.read-reading.ensures.answer, (c.read-reading.ensures.report, (c.read-reading.ensures.nodes, (c.read-reading.ensures.rules, c.read-reading.ensures.store)))) c.in-Read.is).nodes.0)
+slice_bounds-print-end c = sym (length-take-le _ _ (fronts _ _ _ _ _ _ _ _ (c.read-reading.ensures.answer, (c.read-reading.ensures.report, (c.read-reading.ensures.nodes, (c.read-reading.ensures.rules, c.read-reading.ensures.store)))) c.in-Ok.is).nodes.0)
 
 pub slice_bounds-rules-end : goal.slice_bounds-rules-end
-slice_bounds-rules-end c = (fronts _ _ _ _ _ _ _ _ (c.read-reading.ensures.answer, (c.read-reading.ensures.report, (c.read-reading.ensures.nodes, (c.read-reading.ensures.rules, c.read-reading.ensures.store)))) c.in-Read.is).rules.0
+slice_bounds-rules-end c = (fronts _ _ _ _ _ _ _ _ (c.read-reading.ensures.answer, (c.read-reading.ensures.report, (c.read-reading.ensures.nodes, (c.read-reading.ensures.rules, c.read-reading.ensures.store)))) c.in-Ok.is).rules.0
 
-pub slice_bounds-print-end-in-Read : goal.slice_bounds-print-end-in-Read
-slice_bounds-print-end-in-Read c = sym (length-take-le _ _ (fronts _ _ _ _ _ _ _ _ (c.read-reading.ensures.answer, (c.read-reading.ensures.report, (c.read-reading.ensures.nodes, (c.read-reading.ensures.rules, c.read-reading.ensures.store)))) c.in-Read.is).rules.0)
+pub slice_bounds-print-end-in-Ok : goal.slice_bounds-print-end-in-Ok
+slice_bounds-print-end-in-Ok c = sym (length-take-le _ _ (fronts _ _ _ _ _ _ _ _ (c.read-reading.ensures.answer, (c.read-reading.ensures.report, (c.read-reading.ensures.nodes, (c.read-reading.ensures.rules, c.read-reading.ensures.store)))) c.in-Ok.is).rules.0)
 
 pub slice_bounds-store-end : goal.slice_bounds-store-end
-slice_bounds-store-end c = (fronts _ _ _ _ _ _ _ _ (c.read-reading.ensures.answer, (c.read-reading.ensures.report, (c.read-reading.ensures.nodes, (c.read-reading.ensures.rules, c.read-reading.ensures.store)))) c.in-Read.is).store.0
+slice_bounds-store-end c = (fronts _ _ _ _ _ _ _ _ (c.read-reading.ensures.answer, (c.read-reading.ensures.report, (c.read-reading.ensures.nodes, (c.read-reading.ensures.rules, c.read-reading.ensures.store)))) c.in-Ok.is).store.0
 
-pub slice_bounds-print-end-in-Read-2 : goal.slice_bounds-print-end-in-Read-2
-slice_bounds-print-end-in-Read-2 c = sym (length-take-le _ _ (fronts _ _ _ _ _ _ _ _ (c.read-reading.ensures.answer, (c.read-reading.ensures.report, (c.read-reading.ensures.nodes, (c.read-reading.ensures.rules, c.read-reading.ensures.store)))) c.in-Read.is).store.0)
+pub slice_bounds-print-end-in-Ok-2 : goal.slice_bounds-print-end-in-Ok-2
+slice_bounds-print-end-in-Ok-2 c = sym (length-take-le _ _ (fronts _ _ _ _ _ _ _ _ (c.read-reading.ensures.answer, (c.read-reading.ensures.report, (c.read-reading.ensures.nodes, (c.read-reading.ensures.rules, c.read-reading.ensures.store)))) c.in-Ok.is).store.0)
 
-pub returns-in-Read : goal.returns-in-Read
-returns-in-Read c = clauses_value_out_after (print_answers _ _ _ _ _ _ _ _ (c.read-reading.ensures.answer, (c.read-reading.ensures.report, (c.read-reading.ensures.nodes, (c.read-reading.ensures.rules, c.read-reading.ensures.store)))) (zeros _) (zeros _) (zeros _) _ _ c.in-Read.is (c.print.ensures.value, (c.print.ensures.result_value, c.print.ensures.out_after)) c.answer_of.ensures)
+pub returns-in-Ok : goal.returns-in-Ok
+returns-in-Ok c = clauses_value_out_after (print_answers _ _ _ _ _ _ _ _ (c.read-reading.ensures.answer, (c.read-reading.ensures.report, (c.read-reading.ensures.nodes, (c.read-reading.ensures.rules, c.read-reading.ensures.store)))) (zeros _) (zeros _) (zeros _) _ _ c.in-Ok.is (c.print.ensures.value, (c.print.ensures.result_value, c.print.ensures.out_after)) c.answer_of.ensures)
 
-pub returns-in-Refused : goal.returns-in-Refused
-returns-in-Refused c = clauses_value_out_after (read_refused _ _ _ _ _ _ _ _ (c.read-reading.ensures.answer, (c.read-reading.ensures.report, (c.read-reading.ensures.nodes, (c.read-reading.ensures.rules, c.read-reading.ensures.store)))) (zeros _) (zeros _) (zeros _) _ _ c.in-Refused.is c.number_of.ensures)
+pub returns-in-Err : goal.returns-in-Err
+returns-in-Err c = clauses_value_out_after (read_refused _ _ _ _ _ _ _ _ (c.read-reading.ensures.answer, (c.read-reading.ensures.report, (c.read-reading.ensures.nodes, (c.read-reading.ensures.rules, c.read-reading.ensures.store)))) (zeros _) (zeros _) (zeros _) _ _ c.in-Err.is c.number_of.ensures)
