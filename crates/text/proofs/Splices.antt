@@ -1,14 +1,13 @@
 -- Laws of stores in a row, and of the room that is left.
 use Prim.Native.Nat.{ℕ, suc, ◌+◌, ◌-◌, ◌≤◌, ◌<◌}
 use mathlib.Core.Path.{◌≡◌, refl, sym, ap, ◌∙◌}
-use mathlib.Core.List.{List, [], ◌∷◌, ◌++◌, append_assoc}
+use mathlib.Core.List.{List, [], ◌∷◌, ◌++◌}
 use mathlib.Core.Logic.{⊎_elim}
 use native.Mathlib.Nat.{add-zero, add-suc, suc-add, zero-add}
 use native.Mathlib.Omega.{arith}
 use native.Mathlib.Numerals.{add-one}
-use lib.ListN.{length, set, length-append}
-use lib.Seq.{sets, sets-eq, length-sets, drop-drop}
-use borrow.Rule.Slice.PartMut.{put_mid}
+use lib.ListN.{length, take, set, get_or, length-append}
+use lib.Seq.{sets, sets-eq, length-sets, take-suc, length-take-le}
 use Rattle.text.specs.Splice.{Room, Wrote, spent, fronted}
 use Rattle.text.proofs.Tests.{lt_or_ge}
 
@@ -16,6 +15,11 @@ use Rattle.text.proofs.Tests.{lt_or_ge}
 pub sets_append : (o : List ℕ) (at : ℕ) (x y : List ℕ) → sets o at (x ++ y) ≡ sets (sets o at x) (at + length x) y
 sets_append o at [] y = rw add-zero
 sets_append o at (a ∷ x) y = sets_append (set o at a) (suc at) x y ∙ rw (suc-add, add-suc)
+
+sets_more : (o : List ℕ) (at : ℕ) (s : List ℕ) (j : ℕ) → j < length s → set (sets o at (take j s)) (at + j) (get_or s j 0) ≡ sets o at (take (j + 1) s)
+sets_more o at s j h =
+    let l : length (take j s) ≡ j = length-take-le j s (omega arith) in
+    rw (add-one, take-suc s j 0 h, sets_append o at (take j s) (get_or s j 0 ∷ []), l)
 
 -- stores from the front on
 pub sets_front : (o x : List ℕ) → length x ≤ length o → sets o 0 x ≡ fronted x o
@@ -37,11 +41,12 @@ wrote_then {o} {x} {o₁} {y} {o₂} {at} {a₁} {a₂} w v = record {
 pub wrote_length : {o x o₁ : List ℕ} {at a₁ : ℕ} → Wrote o at x o₁ a₁ → length o₁ ≡ length o
 wrote_length {o} {x} {o₁} {at} w = ap length w.now ∙ length-sets o at x
 
--- a copy into the part of a buffer that has its length
-pub wrote_copied : {o : List ℕ} {at : ℕ} (x y : List ℕ) (k : ℕ) → k ≡ length x → y ≡ x → Room o at x → Wrote o at x (put_mid at k o y) (at + length x)
-wrote_copied {o} {at} x y k e f r = record {
-  now = rw (e, f, drop-drop) (simp append_assoc at (sym (sets-eq x o at r.fits)));
-  next = refl;
+-- a turn of a loop that stores the next element
+pub wrote_more : {o o₁ : List ℕ} {at : ℕ} (s : List ℕ) (j : ℕ) → j < length s → Wrote o at (take j s) o₁ (at + j)
+    → Wrote o at (take (j + 1) s) (set o₁ (at + j) (get_or s j 0)) (at + (j + 1))
+wrote_more {o} {o₁} {at} s j h w = record {
+  now = rw w.now (sets_more o at s j h);
+  next = omega (arith, length-take-le (j + 1) s (omega arith));
 }
 
 -- stores from the front on, as a contract has them
