@@ -33,7 +33,7 @@ starts f [] ys = true
 starts f (x ∷ xs) [] = false
 starts f (x ∷ xs) (y ∷ ys) = and (alike f x y) (starts f xs ys)
 
--- one for which a test passes
+-- one character for which a test passes
 unfoldable pub one : (ℕ → Bool) → Option (ℕ × ℕ) → ℕ → ℕ → Outcome
 one f (Some (c, n)) at k = took (f c) (at + n) k
 one f None at k = Missed k

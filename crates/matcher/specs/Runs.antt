@@ -21,7 +21,7 @@ abbrev pub tested : Bool → ℕ → Verdict
 tested true e = up_to e
 tested false e = none
 
--- one for which a test passes
+-- one character for which a test passes
 abbrev pub tested_one : (ℕ → Bool) → Option (ℕ × ℕ) → ℕ → Verdict
 tested_one f (Some (c, n)) at = tested (f c) (at + n)
 tested_one f None at = none

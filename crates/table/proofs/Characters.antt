@@ -37,7 +37,7 @@ later_good : (k : ℕ) (r : Option ℕ) → later k r ≡ None → r ≡ None
 later_good k None e = refl
 later_good k (Some i) e = let z : ◌≡◌ {A = ℕ} 0 1 = cc in absurd (omega arith)
 
--- a and what stands behind it
+-- a character and what stands behind it
 step : (s : List ℕ) (c n : ℕ) → char_of s ≡ Some (c, n) → first_bad s ≡ later n (first_bad (drop n s))
 unfolding first_bad
 step s c n e =

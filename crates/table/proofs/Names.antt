@@ -7,9 +7,12 @@ use Prim.Native.Nat.{ℕ, ◌+◌, ◌-◌, ◌≤◌, ◌<◌}
 use native.Mathlib.Omega.{arith}
 use lib.Dec.{eqb}
 use lib.ListN.{length, take, drop}
-use borrow.Author.Tests.{eq-eqb, ne_eqb, eqb-true}
+use Rattle.std.proofs.lemmas.List.{take_all}
+use borrow.Author.Tests.{eq-eqb, ne_eqb, eqb-true, eqb-false}
+use Rattle.std.specs.Cmp.Lexicographic.{pointwise, unequal}
 use Rattle.text.specs.Words.{begins}
 use Rattle.text.proofs.Booleans.{and_true, not_false}
+use Rattle.text.proofs.Runs.{begins_listed}
 use Rattle.table.specs.declared.Head.{Head}
 use Rattle.table.specs.Record.{rules_in, name_at, part, head_at}
 use Rattle.table.specs.Check.{lowest, Valid}
@@ -28,6 +31,17 @@ module _ (xs ys : List ℕ) where
   pub same_length : length xs ≡ length ys → {b : Bool} → b ≡ begins xs (drop 0 ys) → b ≡ same_text xs ys
   unfolding same_text
   same_length h e = e ∙ rw (eq-eqb (length xs) (length ys) h)
+
+-- the library's `==` says the same of two lists
+same_by : (xs ys : List ℕ) (t : Bool) → eqb (length xs) (length ys) ≡ t → pointwise eqb xs ys ≡ same_text xs ys
+same_by xs ys true e =
+    let h : length xs ≡ length ys = eqb-true _ _ e in
+    let w : take (length xs) ys ≡ ys = take_all (length xs) ys (omega arith) in
+    same_length xs ys h (ap (pointwise eqb xs) (sym w) ∙ begins_listed xs ys)
+same_by xs ys false e = unequal eqb xs ys (eqb-false _ _ e) ∙ other_length xs ys (eqb-false _ _ e)
+
+pub same_listed : (xs ys : List ℕ) → pointwise eqb xs ys ≡ same_text xs ys
+same_listed xs ys = same_by xs ys _ refl
 
 begins_all : (xs ys : List ℕ) → length xs ≡ length ys → begins xs ys ≡ true → xs ≡ ys
 unfolding begins

@@ -55,7 +55,7 @@ pub(crate) fn text_at(
     Outcome::Missed(left)
 }
 
-// A between two.
+// A character between two.
 pub(crate) fn range_at(first: u32, last: u32, line: &[u8], at: usize, left: u64) -> Outcome
     ensures { result ≡ one (within first last) (char_of (drop at line.now)) at left }
 {

@@ -12,7 +12,7 @@ pub fn first_bad(line: &[u8]) -> Option<usize>
     }
 }
 
-// The at a place. Below 128 it is its byte.
+// The character at a place. Below 128 it is its byte.
 #[tactic(auto, using(crate::proofs::Characters::ascii_at))]
 pub fn char_at(line: &[u8], at: usize) -> Option<(u32, usize)>
     ensures { result ≡ char_of (drop at line.now) }

@@ -3,13 +3,12 @@ ghost use Rattle.std.specs.Prelude.{◌≡◌};
 ghost use Rattle.table.specs.Names.{same_text, rule_named, NamesInside};
 
 use super::layout::{RULE_SIZE, head_at};
-use text::inner::words::begins_at;
 
-#[tactic(auto, using(crate::proofs::Names::other_length, crate::proofs::Names::same_length))]
+#[tactic(auto, using(crate::proofs::Names::same_listed))]
 pub fn same_text(a: &[u8], b: &[u8]) -> bool
     ensures { result ≡ same_text a.now b.now }
 {
-    a.len() == b.len() && begins_at(a, b, 0)
+    a == b
 }
 
 // The lowest rule of a name.
