@@ -75,7 +75,10 @@ pub(crate) fn run(t: &[u8; 256], room: usize, from: Stand, packet: &[u8]) -> Res
 {
     let mut c = from;
     for x in packet {
-        c = step(t, room, c, *x)?.stand;
+        match step(t, room, c, *x) {
+            Ok(moved) => c = moved.stand,
+            Err(stop) => return Err(stop),
+        }
     }
     Ok(c)
 }

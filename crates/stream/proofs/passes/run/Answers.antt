@@ -1,7 +1,6 @@
 use mathlib.Core.Path.{sym, ◌∙◌, ap, refl}
 use Rattle.stream.specs.Shapes.{ran_by}
 use Rattle.stream.proofs.Writes.{run_stops, run_moves, ran_end, step_sound}
-use Rattle.std.proofs.lemmas.Result.{err_from_is_err_and}
 use Rattle.stream.proofs.passes.run.Goals as goal
 
 pub loop-x-init : goal.loop-x-init
@@ -13,14 +12,12 @@ step-requires c = record {
   coherent = c.loop-x.invariant.0;
 }
 
-pub returns-in_err-c : goal.returns-in_err-c
-returns-in_err-c c =
-    let p = err_from_is_err_and c.from_residual.result c.from_residual.ensures.1 in
-    rw (p.1, p.2) (run_stops c.args.room c.loop-x.c c.args.packet.now c.loop-x.x-index c.loop-x-test.true _ c.in_err-c.ensures ∙ c.loop-x.invariant.1)
+pub returns-in-Err : goal.returns-in-Err
+returns-in-Err c = run_stops c.args.room c.loop-x.c c.args.packet.now c.loop-x.x-index c.loop-x-test.true _ (rw c.in-Err.is at c.step.ensures) ∙ c.loop-x.invariant.1
 
 pub loop-x-preserved : goal.loop-x-preserved
 loop-x-preserved c =
-    let e = rw c.in_ok-c.was at c.step.ensures in
+    let e = rw c.in-Ok.is at c.step.ensures in
     (step_sound c.args.room c.loop-x.c _ _ _ c.loop-x.invariant.0 e, run_moves c.args.room c.loop-x.c c.args.packet.now c.loop-x.x-index c.loop-x-test.true _ _ e ∙ c.loop-x.invariant.1)
 
 pub returns : goal.returns
