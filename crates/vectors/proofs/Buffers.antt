@@ -96,8 +96,25 @@ appended_is o from n x y h e f =
 
 -- ---- repeat
 
+put_nothing : (o : List ℕ) (k : ℕ) (xs : List ℕ) → length xs ≡ 0 → put o k xs ≡ filled k o
+unfolding put
+put_nothing o k [] e = refl
+put_nothing o k (x ∷ xs) e = absurd (omega arith)
+
+-- a piece that isn't put changes nothing, however often
+times_stays : (n : ℕ) (x o : List ℕ) (k : ℕ) → k ≤ length o → put o k x ≡ filled k o → times n x (filled k o) ≡ filled k o
+unfolding times appended
+times_stays zero x o k h e = refl
+times_stays (suc n) x o k h e =
+    let q : appended o k x ≡ filled k o = rw (le-ltb (length o) k h) e in
+    ap (times n x) q ∙ times_stays n x o k h e
+
 abbrev pub RepeatInv : ℕ → List ℕ → List ℕ → ℕ → List ℕ → ℕ → ℕ → Type 0
 RepeatInv n x o₀ from o k i = repeated n x o₀ from ≡ times (n - i) x (filled k o)
+
+-- within a turn what is left of it is the piece from a byte on
+abbrev pub FewInv : ℕ → List ℕ → List ℕ → ℕ → List ℕ → ℕ → ℕ → ℕ → Type 0
+FewInv n x o₀ from o k i j = repeated n x o₀ from ≡ times (n - (i + 1)) x (put o k (drop j x))
 
 pub repeat_past : (n : ℕ) (x o : List ℕ) (from : ℕ) → length o < from → filled 0 o ≡ repeated n x o from
 unfolding repeated
@@ -119,6 +136,31 @@ module _ (n : ℕ) (x o₀ : List ℕ) (from : ℕ) (o : List ℕ) (k i : ℕ) (
   pub repeat_done : n ≤ i → filled k o ≡ repeated n x o₀ from
   unfolding times
   repeat_done h = let z : n - i ≡ 0 = omega arith in sym (v ∙ ap (λ (m : ℕ). times m x (filled k o)) z)
+
+  pub repeat_full : k ≤ length o → length o ≤ k → filled k o ≡ repeated n x o₀ from
+  repeat_full h l = sym (v ∙ times_stays (n - i) x o k h (put_full o k x l))
+
+  pub few_start : i < n → k ≤ length o → FewInv n x o₀ from o k i 0
+  unfolding times appended
+  few_start h l =
+      let z : n - i ≡ suc (n - (i + 1)) = omega arith in
+      let q : appended o k x ≡ put o k x = rw (le-ltb (length o) k l) in
+      v ∙ ap (λ (m : ℕ). times m x (filled k o)) z ∙ ap (times (n - (i + 1)) x) q
+
+pub repeat_nothing : (n : ℕ) (x o : List ℕ) (from : ℕ) → from ≤ length o → length x ≡ 0 → filled from o ≡ repeated n x o from
+unfolding repeated
+repeat_nothing n x o from h e = rw (le-ltb (length o) from h) (sym (times_stays n x o from h (put_nothing o from x e)))
+
+module _ (n : ℕ) (x o₀ : List ℕ) (from : ℕ) (o : List ℕ) (k i j : ℕ) (v : FewInv n x o₀ from o k i j) where
+  pub few_more : j < length x → k < length o → FewInv n x o₀ from (set o k (get_or x j 0)) (k + 1) i (j + 1)
+  few_more h l = v ∙ ap (λ (xs : List ℕ). times (n - (i + 1)) x (put o k xs)) (step x j h) ∙ ap (times (n - (i + 1)) x) (put_on o k _ _ l)
+
+  pub few_full : k ≤ length o → length o ≤ k → filled k o ≡ repeated n x o₀ from
+  few_full h l = sym (v ∙ ap (times (n - (i + 1)) x) (put_full o k _ l) ∙ times_stays (n - (i + 1)) x o k h (put_full o k x l))
+
+  pub few_end : length x ≤ j → RepeatInv n x o₀ from o k (i + 1)
+  unfolding put
+  few_end h = v ∙ ap (λ (xs : List ℕ). times (n - (i + 1)) x (put o k xs)) (end x j h)
 
 -- ---- numbers
 

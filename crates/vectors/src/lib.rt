@@ -134,7 +134,27 @@ fn append(piece: &[u8], out: &mut [u8], from: usize) -> usize
     from + n
 }
 
-// A piece so many times, behind what a buffer has.
+// A piece of a few bytes so many times: for such a one the library's copy takes twice as long.
+fn repeat_few(piece: &[u8], times: usize, out: &mut [u8], from: usize) -> usize
+    requires { from ≤ length out.old }
+    ensures counts { IsPrefixLen result out.new }
+    ensures left { filled result out.new ≡ repeated times piece.now out.old from }
+{
+    let mut k = from;
+    for _turn in 0..times {
+        for b in piece {
+            if out.len() <= k {
+                return k;
+            }
+            out[k] = *b;
+            k += 1;
+        }
+    }
+    k
+}
+
+// A piece so many times, behind what a buffer has. Where nothing is put, or there is no room left, the turns to come
+// change nothing.
 pub fn repeat(piece: &[u8], times: usize, out: &mut [u8], from: usize) -> usize
     ensures counts { IsPrefixLen result out.new }
     ensures left { filled result out.new ≡ repeated times piece.now out.old from }
@@ -142,8 +162,17 @@ pub fn repeat(piece: &[u8], times: usize, out: &mut [u8], from: usize) -> usize
     if out.len() < from {
         return 0;
     }
+    if piece.is_empty() {
+        return from;
+    }
+    if piece.len() < 4 {
+        return repeat_few(piece, times, out, from);
+    }
     let mut k = from;
     for _turn in 0..times {
+        if out.len() <= k {
+            return k;
+        }
         k = append(piece, out, k);
     }
     k
@@ -191,7 +220,13 @@ pub fn parts(s: &[u8], out: &mut [u8]) -> usize
 fn alone<T: PartialEq>(s: &[T], from: usize, v: &T) -> usize
     ensures { result ≡ count_by (λ x. T.eq x v.now) (drop from s.now) }
 {
-    s.iter().skip(from).filter(|x| *x == v).count()
+    let mut n = 0;
+    for x in &s[from.min(s.len())..] {
+        if x == v {
+            n += 1;
+        }
+    }
+    n
 }
 
 // How many numbers stand at 2,863,311,530 from a place on.
