@@ -134,7 +134,7 @@ fn append(piece: &[u8], out: &mut [u8], from: usize) -> usize
     from + n
 }
 
-// A piece of a few bytes so many times: for such a one the library's copy takes twice as long.
+// A piece of a few bytes so many times: of one byte or two the library's copy took about twice as long.
 fn repeat_few(piece: &[u8], times: usize, out: &mut [u8], from: usize) -> usize
     requires { from ≤ length out.old }
     ensures counts { IsPrefixLen result out.new }
