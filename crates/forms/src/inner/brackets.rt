@@ -109,11 +109,14 @@ fn bracketed(on: bool) -> Over
     Over::Before(Place::Prefixed, on, on)
 }
 
+// Each predicate has an arm of its own: with one for both, the compiled walk that writes took stack for each in a chain
+// of them.
 fn unary_over(style: Style, place: Place, unary: Unary) -> Over
     ensures { result ≡ unary_over style place unary }
 {
     match unary {
-        Unary::PosPred | Unary::NegPred => bracketed(prefix_brackets(style, place)),
+        Unary::PosPred => bracketed(prefix_brackets(style, place)),
+        Unary::NegPred => bracketed(prefix_brackets(style, place)),
         Unary::Push => Over::Before(Place::Alone, false, true),
         _ => Over::Behind(unary),
     }
